@@ -1,0 +1,4 @@
+pub mod Totals
+pub mod NormalForms
+pub mod Products
+pub mod FromWords

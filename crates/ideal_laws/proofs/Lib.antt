@@ -1,0 +1,15 @@
+pub mod Vectors
+pub mod Closed
+pub mod Products
+pub mod Leads
+pub mod Search
+pub mod Factors
+pub mod OneBasis
+pub mod Neighbours
+pub mod Dimensions
+pub mod Represented
+pub mod Meeting
+pub mod Shifted
+pub mod Differ
+pub mod Suffice
+pub mod OverlapSpan

@@ -1,0 +1,21 @@
+-- What an engine answers for a degree.
+use Rattle.std.specs.Prelude.{ℕ, ◌<◌, ◌≤◌, List, [], ◌∷◌, cond, ◌==◌}
+use Rattle.words.specs.Words.{degree_of}
+use Rattle.free_poly.specs.declared.term.Term.{Term}
+use Rattle.ideal_laws.specs.Basis.{IsReducedBasis}
+
+-- a basis as callers see it: the weights of its letters, how many degrees are done, and the elements by degree
+pub record Elements : Type 0 where
+  pub weights : List ℕ
+  pub done : ℕ
+  pub elements : List (List Term)
+
+-- the elements of one degree
+abbrev pub of_degree : List ℕ → ℕ → List (List Term) → List (List Term)
+of_degree weights d [] = []
+of_degree weights d ([] ∷ fs) = of_degree weights d fs
+of_degree weights d ((t ∷ ts) ∷ fs) = cond (degree_of weights t.word == d) ((t ∷ ts) ∷ of_degree weights d fs) (of_degree weights d fs)
+
+-- the elements are the reduced basis of each degree that is done
+abbrev pub IsReducedUpto : ℕ → List (List Term) → Elements → Type 0
+IsReducedUpto p relations basis = (d : ℕ) → 0 < d → d ≤ basis.done → IsReducedBasis p basis.weights relations d (of_degree basis.weights d basis.elements)

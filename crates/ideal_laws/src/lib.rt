@@ -1,0 +1,14 @@
+//! Ideals of relations, their leading words, reduced bases and dimensions.
+#![tactic(auto)]
+
+mod account;
+mod basis;
+mod engine;
+mod laws;
+mod presentation;
+
+pub use account::{Account, Answer, Call};
+pub use basis::Basis;
+pub use engine::{DegreeEngine, DegreeReport, EngineFault, LimitKind, advance};
+pub use laws::{basis_laws, overlaps_law};
+pub use presentation::Presentation;

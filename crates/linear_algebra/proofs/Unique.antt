@@ -1,0 +1,74 @@
+-- Two reduced bases of one span have the same leading columns and the same rows.
+use Rattle.std.proofs.Common.{ap₂, ◌≡◌, List, [], ◌∷◌, refl, sym, ap, ◌∙◌, true≢false}
+use Rattle.linear_algebra.specs.Fields.{Field}
+use Rattle.linear_algebra.specs.Spans.{Vector, sum_of}
+use Rattle.linear_algebra.specs.Echelon.{AreZeroAt, IsZeroAtLeads, IsReduced, done, skip, lead, from_leads, AreSameAt}
+use Rattle.linear_algebra.proofs.Algebra.{zero_add, mul_zero}
+use Rattle.linear_algebra.proofs.Elimination.{leads-zero}
+
+module _ (K : Field) (X : Type 0) where
+  abbrev V : Type 0
+  V = Vector K X
+
+  -- the same rows, at these columns
+  abbrev pub AreSameRows : List X → List (X × V) → List (X × V) → Type 0
+  AreSameRows xs [] [] = Unit {0}
+  AreSameRows xs [] (f ∷ fs) = ⊥
+  AreSameRows xs (e ∷ es) [] = ⊥
+  AreSameRows xs (e ∷ es) (f ∷ fs) = (e.0 ≡ f.0) × AreSameAt K X xs e.1 f.1 × AreSameRows xs es fs
+
+  -- each row of fs is had from those of es by its entries at their leading columns
+  abbrev pub AreHadFrom : List X → List (X × V) → List (X × V) → Type 0
+  AreHadFrom xs es [] = Unit {0}
+  AreHadFrom xs es (f ∷ fs) = AreSameAt K X xs f.1 (sum_of K X (from_leads K X es f.1)) × AreHadFrom xs es fs
+
+  one_is_not_zero : K.one ≡ K.zero → ⊥
+  one_is_not_zero e = true≢false (sym K.zero_test ∙ ap K.is_zero (sym e) ∙ K.one_other)
+
+  had_tail : (x : X) (xs : List X) (es fs : List (X × V)) → AreHadFrom (x ∷ xs) es fs → AreHadFrom xs es fs
+  had_tail x xs es [] h = tt
+  had_tail x xs es (f ∷ fs) h = (h.0.1, had_tail x xs es fs h.1)
+
+  AreSameAt-trans : (xs : List X) (u v w : V) → AreSameAt K X xs u v → ((y : X) → v y ≡ w y) → AreSameAt K X xs u w
+  AreSameAt-trans [] u v w s e = tt
+  AreSameAt-trans (x ∷ xs) u v w s e = (s.0 ∙ e x, AreSameAt-trans xs u v w s.1 e)
+
+  -- rows that are 0 at the first leading column are had from the others
+  had_below : (x : X) (xs : List X) (e : X × V) (es fs : List (X × V)) → e.0 ≡ x → AreZeroAt K X x fs → AreHadFrom (x ∷ xs) (e ∷ es) fs → AreHadFrom xs es fs
+  had_below x xs e es [] is z h = tt
+  had_below x xs e es (f ∷ fs) is z h = (
+    AreSameAt-trans xs f.1 _ _ h.0.1 (λ y. ap (λ (n : K.F). K.add (K.mul n (e.1 y)) (sum_of K X (from_leads K X es f.1) y)) (ap f.1 is ∙ z.0)
+        ∙ ap (λ (n : K.F). K.add n (sum_of K X (from_leads K X es f.1) y)) (K.mul_comm K.zero (e.1 y) ∙ mul_zero K (e.1 y)) ∙ zero_add K _),
+    had_below x xs e es fs is z.1 h.1,
+  )
+
+  -- v is 0 at the leading columns of the one, so at those of the other
+  zero_at_same : (xs : List X) (es fs : List (X × V)) (v : V) → AreSameRows xs es fs → IsZeroAtLeads K X v es → IsZeroAtLeads K X v fs
+  zero_at_same xs [] [] v s z = tt
+  zero_at_same xs [] (f ∷ fs) v s z = absurd s
+  zero_at_same xs (e ∷ es) [] v s z = absurd s
+  zero_at_same xs (e ∷ es) (f ∷ fs) v s z = (ap v (sym s.0) ∙ z.0, zero_at_same xs es fs v s.2 z.1)
+
+  nothing_from_zeros : (fs : List (X × V)) (v : V) (y : X) → IsZeroAtLeads K X v fs → sum_of K X (from_leads K X fs v) y ≡ K.zero
+  nothing_from_zeros [] v y z = refl
+  nothing_from_zeros (f ∷ fs) v y z =
+      ap (λ (n : K.F). K.add (K.mul n (f.1 y)) (sum_of K X (from_leads K X fs v) y)) z.0
+      ∙ ap (λ (n : K.F). K.add n (sum_of K X (from_leads K X fs v) y)) (K.mul_comm K.zero (f.1 y) ∙ mul_zero K (f.1 y)) ∙ zero_add K _ ∙ nothing_from_zeros fs v y z.1
+
+  same_more : (x : X) (xs : List X) (es fs : List (X × V)) → AreZeroAt K X x es → AreZeroAt K X x fs → AreSameRows xs es fs → AreSameRows (x ∷ xs) es fs
+  same_more x xs [] [] z w s = tt
+  same_more x xs [] (f ∷ fs) z w s = absurd s
+  same_more x xs (e ∷ es) [] z w s = absurd s
+  same_more x xs (e ∷ es) (f ∷ fs) z w s = (s.0, (z.0 ∙ sym w.0, s.1), same_more x xs es fs z.1 w.1 s.2)
+
+  pub one_basis : (xs : List X) (es fs : List (X × V)) → IsReduced K X xs es → IsReduced K X xs fs → AreHadFrom xs es fs → AreHadFrom xs fs es → AreSameRows xs es fs
+  one_basis [] es fs done done h g = tt
+  one_basis xs es fs (skip x ys es' z r) (skip x' ys' fs' w q) h g = same_more x ys es fs z w (one_basis ys es fs r q (had_tail x ys es fs h) (had_tail x ys fs es g))
+  one_basis xs es fs (skip x ys es' z r) (lead x' ys' v fs' one w wl q) h g = absurd (one_is_not_zero (sym one ∙ h.0.0 ∙ leads-zero K X x es v z))
+  one_basis xs es fs (lead x ys u es' one z zl r) (skip x' ys' fs' w q) h g = absurd (one_is_not_zero (sym one ∙ g.0.0 ∙ leads-zero K X x fs u w))
+  one_basis xs es fs (lead x ys u es' one z zl r) (lead x' ys' v fs' one' w wl q) h g =
+      let rest = one_basis ys es' fs' r q (had_below x ys (x, u) es' fs' refl w h.1) (had_below x ys (x, v) fs' es' refl z g.1) in
+      let zeros = zero_at_same ys es' fs' u rest zl in
+      let same : AreSameAt K X (x ∷ ys) u v = AreSameAt-trans (x ∷ ys) u _ v g.0 (λ y.
+      ap₂ K.add (ap (λ (n : K.F). K.mul n (v y)) one ∙ K.mul_comm K.one (v y) ∙ K.mul_one (v y)) (nothing_from_zeros fs' u y zeros) ∙ K.add_zero (v y)) in
+      (refl, same, same_more x ys es' fs' z w rest)

@@ -1,0 +1,4 @@
+pub mod Fields
+pub mod Spans
+pub mod Echelon
+pub mod Mod

@@ -1,0 +1,4 @@
+//! Linear algebra over a field.
+#![tactic(auto)]
+
+pub fn nothing() {}

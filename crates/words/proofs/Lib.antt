@@ -1,0 +1,4 @@
+pub mod Members
+pub mod Weights
+pub mod OrderFacts
+pub mod Degrees

@@ -1,0 +1,86 @@
+-- Members and pairs of lists that are made by `map`, `flat_map` and `++`.
+use Rattle.std.proofs.Common.{◌≡◌, ◌⊎◌, ◌<◌, ℕ, zero, suc, List, [], ◌∷◌, ◌++◌, map, length, refl, sym, ap, inl, inr, arith, All, AllPairs, subst, get_or}
+use Rattle.std.specs.List.{Contains, flat_map}
+use Rattle.std.proofs.lemmas.List.Elements.{All-append, All-cons, All-contains, All-nil, Contains-append_cases, Contains-append_left, Contains-append_right}
+use Rattle.std.proofs.lemmas.List.Kept.{AllPairs-cons}
+
+module _ {X : Type 0} where
+  pub Contains-first : (x : X) (xs : List X) → Contains (x ∷ xs) x
+  Contains-first x xs = (0, omega arith, refl)
+
+  pub Contains-more : (y : X) (xs : List X) (x : X) → Contains xs x → Contains (y ∷ xs) x
+  Contains-more y xs x h = (suc h.0, omega (arith, h.1), h.2)
+
+  at_front : (y : X) (xs : List X) (x : X) (k : ℕ) → k < length (y ∷ xs) → get_or (y ∷ xs) k x ≡ x → (y ≡ x) ⊎ Contains xs x
+  at_front y xs x zero lt e = inl e
+  at_front y xs x (suc k) lt e = inr (k, omega (arith, lt), e)
+
+  pub Contains-cases : (y : X) (xs : List X) (x : X) → Contains (y ∷ xs) x → (y ≡ x) ⊎ Contains xs x
+  Contains-cases y xs x h = at_front y xs x h.0 h.1 h.2
+
+  pub Contains-none : (x : X) → Contains [] x → ⊥
+  Contains-none x h = omega (arith, h.1)
+
+  pub All-from_members : (P : X → Type 0) (xs : List X) → ((x : X) → Contains xs x → P x) → All P xs
+  All-from_members P [] h = All-nil P
+  All-from_members P (x ∷ xs) h = All-cons P x xs (h x (Contains-first x xs)) (All-from_members P xs (λ y m. h y (Contains-more x xs y m)))
+
+  pub AllPairs-nil : (R : X → X → Type 0) → AllPairs R []
+  AllPairs-nil R i j d below within = absurd (omega (arith, within))
+
+  pub AllPairs-first : (R : X → X → Type 0) (x : X) (xs : List X) → AllPairs R (x ∷ xs) → All (R x) xs
+  AllPairs-first R x xs h k d within = h zero (suc k) d (omega arith) (omega (arith, within))
+
+  pub AllPairs-rest : (R : X → X → Type 0) (x : X) (xs : List X) → AllPairs R (x ∷ xs) → AllPairs R xs
+  AllPairs-rest R x xs h i j d below within = h (suc i) (suc j) d (omega (arith, below)) (omega (arith, within))
+
+  pub AllPairs-append : (R : X → X → Type 0) (xs ys : List X) → AllPairs R xs → AllPairs R ys → ((x : X) → Contains xs x → All (R x) ys) → AllPairs R (xs ++ ys)
+  AllPairs-append R [] ys p q h = q
+  AllPairs-append R (x ∷ xs) ys p q h =
+      AllPairs-cons R x (xs ++ ys) (All-append (R x) xs ys (AllPairs-first R x xs p) (h x (Contains-first x xs)))
+      (AllPairs-append R xs ys (AllPairs-rest R x xs p) q (λ y m. h y (Contains-more x xs y m)))
+
+module _ {X Y : Type 0} (f : X → Y) where
+  pub Contains-map : (xs : List X) (x : X) → Contains xs x → Contains (map f xs) (f x)
+  Contains-map [] x h = absurd (Contains-none x h)
+  Contains-map (y ∷ xs) x h = elim (Contains-cases y xs x h) [
+    | inl e ↦ subst (λ (z : Y). Contains (f y ∷ map f xs) z) (ap f e) (Contains-first (f y) (map f xs))
+    | inr m ↦ Contains-more (f y) (map f xs) (f x) (Contains-map xs x m)
+  ]
+
+  pub Contains-map_cases : (xs : List X) (y : Y) → Contains (map f xs) y → (x : X) × Contains xs x × (f x ≡ y)
+  Contains-map_cases [] y h = absurd (Contains-none y h)
+  Contains-map_cases (x ∷ xs) y h = elim (Contains-cases (f x) (map f xs) y h) [
+    | inl e ↦ (x, Contains-first x xs, e)
+    | inr m ↦ let r = Contains-map_cases xs y m in (r.0, Contains-more x xs r.0 r.1, r.2)
+  ]
+
+  pub AllPairs-map : (R : X → X → Type 0) (S : Y → Y → Type 0) → ((a b : X) → R a b → S (f a) (f b)) → (xs : List X) → AllPairs R xs → AllPairs S (map f xs)
+  AllPairs-map R S h [] p = AllPairs-nil S
+  AllPairs-map R S h (x ∷ xs) p =
+      AllPairs-cons S (f x) (map f xs)
+      (All-from_members (S (f x)) (map f xs) (λ y m. let r = Contains-map_cases xs y m in subst (S (f x)) r.2 (h x r.0 (All-contains (R x) xs r.0 (AllPairs-first R x xs p) r.1))))
+      (AllPairs-map R S h xs (AllPairs-rest R x xs p))
+
+module _ {X Y : Type 0} (f : X → List Y) where
+  pub Contains-flat_map : (xs : List X) (x : X) (y : Y) → Contains xs x → Contains (f x) y → Contains (flat_map f xs) y
+  Contains-flat_map [] x y h m = absurd (Contains-none x h)
+  Contains-flat_map (z ∷ xs) x y h m = elim (Contains-cases z xs x h) [
+    | inl e ↦ Contains-append_left (f z) (flat_map f xs) y (subst (λ (w : X). Contains (f w) y) (sym e) m)
+    | inr r ↦ Contains-append_right (f z) (flat_map f xs) y (Contains-flat_map xs x y r m)
+  ]
+
+  pub Contains-flat_map_cases : (xs : List X) (y : Y) → Contains (flat_map f xs) y → (x : X) × Contains xs x × Contains (f x) y
+  Contains-flat_map_cases [] y h = absurd (Contains-none y h)
+  Contains-flat_map_cases (z ∷ xs) y h = elim (Contains-append_cases (f z) (flat_map f xs) y h) [
+    | inl m ↦ (z, Contains-first z xs, m)
+    | inr m ↦ let r = Contains-flat_map_cases xs y m in (r.0, Contains-more z xs r.0 r.1, r.2)
+  ]
+
+  -- blocks in order, each block after another
+  pub AllPairs-flat_map : (R : X → X → Type 0) (S : Y → Y → Type 0) → ((x : X) → AllPairs S (f x)) → ((a b : X) (u v : Y) → R a b → Contains (f a) u → Contains (f b) v → S u v)
+      → (xs : List X) → AllPairs R xs → AllPairs S (flat_map f xs)
+  AllPairs-flat_map R S inside across [] p = AllPairs-nil S
+  AllPairs-flat_map R S inside across (x ∷ xs) p =
+      AllPairs-append S (f x) (flat_map f xs) (inside x) (AllPairs-flat_map R S inside across xs (AllPairs-rest R x xs p))
+      (λ u m. All-from_members (S u) (flat_map f xs) (λ v n. let r = Contains-flat_map_cases xs v n in across x r.0 u v (All-contains (R x) xs r.0 (AllPairs-first R x xs p) r.1) m r.2))
