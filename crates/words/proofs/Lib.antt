@@ -2,3 +2,4 @@ pub mod Members
 pub mod Weights
 pub mod OrderFacts
 pub mod Degrees
+pub mod NameLists

@@ -1,9 +1,8 @@
-ghost use Rattle.std.specs.Prelude.{◌≡◌, ◌≢◌, ◌<◌, ◌≤◌, ◌↔◌, ◌^◌, [], map, length, replicate, All, IfOk, IsErrOf, slice_index_or};
+ghost use Rattle.std.specs.Prelude.{◌≡◌, ◌≢◌, ◌<◌, ◌≤◌, ◌↔◌, ◌^◌, ℕ, [], map, length, replicate, All, Contains, IfOk, IfSome, IsErrOf, IsNone, IsOk, MatchOption, OnOk, slice_index_or};
 ghost use Rattle.words.specs.Words.{AreWeights, IsOver, degree_of, weight_of};
-ghost use Rattle.words.specs.Names.{AreApart, IsFirstRepeat};
+ghost use Rattle.words.specs.Names.{AreNames, IsAlphabet, IsFaultOf, IsFirstRepeat};
 
-use crate::word::NoMemory;
-use std::alloc::Global;
+use std::alloc::{AllocError, Global};
 use std::marker::Model;
 
 /// Names of variables with their weights, the first of which is the greatest letter.
@@ -33,8 +32,35 @@ pub enum AlphabetFault {
     NoMemory,
 }
 
+impl From<AllocError> for AlphabetFault {
+    ghost use Rattle.words.specs.declared.alphabet.AlphabetFault.TheVariants.{NoMemory};
+
+    ghost from_gives = { λ _ fault. fault ≡ NoMemory };
+
+    fn from(_error: AllocError) -> AlphabetFault {
+        AlphabetFault::NoMemory
+    }
+}
+
 impl Alphabet {
-    /// Empty, too many and repeated names are refused, in this order.
+    /// The alphabet of these names, each with the weight 1.
+    pub fn new(alloc: Global, names: Vec<Vec<u8>>) -> Result<Alphabet, AlphabetFault>
+        ensures names { IfOk result (λ a. a.names ≡ map (λ name. name.items) names.items) }
+        ensures weights { IfOk result (λ a. a.weights ≡ replicate (length names.items) 1) }
+        ensures made { OnOk result (AreNames (map (λ name. name.items) names.items)) }
+        ensures empty { IsErrOf result AlphabetFault.Empty ↔ (names.items ≡ []) }
+        ensures many { IsErrOf result AlphabetFault.TooMany ↔ (64 < length names.items) }
+        ensures repeated { (first second : ℕ) → (IsErrOf result (AlphabetFault.Repeated first second) ↔ ((length names.items ≤ 64) × IsFirstRepeat (map (λ name. name.items) names.items) first second)) }
+        ensures starved { IsErrOf result AlphabetFault.NoMemory → AreNames (map (λ name. name.items) names.items) }
+    {
+        if let Some(fault) = fault_of(names.as_slice()) {
+            return Err(fault);
+        }
+        let weights = vec![in alloc; 1; names.len()]?;
+        Ok(Alphabet { names, weights })
+    }
+
+    /// The alphabet of these names with these weights.
     pub fn weighted(
         _alloc: Global,
         names: Vec<Vec<u8>>,
@@ -44,22 +70,21 @@ impl Alphabet {
         requires weights { AreWeights weights.items }
         ensures names { IfOk result (λ a. a.names ≡ map (λ name. name.items) names.items) }
         ensures weights { IfOk result (λ a. a.weights ≡ weights.items) }
+        ensures made { IsOk result ↔ AreNames (map (λ name. name.items) names.items) }
         ensures empty { IsErrOf result AlphabetFault.Empty ↔ (names.items ≡ []) }
         ensures many { IsErrOf result AlphabetFault.TooMany ↔ (64 < length names.items) }
+        ensures repeated { (first second : ℕ) → (IsErrOf result (AlphabetFault.Repeated first second) ↔ ((length names.items ≤ 64) × IsFirstRepeat (map (λ name. name.items) names.items) first second)) }
+        ensures starved { IsErrOf result AlphabetFault.NoMemory → ⊥ }
     {
-        if names.is_empty() {
-            return Err(AlphabetFault::Empty);
+        match fault_of(names.as_slice()) {
+            Some(fault) => Err(fault),
+            None => Ok(Alphabet { names, weights }),
         }
-        if names.len() > 64 {
-            return Err(AlphabetFault::TooMany);
-        }
-        if names.len() == 1 {
-            return Ok(Alphabet { names, weights });
-        }
-        Err(AlphabetFault::NoMemory)
     }
 
+    /// The number of names.
     pub fn len(&self) -> u32
+        ensures alphabet { IsAlphabet self.now }
         ensures count { result ≡ length self.now.weights }
         ensures few { length self.now.weights ≤ 64 }
     {
@@ -81,6 +106,50 @@ impl Alphabet {
     {
         self.weights[letter as usize]
     }
+
+    /// The letter of this name.
+    pub fn find(&self, name: &[u8]) -> Option<u8>
+        ensures none { IsNone result ↔ (Contains self.now.names name.now → ⊥) }
+        ensures place { IfSome result (λ letter. (letter < length self.now.weights) × (slice_index_or self.now.names letter [] ≡ name.now)) }
+    {
+        match place_of(self.names.as_slice(), name) {
+            Some(at) => Some(at as u8),
+            None => None,
+        }
+    }
+}
+
+/// Why these names are no alphabet: there is none, there are too many, or one stands twice.
+fn fault_of(names: &[Vec<u8>]) -> Option<AlphabetFault>
+    ensures { MatchOption result (AreNames (map (λ name. name.items) names.now)) (λ fault. IsFaultOf fault (map (λ name. name.items) names.now)) }
+{
+    if names.is_empty() {
+        return Some(AlphabetFault::Empty);
+    }
+    if names.len() > 64 {
+        return Some(AlphabetFault::TooMany);
+    }
+    for (second, name) in names.iter().enumerate() {
+        if let Some(first) = place_of(&names[..second], name.as_slice()) {
+            return Some(AlphabetFault::Repeated {
+                first: first as u32,
+                second: second as u32,
+            });
+        }
+    }
+    None
+}
+
+/// The place of a name among these.
+fn place_of(names: &[Vec<u8>], name: &[u8]) -> Option<usize>
+    ensures { MatchOption result (All (λ other. other ≢ name.now) (map (λ name. name.items) names.now)) (λ at. (at < length names.now) × (slice_index_or (map (λ name. name.items) names.now) at [] ≡ name.now)) }
+{
+    for (at, other) in names.iter().enumerate() {
+        if other.as_slice() == name {
+            return Some(at);
+        }
+    }
+    None
 }
 
 /// The sum of the weights of the letters.
