@@ -21,3 +21,9 @@ negative_of p a = (p - a) % p
 
 abbrev pub difference_of : ℕ → ℕ → ℕ → ℕ
 difference_of p a b = (a + (p - b)) % p
+
+-- y + a * x, place by place
+abbrev pub plus_multiple : ℕ → ℕ → List ℕ → List ℕ → List ℕ
+plus_multiple p a [] x = []
+plus_multiple p a (r ∷ y) [] = r ∷ y
+plus_multiple p a (r ∷ y) (s ∷ x) = (r + a * s) % p ∷ plus_multiple p a y x

@@ -1,5 +1,5 @@
 ghost use Rattle.std.specs.Prelude.{◌≡◌, ℕ, ◌+◌, ◌-◌, ◌*◌, ◌%◌, ◌<◌, ◌≤◌, ◌^◌, IfOk, All, length};
-ghost use Rattle.field_table.specs.Residues.{IsFieldModulus, listed_moduli, sum_of, product_of, negative_of, difference_of};
+ghost use Rattle.field_table.specs.Residues.{IsFieldModulus, listed_moduli, sum_of, product_of, negative_of, difference_of, plus_multiple};
 ghost use Rattle.field_table.specs.Table.{IsTableUpto};
 
 use std::alloc::{AllocError, Global};
@@ -113,6 +113,29 @@ impl Field {
         let modulus = self.modulus;
         (value % u128::from(modulus)) as u32
     }
+
+    /// Adds `a` times `x` to `y`, place by place.
+    pub fn axpy(&self, y: &mut [u32], a: u32, x: &[u32])
+        requires factor { a < self.now }
+        requires y_residues { All (λ r. r < self.now) y.old }
+        requires x_residues { All (λ r. r < self.now) x.now }
+        requires lengths { length y.old ≡ length x.now }
+        ensures sums { y.new ≡ plus_multiple self.now a y.old x.now }
+        ensures residues { All (λ r. r < self.now) y.new }
+    {
+        let modulus = self.modulus;
+        for (at, entry) in y.iter_mut().enumerate() {
+            *entry = plus_times(modulus, *entry, a, x[at]);
+        }
+    }
+}
+
+/// A sum with a product, taken in 64 bits.
+fn plus_times(modulus: u32, sum: u32, a: u32, b: u32) -> u32
+    requires { 0 < modulus }
+    ensures { result ≡ (sum + a * b) % modulus }
+{
+    ((u64::from(sum) + u64::from(a) * u64::from(b)) % u64::from(modulus)) as u32
 }
 
 /// The product, taken in 64 bits.

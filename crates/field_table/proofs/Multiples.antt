@@ -1,0 +1,23 @@
+-- A list of residues and a multiple of another, added place by place.
+use Rattle.std.proofs.Common.{◌≡◌, ◌+◌, ◌*◌, ◌%◌, ◌<◌, ℕ, zero, suc, List, [], ◌∷◌, length, get_or, refl, ap₂, arith}
+use Rattle.std.specs.List.{All}
+use Rattle.std.proofs.Math.Nat.{mod-lt}
+use Rattle.std.proofs.lemmas.List.Elements.{All-cons, All-nil}
+use Rattle.field_table.specs.Residues.{plus_multiple}
+
+-- a list that has the sum at each place is the sum
+pub plus_multiple_by_places : (p a : ℕ) (y x z : List ℕ) → length z ≡ length y → length y ≡ length x
+    → ((k : ℕ) → k < length y → get_or z k 0 ≡ (get_or y k 0 + a * get_or x k 0) % p) → z ≡ plus_multiple p a y x
+plus_multiple_by_places p a [] x [] e l h = refl
+plus_multiple_by_places p a [] x (t ∷ z) e l h = absurd (omega (arith, e))
+plus_multiple_by_places p a (r ∷ y) [] z e l h = absurd (omega (arith, l))
+plus_multiple_by_places p a (r ∷ y) (s ∷ x) [] e l h = absurd (omega (arith, e))
+plus_multiple_by_places p a (r ∷ y) (s ∷ x) (t ∷ z) e l h =
+    ap₂ ◌∷◌ (h zero (omega arith)) (plus_multiple_by_places p a y x z (omega (arith, e)) (omega (arith, l)) (λ k within. h (suc k) (omega (arith, within))))
+
+-- its entries are residues
+pub plus_multiple-residues : (p a : ℕ) (y x : List ℕ) → 0 < p → length y ≡ length x → All (λ r. r < p) (plus_multiple p a y x)
+plus_multiple-residues p a [] x pos l = All-nil (λ r. r < p)
+plus_multiple-residues p a (r ∷ y) [] pos l = absurd (omega (arith, l))
+plus_multiple-residues p a (r ∷ y) (s ∷ x) pos l =
+    All-cons (λ r. r < p) ((r + a * s) % p) (plus_multiple p a y x) (mod-lt (r + a * s) {m = p} pos) (plus_multiple-residues p a y x pos (omega (arith, l)))
