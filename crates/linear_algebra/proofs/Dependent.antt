@@ -1,9 +1,10 @@
 -- More vectors than columns are dependent.
-use Rattle.std.proofs.Common.{◌≡◌, ◌⊎◌, ◌<◌, suc, List, [], ◌∷◌, ◌++◌, map, refl, sym, ap, ◌∙◌, false, inl, inr, length, arith, subst, length-append}
+use Rattle.std.proofs.Common.{◌≡◌, ◌<◌, suc, List, [], ◌∷◌, ◌++◌, map, refl, sym, ap, ◌∙◌, false, inl, inr, length, arith, subst, length-append}
 use Rattle.std.proofs.lemmas.List.{length-map}
 use Rattle.std.proofs.lemmas.Bool.{cases_Bool}
 use Rattle.linear_algebra.specs.Fields.{Field}
 use Rattle.linear_algebra.specs.Spans.{Vector}
+pub use Rattle.linear_algebra.specs.Dependence.{HasNonzero, IsDependent, IsZeroOn, sum_zip}
 use Rattle.linear_algebra.proofs.Algebra.{zero_add, add_left_comm, mul_zero}
 use Rattle.linear_algebra.proofs.Elimination.{cleared, cleared_here, cleared_sum}
 
@@ -11,27 +12,7 @@ module _ (K : Field) (X : Type 0) where
   abbrev V : Type 0
   V = Vector K X
 
-  -- the sum of c * f over two lists
-  abbrev pub sum_zip : List K.F → List V → V
-  sum_zip [] fs x = K.zero
-  sum_zip (c ∷ cs) [] x = K.zero
-  sum_zip (c ∷ cs) (f ∷ fs) x = K.add (K.mul c (f x)) (sum_zip cs fs x)
-
-  abbrev pub HasNonzero : List K.F → Type 0
-  HasNonzero [] = ⊥
-  HasNonzero (c ∷ cs) = (K.is_zero c ≡ false) ⊎ HasNonzero cs
-
-  abbrev pub IsZeroOn : List X → V → Type 0
-  IsZeroOn [] v = Unit {0}
-  IsZeroOn (x ∷ xs) v = (v x ≡ K.zero) × IsZeroOn xs v
-
-  pub record IsDependent (xs : List X) (fs : List V) : Type 0 where
-    pub factors : List K.F
-    pub count : length factors ≡ length fs
-    pub other : HasNonzero factors
-    pub sum : IsZeroOn xs (sum_zip factors fs)
-
-  IsZeroOn-map : (xs : List X) (v w : V) → ((y : X) → v y ≡ K.zero → w y ≡ K.zero) → IsZeroOn xs v → IsZeroOn xs w
+  IsZeroOn-map : (xs : List X) (v w : V) → ((y : X) → v y ≡ K.zero → w y ≡ K.zero) → IsZeroOn K X xs v → IsZeroOn K X xs w
   IsZeroOn-map [] v w h z = tt
   IsZeroOn-map (x ∷ xs) v w h z = (h x z.0, IsZeroOn-map xs v w h z.1)
 
@@ -41,19 +22,19 @@ module _ (K : Field) (X : Type 0) where
   insert_factor (a ∷ front) c [] = K.zero ∷ insert_factor front c []
   insert_factor (a ∷ front) c (d ∷ cs) = d ∷ insert_factor front c cs
 
-  sum_zip-inserted : (front bs : List V) (p : V) (c : K.F) (cs : List K.F) (y : X) → sum_zip (insert_factor front c cs) (front ++ p ∷ bs) y ≡ K.add (K.mul c (p y)) (sum_zip cs (front ++ bs) y)
+  sum_zip-inserted : (front bs : List V) (p : V) (c : K.F) (cs : List K.F) (y : X) → sum_zip K X (insert_factor front c cs) (front ++ p ∷ bs) y ≡ K.add (K.mul c (p y)) (sum_zip K X cs (front ++ bs) y)
   sum_zip-inserted [] bs p c cs y = refl
   sum_zip-inserted (a ∷ front) bs p c [] y =
-      ap (λ (n : K.F). K.add n (sum_zip (insert_factor front c []) (front ++ p ∷ bs) y)) (K.mul_comm K.zero (a y) ∙ mul_zero K (a y)) ∙ zero_add K _ ∙ sum_zip-inserted front bs p c [] y
+      ap (λ (n : K.F). K.add n (sum_zip K X (insert_factor front c []) (front ++ p ∷ bs) y)) (K.mul_comm K.zero (a y) ∙ mul_zero K (a y)) ∙ zero_add K _ ∙ sum_zip-inserted front bs p c [] y
   sum_zip-inserted (a ∷ front) bs p c (d ∷ cs) y =
-      ap (K.add (K.mul d (a y))) (sum_zip-inserted front bs p c cs y) ∙ add_left_comm K (K.mul d (a y)) (K.mul c (p y)) (sum_zip cs (front ++ bs) y)
+      ap (K.add (K.mul d (a y))) (sum_zip-inserted front bs p c cs y) ∙ add_left_comm K (K.mul d (a y)) (K.mul c (p y)) (sum_zip K X cs (front ++ bs) y)
 
   length-inserted : (front bs : List V) (c : K.F) (cs : List K.F) → length cs ≡ length (front ++ bs) → length (insert_factor front c cs) ≡ suc (length (front ++ bs))
   length-inserted [] bs c cs e = ap suc e
   length-inserted (a ∷ front) bs c [] e = absurd (omega (arith, e))
   length-inserted (a ∷ front) bs c (d ∷ cs) e = ap suc (length-inserted front bs c cs (omega (arith, e)))
 
-  nonzero-inserted : (front : List V) (c : K.F) (cs : List K.F) → HasNonzero cs → HasNonzero (insert_factor front c cs)
+  nonzero-inserted : (front : List V) (c : K.F) (cs : List K.F) → HasNonzero K X cs → HasNonzero K X (insert_factor front c cs)
   nonzero-inserted [] c cs h = inr h
   nonzero-inserted (a ∷ front) c [] h = absurd h
   nonzero-inserted (a ∷ front) c (d ∷ cs) (inl h) = inl h
@@ -64,24 +45,24 @@ module _ (K : Field) (X : Type 0) where
       let neg_zero : K.neg K.zero ≡ K.zero = sym (zero_add K (K.neg K.zero)) ∙ K.add_neg K.zero in
       sym (zero_add K _ ∙ ap (λ (n : K.F). K.mul n (p y)) neg_zero ∙ K.mul_comm K.zero (p y) ∙ mul_zero K (p y))
 
-  sum_zip-nil : (cs : List K.F) (x : X) → sum_zip cs [] x ≡ K.zero
+  sum_zip-nil : (cs : List K.F) (x : X) → sum_zip K X cs [] x ≡ K.zero
   sum_zip-nil [] x = refl
   sum_zip-nil (c ∷ cs) x = refl
 
-  sum_zip-zero_first : (f : V) (fs : List V) (x : X) → f x ≡ K.zero → ((cs : List K.F) → sum_zip cs fs x ≡ K.zero) → (cs : List K.F) → sum_zip cs (f ∷ fs) x ≡ K.zero
+  sum_zip-zero_first : (f : V) (fs : List V) (x : X) → f x ≡ K.zero → ((cs : List K.F) → sum_zip K X cs fs x ≡ K.zero) → (cs : List K.F) → sum_zip K X cs (f ∷ fs) x ≡ K.zero
   sum_zip-zero_first f fs x z all [] = refl
   sum_zip-zero_first f fs x z all (c ∷ ds) =
-      ap (λ (n : K.F). K.add (K.mul c n) (sum_zip ds fs x)) z ∙ ap (λ (n : K.F). K.add n (sum_zip ds fs x)) (mul_zero K c) ∙ zero_add K _ ∙ all ds
+      ap (λ (n : K.F). K.add (K.mul c n) (sum_zip K X ds fs x)) z ∙ ap (λ (n : K.F). K.add n (sum_zip K X ds fs x)) (mul_zero K c) ∙ zero_add K _ ∙ all ds
 
   -- sums of cleared vectors are cleared sums
-  sum_zip-cleared : (x : X) (p : V) (cs : List K.F) (fs : List V) (y : X) → sum_zip cs (map (cleared K X x p) fs) y ≡ cleared K X x p (sum_zip cs fs) y
+  sum_zip-cleared : (x : X) (p : V) (cs : List K.F) (fs : List V) (y : X) → sum_zip K X cs (map (cleared K X x p) fs) y ≡ cleared K X x p (sum_zip K X cs fs) y
   sum_zip-cleared x p [] fs y = nothing_cleared p y
   sum_zip-cleared x p (c ∷ cs) [] y = nothing_cleared p y
   sum_zip-cleared x p (c ∷ cs) (f ∷ fs) y =
-      ap (K.add (K.mul c (cleared K X x p f y))) (sum_zip-cleared x p cs fs y) ∙ cleared_sum K X c (f y) (sum_zip cs fs y) (f x) (sum_zip cs fs x) (p y)
+      ap (K.add (K.mul c (cleared K X x p f y))) (sum_zip-cleared x p cs fs y) ∙ cleared_sum K X c (f y) (sum_zip K X cs fs y) (f x) (sum_zip K X cs fs x) (p y)
 
   pub data IsSplit (x : X) (fs : List V) : Type 0 where
-    zeros : ((cs : List K.F) → sum_zip cs fs x ≡ K.zero) → IsSplit x fs
+    zeros : ((cs : List K.F) → sum_zip K X cs fs x ≡ K.zero) → IsSplit x fs
     at : (front bs : List V) (p : V) → fs ≡ front ++ p ∷ bs → K.is_zero (p x) ≡ false → IsSplit x fs
 
   split_at : (x : X) (fs : List V) → IsSplit x fs
@@ -94,7 +75,7 @@ module _ (K : Field) (X : Type 0) where
     ]
   ]
 
-  pub dependent : (xs : List X) (fs : List V) → length xs < length fs → IsDependent xs fs
+  pub dependent : (xs : List X) (fs : List V) → length xs < length fs → IsDependent K X xs fs
   dependent [] [] more = absurd (omega (arith, more))
   dependent [] (f ∷ fs) more = record {
     factors = K.one ∷ map (λ g. K.zero) fs;
@@ -111,18 +92,18 @@ module _ (K : Field) (X : Type 0) where
         let rest = map (cleared K X x q) (front ++ bs) in
         let fewer : length xs < length rest = omega (arith, more, ap length is, length-append front (p ∷ bs), length-append front bs, length-map (front ++ bs) (cleared K X x q)) in
         let d = dependent xs rest fewer in
-        let c = K.mul (K.neg (sum_zip d.factors (front ++ bs) x)) (K.inv (p x)) in
+        let c = K.mul (K.neg (sum_zip K X d.factors (front ++ bs) x)) (K.inv (p x)) in
         let all = insert_factor front c d.factors in
-        let sums : (y : X) → sum_zip all (front ++ p ∷ bs) y ≡ sum_zip d.factors rest y = λ y.
+        let sums : (y : X) → sum_zip K X all (front ++ p ∷ bs) y ≡ sum_zip K X d.factors rest y = λ y.
         sum_zip-inserted front bs p c d.factors y
-        ∙ ap (λ (n : K.F). K.add n (sum_zip d.factors (front ++ bs) y)) (K.mul_assoc _ _ _) ∙ K.add_comm _ _
+        ∙ ap (λ (n : K.F). K.add n (sum_zip K X d.factors (front ++ bs) y)) (K.mul_assoc _ _ _) ∙ K.add_comm _ _
         ∙ sym (sum_zip-cleared x q d.factors (front ++ bs) y) in
-        subst (IsDependent (x ∷ xs)) (sym is) (record {
+        subst (IsDependent K X (x ∷ xs)) (sym is) (record {
           factors = all;
           count = length-inserted front bs c d.factors (d.count ∙ length-map (front ++ bs) (cleared K X x q)) ∙ omega (arith, length-append front (p ∷ bs), length-append front bs);
           other = nonzero-inserted front c d.factors d.other;
           sum = (
-            sums x ∙ sum_zip-cleared x q d.factors (front ++ bs) x ∙ cleared_here K X (sum_zip d.factors (front ++ bs) x) (q x) (K.mul_inv (p x) other),
+            sums x ∙ sum_zip-cleared x q d.factors (front ++ bs) x ∙ cleared_here K X (sum_zip K X d.factors (front ++ bs) x) (q x) (K.mul_inv (p x) other),
             IsZeroOn-map xs _ _ (λ y z. sums y ∙ z) d.sum,
           );
         })

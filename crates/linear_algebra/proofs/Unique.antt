@@ -1,21 +1,14 @@
 -- Two reduced bases of one span have the same leading columns and the same rows.
-use Rattle.std.proofs.Common.{ap₂, ◌≡◌, List, [], ◌∷◌, refl, sym, ap, ◌∙◌, true≢false}
+use Rattle.std.proofs.Common.{ap₂, ◌≡◌, ◌↔◌, List, [], ◌∷◌, refl, sym, ap, ◌∙◌, true≢false}
 use Rattle.linear_algebra.specs.Fields.{Field}
-use Rattle.linear_algebra.specs.Spans.{Vector, sum_of}
-use Rattle.linear_algebra.specs.Echelon.{AreZeroAt, IsZeroAtLeads, IsReduced, done, skip, lead, from_leads, AreSameAt}
+use Rattle.linear_algebra.specs.Spans.{Vector, sum_of, IsInSpan}
+use Rattle.linear_algebra.specs.Echelon.{AreZeroAt, IsZeroAtLeads, IsReduced, done, skip, lead, from_leads, AreSameAt, AreSameRows, AreInSpan, IsBasis, IsOneOf}
 use Rattle.linear_algebra.proofs.Algebra.{zero_add, mul_zero}
 use Rattle.linear_algebra.proofs.Elimination.{leads-zero}
 
 module _ (K : Field) (X : Type 0) where
   abbrev V : Type 0
   V = Vector K X
-
-  -- the same rows, at these columns
-  abbrev pub AreSameRows : List X → List (X × V) → List (X × V) → Type 0
-  AreSameRows xs [] [] = Unit {0}
-  AreSameRows xs [] (f ∷ fs) = ⊥
-  AreSameRows xs (e ∷ es) [] = ⊥
-  AreSameRows xs (e ∷ es) (f ∷ fs) = (e.0 ≡ f.0) × AreSameAt K X xs e.1 f.1 × AreSameRows xs es fs
 
   -- each row of fs is had from those of es by its entries at their leading columns
   abbrev pub AreHadFrom : List X → List (X × V) → List (X × V) → Type 0
@@ -43,7 +36,7 @@ module _ (K : Field) (X : Type 0) where
   )
 
   -- v is 0 at the leading columns of the one, so at those of the other
-  zero_at_same : (xs : List X) (es fs : List (X × V)) (v : V) → AreSameRows xs es fs → IsZeroAtLeads K X v es → IsZeroAtLeads K X v fs
+  zero_at_same : (xs : List X) (es fs : List (X × V)) (v : V) → AreSameRows K X xs es fs → IsZeroAtLeads K X v es → IsZeroAtLeads K X v fs
   zero_at_same xs [] [] v s z = tt
   zero_at_same xs [] (f ∷ fs) v s z = absurd s
   zero_at_same xs (e ∷ es) [] v s z = absurd s
@@ -55,13 +48,13 @@ module _ (K : Field) (X : Type 0) where
       ap (λ (n : K.F). K.add (K.mul n (f.1 y)) (sum_of K X (from_leads K X fs v) y)) z.0
       ∙ ap (λ (n : K.F). K.add n (sum_of K X (from_leads K X fs v) y)) (K.mul_comm K.zero (f.1 y) ∙ mul_zero K (f.1 y)) ∙ zero_add K _ ∙ nothing_from_zeros fs v y z.1
 
-  same_more : (x : X) (xs : List X) (es fs : List (X × V)) → AreZeroAt K X x es → AreZeroAt K X x fs → AreSameRows xs es fs → AreSameRows (x ∷ xs) es fs
+  same_more : (x : X) (xs : List X) (es fs : List (X × V)) → AreZeroAt K X x es → AreZeroAt K X x fs → AreSameRows K X xs es fs → AreSameRows K X (x ∷ xs) es fs
   same_more x xs [] [] z w s = tt
   same_more x xs [] (f ∷ fs) z w s = absurd s
   same_more x xs (e ∷ es) [] z w s = absurd s
   same_more x xs (e ∷ es) (f ∷ fs) z w s = (s.0, (z.0 ∙ sym w.0, s.1), same_more x xs es fs z.1 w.1 s.2)
 
-  pub one_basis : (xs : List X) (es fs : List (X × V)) → IsReduced K X xs es → IsReduced K X xs fs → AreHadFrom xs es fs → AreHadFrom xs fs es → AreSameRows xs es fs
+  pub one_basis : (xs : List X) (es fs : List (X × V)) → IsReduced K X xs es → IsReduced K X xs fs → AreHadFrom xs es fs → AreHadFrom xs fs es → AreSameRows K X xs es fs
   one_basis [] es fs done done h g = tt
   one_basis xs es fs (skip x ys es' z r) (skip x' ys' fs' w q) h g = same_more x ys es fs z w (one_basis ys es fs r q (had_tail x ys es fs h) (had_tail x ys fs es g))
   one_basis xs es fs (skip x ys es' z r) (lead x' ys' v fs' one w wl q) h g = absurd (one_is_not_zero (sym one ∙ h.0.0 ∙ leads-zero K X x es v z))
@@ -72,3 +65,15 @@ module _ (K : Field) (X : Type 0) where
       let same : AreSameAt K X (x ∷ ys) u v = AreSameAt-trans (x ∷ ys) u _ v g.0 (λ y.
       ap₂ K.add (ap (λ (n : K.F). K.mul n (v y)) one ∙ K.mul_comm K.one (v y) ∙ K.mul_one (v y)) (nothing_from_zeros fs' u y zeros) ∙ K.add_zero (v y)) in
       (refl, same, same_more x ys es' fs' z w rest)
+
+  -- rows of one span are had from those of another that has the same vectors
+  had_from_basis : (xs : List X) (gs hs : List V) (es fs : List (X × V)) → IsBasis K X xs gs es → ((v : V) → IsInSpan K X (IsOneOf K X hs) v → IsInSpan K X (IsOneOf K X gs) v)
+      → AreInSpan K X hs fs → AreHadFrom xs es fs
+  had_from_basis xs gs hs es [] b within inside = tt
+  had_from_basis xs gs hs es (f ∷ fs) b within inside = (b.coordinates f.1 (within f.1 inside.0), had_from_basis xs gs hs es fs b within inside.1)
+
+  -- lists of vectors with one span have one reduced basis
+  pub one_form : (xs : List X) (gs hs : List V) → ((v : V) → IsInSpan K X (IsOneOf K X gs) v ↔ IsInSpan K X (IsOneOf K X hs) v)
+      → (es fs : List (X × V)) → IsBasis K X xs gs es → IsBasis K X xs hs fs → AreSameRows K X xs es fs
+  one_form xs gs hs same es fs b c =
+      one_basis xs es fs b.reduced c.reduced (had_from_basis xs gs hs es fs b (λ v. (same v).1) c.inside) (had_from_basis xs hs gs fs es c (λ v. (same v).0) b.inside)

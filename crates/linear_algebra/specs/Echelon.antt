@@ -34,6 +34,14 @@ module _ (K : Field) (X : Type 0) where
   AreSameAt [] v w = Unit {0}
   AreSameAt (x ∷ xs) v w = (v x ≡ w x) × AreSameAt xs v w
 
+  -- the same leading columns, and rows that are the same at these columns
+  abbrev pub AreSameRows : List X → List (X × Vector K X) → List (X × Vector K X) → Type 0
+  AreSameRows xs [] [] = Unit {0}
+  AreSameRows xs [] (f ∷ fs) = ⊥
+  AreSameRows xs (e ∷ es) [] = ⊥
+  AreSameRows xs (e ∷ es) (f ∷ fs) = (e.0 ≡ f.0) × AreSameAt xs e.1 f.1 × AreSameRows xs es fs
+
+  -- each row is a sum of multiples of gs
   abbrev pub AreInSpan : List (Vector K X) → List (X × Vector K X) → Type 0
   AreInSpan gs [] = Unit {0}
   AreInSpan gs (e ∷ es) = IsInSpan K X (IsOneOf gs) e.1 × AreInSpan gs es

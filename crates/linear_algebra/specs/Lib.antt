@@ -1,4 +1,6 @@
 pub mod Fields
 pub mod Spans
 pub mod Echelon
+pub mod Dependence
 pub mod Mod
+pub mod Laws

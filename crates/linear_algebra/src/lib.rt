@@ -1,4 +1,8 @@
-//! Linear algebra over a field.
+//! Linear algebra over the residues of a field modulus: spans, reduced echelon forms and dependence, for vectors
+//! that have an entry at each value of some type. The columns are a list of such values in an order, so the same
+//! laws serve words, which fall, and the columns of a row problem. They are proved over any field, given by its laws.
 #![tactic(auto)]
 
-pub fn nothing() {}
+mod laws;
+
+pub use laws::elimination_laws;
