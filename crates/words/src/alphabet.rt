@@ -28,6 +28,7 @@ impl Model for Alphabet {
 pub enum AlphabetFault {
     Empty,
     TooMany,
+    /// The least place of a name that stood before, and where it stood, counted from 0.
     Repeated { first: u32, second: u32 },
     NoMemory,
 }
