@@ -2,3 +2,8 @@ pub mod Totals
 pub mod NormalForms
 pub mod Products
 pub mod FromWords
+pub mod Sums
+pub mod Entries
+pub mod Merges
+pub mod DegreeLemmas
+pub mod Multiples

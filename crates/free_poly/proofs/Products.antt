@@ -1,16 +1,16 @@
 -- Products of sums of terms by words on both sides.
-use Rattle.std.proofs.Common.{ap₂, ◌≡◌, ◌≢◌, ◌+◌, ◌-◌, ◌%◌, ◌<◌, ℕ, Bool, true, false, cond, List, [], ◌∷◌, ◌++◌, length, take, drop, refl, sym, ap, ◌∙◌, inl, inr, arith, bytes_eq, zero-add, length-append, append-nil}
+use Rattle.std.proofs.Common.{ap₂, ◌≡◌, ◌≢◌, ◌⊎◌, ◌+◌, ◌-◌, ◌%◌, ◌<◌, ℕ, Bool, true, false, cond, List, [], ◌∷◌, ◌++◌, length, take, drop, refl, sym, ap, ◌∙◌, inl, inr, arith, bytes_eq, zero-add, length-append, append-nil}
 use Rattle.std.proofs.lemmas.Bool.{cases_Bool}
 use Rattle.std.proofs.lemmas.List.{append_assoc, append_cancel_left, append_cancel_right}
 use Rattle.std.proofs.lemmas.List.Elements.{All-append, All-map}
 use Rattle.std.proofs.lemmas.Slice.Eq.{bytes_eq-Decides}
-use Rattle.words.specs.Words.{AreWeights, IsOver, degree_of}
-use Rattle.words.specs.Order.{IsLetterwiseGreater}
+use Rattle.words.specs.Words.{AreWeights, IsOver, IsProperPrefix, degree_of}
+use Rattle.words.specs.Order.{HasSmallerFirst, IsLetterwiseGreater}
 use Rattle.words.proofs.Members.{AllPairs-map}
 use Rattle.words.proofs.OrderFacts.{difference_in_product, first_difference, has_no_prefixes, letterwise_from_difference}
 use Rattle.words.proofs.Weights.{degree_of-append}
 use Rattle.free_poly.specs.declared.term.Term.{Term}
-use Rattle.free_poly.specs.Terms.{HasDegree, HasOneDegree, HasResidues, IsSame, UsesLetters, product, scaled, total_at}
+use Rattle.free_poly.specs.Terms.{HasDegree, HasNoPrefix, HasOneDegree, HasResidues, IsSame, UsesLetters, product, scaled, total_at}
 use Rattle.free_poly.specs.Poly.{IsPolynomial}
 use Rattle.free_poly.proofs.Totals.{here, not_here}
 
@@ -126,6 +126,19 @@ IsPolynomial-product weights aw u f v one h = record {
       (λ s t g. letterwise-product weights aw u s.word t.word v g.0 g.1) f (λ i j t below within. (one i j t below within, h.falling i j t below within));
   nonzero = All-map (λ t. t.coefficient ≢ 0) (λ t. record { word = u ++ t.word ++ v; coefficient = t.coefficient }) f h.nonzero;
 }
+
+-- the words keep their order too where none is a proper prefix of another
+pub IsPolynomial-product_apart : (u : List ℕ) (f : List Term) (v : List ℕ) → HasNoPrefix f → IsPolynomial f → IsPolynomial (product u f v)
+IsPolynomial-product_apart u f v apart h = record {
+  falling = AllPairs-map (λ t. record { word = u ++ t.word ++ v; coefficient = t.coefficient })
+      (λ s t. (IsProperPrefix t.word s.word → ⊥) × IsLetterwiseGreater s.word t.word) (λ s t. IsLetterwiseGreater s.word t.word)
+      (λ s t g. in_product s.word t.word g.0 (first_difference s.word t.word g.1)) f (λ i j t below within. (apart i j t below within, h.falling i j t below within));
+  nonzero = All-map (λ t. t.coefficient ≢ 0) (λ t. record { word = u ++ t.word ++ v; coefficient = t.coefficient }) f h.nonzero;
+}
+  where
+    in_product : (a b : List ℕ) → (IsProperPrefix b a → ⊥) → HasSmallerFirst a b ⊎ IsProperPrefix b a → IsLetterwiseGreater (u ++ a ++ v) (u ++ b ++ v)
+    in_product a b none (inl d) = letterwise_from_difference _ _ (difference_in_product u a b v d)
+    in_product a b none (inr q) = absurd (none q)
 
 pub HasResidues-product : (p : ℕ) (u : List ℕ) (f : List Term) (v : List ℕ) → HasResidues p f → HasResidues p (product u f v)
 HasResidues-product p u f v h = All-map (λ t. t.coefficient < p) (λ t. record { word = u ++ t.word ++ v; coefficient = t.coefficient }) f h

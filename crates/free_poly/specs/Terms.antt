@@ -1,5 +1,5 @@
 -- Sums of terms, and the coefficient that such a sum has at a word.
-use Rattle.std.specs.Prelude.{ℕ, ◌≡◌, ◌+◌, ◌*◌, ◌%◌, ◌<◌, List, [], ◌∷◌, ◌++◌, All, AllPairs, map, if◌then◌else◌, bytes_eq}
+use Rattle.std.specs.Prelude.{ℕ, ◌≡◌, ◌+◌, ◌*◌, ◌%◌, ◌<◌, List, [], ◌∷◌, ◌++◌, All, AllPairs, map, if◌then◌else◌, bytes_eq, ◌==◌}
 use Rattle.words.specs.Words.{IsOver, IsProperPrefix, degree_of}
 use Rattle.free_poly.specs.declared.term.Term.{Term}
 
@@ -19,6 +19,10 @@ scaled a f = map (λ t. record { word = t.word; coefficient = a * t.coefficient 
 -- u * f * v
 abbrev pub product : List ℕ → List Term → List ℕ → List Term
 product u f v = map (λ t. record { word = u ++ t.word ++ v; coefficient = t.coefficient }) f
+
+-- a term at this word, and none where its coefficient is 0
+abbrev pub term_at : List ℕ → ℕ → List Term
+term_at w c = if c == 0 then [] else (record { word = w; coefficient = c } ∷ [])
 
 -- every word is over so many names
 abbrev pub UsesLetters : ℕ → List Term → Type 0

@@ -1,20 +1,17 @@
-ghost use Rattle.std.specs.Prelude.{◌≡◌, ◌≢◌, [], List, ℕ, ◌++◌, IfOk, IfSome, IfNone, MatchOption, length};
+ghost use Rattle.std.specs.Prelude.{◌≡◌, ◌≢◌, ◌^◌, ◌<◌, ◌++◌, [], ℕ, All, IfOk, IsErrOf, OnOk, length, map};
 ghost use Rattle.std.specs.Option.{option_copied};
-ghost use Rattle.std.specs.Prelude.{◌%◌, unwrap_or};
-ghost use Rattle.std.specs.BTreeMap.{get};
-ghost use Rattle.words.specs.Order.{letterwise_cmp};
-ghost use Rattle.free_poly.specs.Terms.{HasResidues, total_at, product};
-ghost use Rattle.free_poly.specs.Poly.{IsPolynomial, lead_of};
+ghost use Rattle.words.specs.Words.{degree_of};
+ghost use Rattle.free_poly.specs.Degrees.{HasTwoDegrees};
+ghost use Rattle.free_poly.specs.Poly.{IsMonic, IsMultiple, IsPolynomial, lead_of};
+ghost use Rattle.free_poly.specs.Terms.{HasNoPrefix, HasOneDegree, HasResidues, IsSame, UsesLetters, product, scaled, total_at};
 
+use crate::fault::PolyFault;
+use crate::sum::{greatest_degree, merged, next_degree, normal_terms};
 use crate::term::Term;
 use field_table::Field;
-use std::alloc::{AllocError, Global};
-use std::collections::BTreeMap;
+use std::alloc::Global;
 use std::marker::Model;
-use words::Word;
-
-/// Want of memory.
-pub type NoMemory = AllocError;
+use words::{Alphabet, NoMemory, Word};
 
 /// A polynomial, which contracts see as its terms, falling letter by letter.
 #[derive(Debug, Drop)]
@@ -35,6 +32,35 @@ impl Model for Poly {
 }
 
 impl Poly {
+    /// The sum of the terms. A sum with words of two degrees is refused with the greatest of its degrees and the
+    /// greatest of the others.
+    pub fn from_terms(
+        alloc: Global,
+        alphabet: &Alphabet,
+        field: &Field,
+        terms: Vec<Term>,
+    ) -> Result<Poly, PolyFault>
+        requires residues { HasResidues field.now terms.items }
+        requires letters { UsesLetters (length alphabet.now.weights) terms.items }
+        requires degrees { All (λ t. degree_of alphabet.now.weights t.word < 2 ^ 64) terms.items }
+
+        ensures sum { IfOk result (λ f. IsSame field.now f terms.items) }
+        ensures form { IfOk result IsPolynomial }
+        ensures residues { IfOk result (HasResidues field.now) }
+        ensures letters { IfOk result (UsesLetters (length alphabet.now.weights)) }
+        ensures one_degree { IfOk result (HasOneDegree alphabet.now.weights) }
+
+        ensures mixed { (first other : ℕ) → IsErrOf result (PolyFault.MixedDegrees first other)
+            → HasTwoDegrees field.now alphabet.now.weights terms.items first other }
+    {
+        let terms = normal_terms(alloc, field, terms)?;
+        let first = greatest_degree(alphabet, terms.as_slice());
+        match next_degree(alphabet, terms.as_slice(), first) {
+            Some(other) => Err(PolyFault::MixedDegrees { first, other }),
+            None => Ok(Poly { terms }),
+        }
+    }
+
     /// None exactly for 0.
     pub fn lead(&self) -> Option<&Word>
         ensures { option_copied result ≡ lead_of self.now }
@@ -77,22 +103,73 @@ impl Poly {
         }
         Ok(Poly { terms })
     }
+
+    /// The multiple whose leading coefficient is 1.
+    pub fn monic(&self, alloc: Global, field: &Field) -> Result<Poly, NoMemory>
+        requires other { self.now ≢ [] }
+        requires residues { HasResidues field.now self.now }
+        ensures monic { IfOk result IsMonic }
+        ensures multiple { IfOk result (λ f. IsMultiple field.now f self.now) }
+        ensures words { IfOk result (λ f. map (λ t. t.word) f ≡ map (λ t. t.word) self.now) }
+        ensures form { IfOk result IsPolynomial }
+        ensures residues { IfOk result (HasResidues field.now) }
+    {
+        let a = field.inv(self.terms[0].coefficient);
+        let mut terms = Vec::with_capacity(alloc, self.terms.len())?;
+        for term in &self.terms {
+            let word = term.word.copy(alloc)?;
+            let coefficient = field.mul(a, term.coefficient);
+            terms.push(Term { word, coefficient })?;
+        }
+        Ok(Poly { terms })
+    }
+
+    /// The sum of this polynomial and a times the other, whatever their degrees.
+    pub fn add_scaled(
+        &self,
+        alloc: Global,
+        field: &Field,
+        a: u32,
+        other: &Poly,
+    ) -> Result<Poly, NoMemory>
+        requires a_residue { a < field.now }
+        requires residues { HasResidues field.now self.now }
+        requires other_residues { HasResidues field.now other.now }
+        ensures sum { IfOk result (λ f. IsSame field.now f (self.now ++ scaled a other.now)) }
+        ensures form { IfOk result IsPolynomial }
+        ensures residues { IfOk result (HasResidues field.now) }
+    {
+        Ok(Poly {
+            terms: merged(alloc, field, a, self.terms(), other.terms())?,
+        })
+    }
+
+    pub fn times(&self, alloc: Global, left: &[u8], right: &[u8]) -> Result<Poly, NoMemory>
+        requires { HasNoPrefix self.now }
+        ensures product { IfOk result (λ f. f ≡ product left.now self.now right.now) }
+        ensures form { IfOk result IsPolynomial }
+    {
+        let mut letters = Vec::new(alloc);
+        let mut terms = Vec::with_capacity(alloc, self.terms.len())?;
+        for term in &self.terms {
+            fill(&mut letters, left, term.word.letters(), right)?;
+            let word = Word::from_letters(alloc, letters.as_slice())?;
+            terms.push(Term {
+                word,
+                coefficient: term.coefficient,
+            })?;
+        }
+        Ok(Poly { terms })
+    }
 }
 
-/// The total of each word of the terms.
-fn totals_of(
-    alloc: Global,
-    field: &Field,
-    terms: Vec<Term>,
-) -> Result<BTreeMap<Word, u32>, NoMemory>
-    requires { HasResidues field.now terms.items }
-    ensures { IfOk result (λ m. (w : List ℕ) → unwrap_or (get letterwise_cmp m w) 0 ≡ total_at terms.items w % field.now) }
+/// Fills a buffer with three lists of letters.
+fn fill(letters: &mut Vec<u8>, left: &[u8], middle: &[u8], right: &[u8]) -> Result<(), NoMemory>
+    ensures { OnOk result (letters.new.items ≡ left.now ++ middle.now ++ right.now) }
 {
-    let mut totals = BTreeMap::new(alloc);
-    for term in terms {
-        let Term { word, coefficient } = term;
-        let total = totals.entry(word)?.or_insert(0);
-        *total = field.add(*total, coefficient);
-    }
-    Ok(totals)
+    letters.clear();
+    letters.extend_from_slice(left)?;
+    letters.extend_from_slice(middle)?;
+    letters.extend_from_slice(right)?;
+    Ok(())
 }

@@ -9,7 +9,7 @@ use Rattle.words.specs.Order.{letterwise_cmp}
 use Rattle.words.specs.OrderLaws.{letterwise_ties}
 use Rattle.free_poly.specs.Terms.{total_at}
 use Rattle.free_poly.proofs.Totals.{total_at-append}
-use Rattle.free_poly.proofs.poly.totals_of.Goals as goal
+use Rattle.free_poly.proofs.sum.totals_of.Goals as goal
 
 pub loop-term-preserved : goal.loop-term-preserved
 loop-term-preserved c = λ q.

@@ -1,0 +1,2 @@
+/// The laws of elements.
+pub fn element_laws() {}
