@@ -7,3 +7,4 @@ pub mod Entries
 pub mod Merges
 pub mod DegreeLemmas
 pub mod Multiples
+pub mod Elements

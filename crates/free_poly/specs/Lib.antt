@@ -1,3 +1,4 @@
 pub mod Terms
 pub mod Poly
 pub mod Degrees
+pub mod ElementLaws
