@@ -8,3 +8,4 @@ pub mod Merges
 pub mod DegreeLemmas
 pub mod Multiples
 pub mod Elements
+pub mod Lookups

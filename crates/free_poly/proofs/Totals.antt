@@ -61,11 +61,6 @@ total_at-found (t ∷ f) (suc i) d w h within e =
     let other : t.word ≢ w = λ is. h zero (suc i) d (omega arith) within (is ∙ sym e) in
     rw (not_here t.word w other, zero-add) (total_at-found f i d w (AreApart-tail t f h) (omega arith) e)
 
--- one term more that has another word
-pub total_at-more : (f : List Term) (i : ℕ) (d : Term) (w : List ℕ) → i < length f → total_at (take i f) w ≡ 0 → (get_or f i d).word ≢ w → total_at (take (i + 1) f) w ≡ 0
-total_at-more f i d w within none other =
-    rw (take_more f i d within, total_at-append, none, not_here (get_or f i d).word w other) refl
-
 pub total_at-scaled : (a : ℕ) (f : List Term) (w : List ℕ) → total_at (scaled a f) w ≡ a * total_at f w
 total_at-scaled a [] w = sym (mul-zero a)
 total_at-scaled a (t ∷ f) w =

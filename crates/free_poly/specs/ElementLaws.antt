@@ -21,8 +21,8 @@ ScalesCoefficients = (a : ℕ) (f : List Term) (w : List ℕ) → total_at (scal
 -- the coefficient of a product at u * w * v is that at w, and at all other words there is none
 abbrev pub MovesCoefficients : Type 0
 MovesCoefficients = (u : List ℕ) (f : List Term) (v : List ℕ) →
-  ((w : List ℕ) → total_at (product u f v) (u ++ w ++ v) ≡ total_at f w)
-  × ((x : List ℕ) → ((w : List ℕ) → u ++ w ++ v ≢ x) → total_at (product u f v) x ≡ 0)
+    ((w : List ℕ) → total_at (product u f v) (u ++ w ++ v) ≡ total_at f w)
+    × ((x : List ℕ) → ((w : List ℕ) → u ++ w ++ v ≢ x) → total_at (product u f v) x ≡ 0)
 
 -- where all words have one degree, the first is the greatest in the order of words
 abbrev pub LeadsWithGreatest : Type 0

@@ -2,11 +2,15 @@
 //! two polynomials with the same coefficients are one list.
 #![tactic(auto)]
 
+mod degrees;
 mod fault;
 mod laws;
+mod merge;
 mod poly;
 mod sum;
 mod term;
+#[cfg(test)]
+mod tests;
 
 pub use fault::PolyFault;
 pub use laws::element_laws;

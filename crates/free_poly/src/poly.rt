@@ -1,17 +1,21 @@
 ghost use Rattle.std.specs.Prelude.{◌≡◌, ◌≢◌, ◌^◌, ◌<◌, ◌++◌, [], ℕ, All, IfOk, IsErrOf, OnOk, length, map};
 ghost use Rattle.std.specs.Option.{option_copied};
+ghost use Rattle.words.specs.Order.{letterwise_cmp};
 ghost use Rattle.words.specs.Words.{degree_of};
 ghost use Rattle.free_poly.specs.Degrees.{HasTwoDegrees};
 ghost use Rattle.free_poly.specs.Poly.{IsMonic, IsMultiple, IsPolynomial, lead_of};
 ghost use Rattle.free_poly.specs.Terms.{HasNoPrefix, HasOneDegree, HasResidues, IsSame, UsesLetters, product, scaled, total_at};
 
+use crate::degrees::{greatest_degree, next_degree};
 use crate::fault::PolyFault;
-use crate::sum::{greatest_degree, merged, next_degree, normal_terms};
+use crate::merge::merged;
+use crate::sum::normal_terms;
 use crate::term::Term;
 use field_table::Field;
 use std::alloc::Global;
+use std::cmp::Ordering;
 use std::marker::Model;
-use words::{Alphabet, NoMemory, Word};
+use words::{Alphabet, NoMemory, Word, letterwise};
 
 /// A polynomial, which contracts see as its terms, falling letter by letter.
 #[derive(Debug, Drop)]
@@ -81,12 +85,14 @@ impl Poly {
     pub fn coefficient(&self, word: &[u8]) -> u32
         ensures { result ≡ total_at self.now word.now }
     {
-        for term in &self.terms {
-            if term.word.letters() == word {
-                return term.coefficient;
-            }
+        let terms = self.terms();
+        let standing = |term: &Term| -> Ordering
+            ensures { result ≡ letterwise_cmp word.entry.now term.now.word }
+        { letterwise(word, term.word.letters()) };
+        match terms.binary_search_by(standing) {
+            Ok(at) => terms[at].coefficient,
+            Err(_) => 0,
         }
-        0
     }
 
     /// Copies the terms.

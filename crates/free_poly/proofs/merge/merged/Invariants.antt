@@ -1,6 +1,6 @@
 use Rattle.std.proofs.Common.{◌+◌, length}
 use Rattle.free_poly.proofs.Merges.{Merges}
-use Rattle.free_poly.proofs.sum.merged.Given as goal
+use Rattle.free_poly.proofs.merge.merged.Given as goal
 
 abbrev pub invariant-loop-first_left : goal.invariant-loop-first_left
 invariant-loop-first_left l = Merges l.field l.a l.fn.first l.fn.second l.terms.items l.first_left l.second_left

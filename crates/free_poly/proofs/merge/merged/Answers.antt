@@ -4,7 +4,7 @@ use Rattle.std.proofs.lemmas.List.{nil_from_length}
 use Rattle.free_poly.specs.declared.term.Term.{Term}
 use Rattle.free_poly.specs.Poly.{firsts_cmp}
 use Rattle.free_poly.proofs.Merges.{Merges-all, step_both, step_first, step_second}
-use Rattle.free_poly.proofs.sum.merged.Goals as goal
+use Rattle.free_poly.proofs.merge.merged.Goals as goal
 
 pub loop-first_left-preserved-in-Greater : goal.loop-first_left-preserved-in-Greater
 loop-first_left-preserved-in-Greater c =
