@@ -1,8 +1,8 @@
 -- Words and degrees of elements, and of their sums and multiples.
-use Rattle.std.proofs.Common.{◌≡◌, ◌*◌, ℕ, List, [], ◌∷◌, ◌++◌, sym, ◌∙◌, All}
+use Rattle.std.proofs.Common.{◌≡◌, ◌*◌, ℕ, List, ◌++◌, sym, ◌∙◌, All}
 use Rattle.std.proofs.lemmas.List.Elements.{All-append, All-map}
 use Rattle.words.specs.Words.{IsOver, degree_of}
-use Rattle.words.specs.Order.{IsGreater, IsLetterwiseGreater}
+use Rattle.words.specs.Order.{IsLetterwiseGreater}
 use Rattle.words.proofs.Members.{AllPairs-first}
 use Rattle.words.proofs.OrderFacts.{agrees_in_degree, greater_says, has_no_prefixes}
 use Rattle.free_poly.specs.declared.term.Term.{Term}

@@ -1,5 +1,5 @@
 -- A word looked up in a polynomial, whose words fall.
-use Rattle.std.proofs.Common.{◌≡◌, ◌≢◌, ◌<◌, ◌≤◌, ℕ, List, length, get_or, refl, sym, ap, ◌∙◌, inl, inr, arith, All, subst}
+use Rattle.std.proofs.Common.{◌≡◌, ◌<◌, ◌≤◌, ℕ, List, length, get_or, sym, ap, ◌∙◌, inl, inr, arith, subst}
 use Rattle.std.specs.List.{HoldsAt}
 use Rattle.std.specs.List.Sorted.{IsNonDecreasingBy, IsPartitionPoint}
 use Rattle.std.specs.Ordering.{ordering_index, ordering_reverse}
@@ -12,7 +12,7 @@ use Rattle.free_poly.specs.declared.term.Term.{Term}
 use Rattle.free_poly.specs.Terms.{total_at}
 use Rattle.free_poly.specs.Poly.{IsPolynomial}
 use Rattle.free_poly.proofs.Entries.{less_says}
-use Rattle.free_poly.proofs.NormalForms.{IsCompared, compared, greater, letterwise-trans, same, smaller}
+use Rattle.free_poly.proofs.NormalForms.{compared, greater, letterwise-trans, same, smaller}
 use Rattle.free_poly.proofs.Totals.{AreApart-from_polynomial, letterwise-apart, total_at-absent, total_at-found}
 
 -- how the word stands to that of a term

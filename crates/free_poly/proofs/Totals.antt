@@ -1,8 +1,7 @@
 -- What a sum of terms has at a word.
-use Rattle.std.proofs.Common.{ap₂, ◌*◌, Bool, mul-zero, ◌≡◌, ◌≢◌, ◌+◌, ◌<◌, ℕ, suc, zero, true, false, cond, List, [], ◌∷◌, ◌++◌, length, take, get_or, refl, sym, ap, ◌∙◌, arith, bytes_eq, add_assoc, zero-add, add-zero, All, AllPairs}
+use Rattle.std.proofs.Common.{ap₂, ◌*◌, Bool, mul-zero, ◌≡◌, ◌≢◌, ◌+◌, ◌<◌, ℕ, suc, zero, true, false, cond, List, [], ◌∷◌, ◌++◌, length, get_or, refl, sym, ap, ◌∙◌, arith, bytes_eq, add_assoc, zero-add, add-zero, All, AllPairs}
 use Rattle.std.proofs.Math.Nat.{mul-add}
 use Rattle.std.proofs.lemmas.Bool.{false_from_ne_true}
-use Rattle.std.proofs.lemmas.List.{take_more}
 use Rattle.std.proofs.lemmas.List.Elements.{All-head, All-tail}
 use Rattle.std.proofs.lemmas.Slice.Eq.{bytes_eq-Decides}
 use Rattle.std.specs.Ordering.{nat_cmp, ordering_then}

@@ -1,5 +1,5 @@
 -- The laws of elements. An element of degree d is a polynomial with residues whose words are all words of degree d.
-use Rattle.std.specs.Prelude.{ℕ, ◌≡◌, ◌≢◌, ◌+◌, ◌*◌, List, ◌∷◌, ◌++◌, length, All}
+use Rattle.std.specs.Prelude.{ℕ, ◌≡◌, ◌≢◌, ◌+◌, ◌*◌, List, ◌∷◌, ◌++◌, All}
 use Rattle.words.specs.Words.{AreWeights, IsOver, degree_of}
 use Rattle.words.specs.Order.{IsGreater}
 use Rattle.free_poly.specs.declared.term.Term.{Term}

@@ -11,10 +11,7 @@ use words::{Alphabet, Word};
 
 /// The letters x and y, each of weight 1.
 fn alphabet(alloc: Global) -> Result<Alphabet, Fail> {
-    let mut names = Vec::new(alloc);
-    for name in [b'x', b'y'] {
-        names.push(vec![in alloc; name]?)?;
-    }
+    let names = vec![in alloc; vec![in alloc; b'x']?, vec![in alloc; b'y']?]?;
     let weights = vec![in alloc; 1, 1]?;
     Ok(Alphabet::weighted(alloc, names, weights)?)
 }
