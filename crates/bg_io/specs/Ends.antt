@@ -49,3 +49,8 @@ pub record LosesAtMost (before now : Option (List ℕ)) (most : ℕ) : Type 0 wh
   pub taken : List ℕ
   pub long : length taken ≤ most
   pub gone : Consumes before now taken
+
+-- an adapter as callers see it: what it stands over, and how many calls failed
+pub record Counted (R : Type 0) : Type 0 where
+  pub inner : R
+  pub faults : ℕ

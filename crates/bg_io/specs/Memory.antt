@@ -37,8 +37,3 @@ pub record Filling : Type 0 where
   pub held : List ℕ
   pub room : ℕ
   pub faults : ℕ
-
--- an adapter as callers see it: what it stands over, and how many calls failed
-pub record Counted (R : Type 0) : Type 0 where
-  pub inner : R
-  pub faults : ℕ

@@ -1,4 +1,4 @@
-ghost use Rattle.std.specs.Prelude.{◌≡◌, ◌<◌, if◌then◌else◌, ℕ, [], length, Ok, IfOk, OnErr, None, is_err};
+ghost use Rattle.std.specs.Prelude.{◌≡◌, ◌<◌, ◌≤◌, if◌then◌else◌, ℕ, [], length, Ok, IfOk, OnErr, None, is_err};
 ghost use Rattle.std.specs.Io.{ReadsAtMost};
 ghost use Rattle.std.specs.Io.KnownBytes.{ReadConsumes, WriteAppends};
 ghost use Rattle.bg_io.specs.Ends.{HasCause, HasRoom, RoomFalls, TakesSome, one_more};
@@ -15,7 +15,7 @@ pub struct StdSource<R> {
 }
 
 impl<R> Model for StdSource<R> {
-    ghost use Rattle.bg_io.specs.Memory.{Counted};
+    ghost use Rattle.bg_io.specs.Ends.{Counted};
 
     ghost Value = { Counted R };
 
@@ -63,7 +63,7 @@ pub struct StdSink<W> {
 }
 
 impl<W> Model for StdSink<W> {
-    ghost use Rattle.bg_io.specs.Memory.{Counted};
+    ghost use Rattle.bg_io.specs.Ends.{Counted};
 
     ghost Value = { Counted W };
 
@@ -102,5 +102,94 @@ impl<W: Write> Sink for StdSink<W> {
                 Err(Failed)
             }
         }
+    }
+}
+
+#[cfg(test)]
+mod tests {
+    use super::*;
+    use std::collections::VecDeque;
+    use std::io;
+    use std::io::ErrorKind;
+    use std::test::Fail;
+
+    // A stream that takes or gives one byte a call, fails at the second, and takes nothing at the third.
+    #[derive(Drop)]
+    struct Flaky {
+        calls: u32,
+    }
+
+    impl Flaky {
+        fn call(&mut self) -> io::Result<usize>
+            ensures { IfOk result (λ n. n ≤ 1) }
+        {
+            self.calls = self.calls.saturating_add(1);
+            match self.calls {
+                2 => Err(io::Error::from(ErrorKind::Other)),
+                3 => Ok(0),
+                _ => Ok(1),
+            }
+        }
+    }
+
+    impl Read for Flaky {
+        fn read(&mut self, piece: &mut [u8]) -> io::Result<usize> {
+            Ok(self.call()?.min(piece.len()))
+        }
+    }
+
+    impl Write for Flaky {
+        fn write(&mut self, piece: &[u8]) -> io::Result<usize> {
+            Ok(self.call()?.min(piece.len()))
+        }
+
+        fn flush(&mut self) -> io::Result<()> {
+            Ok(())
+        }
+    }
+
+    #[test]
+    fn streams_of_std_pass_their_bytes(rt: HostRuntime) -> Result<(), Fail> {
+        let text: &[u8] = b"abc";
+        let mut source = StdSource::new(text);
+        let mut piece = [0; 2];
+        for (count, bytes) in [(2, b"ab"), (1, b"cb"), (0, b"cb")] {
+            assert_eq!(rt;
+                source.read(&mut piece),
+                Ok(count),
+                "{count} bytes are given"
+            );
+            assert_eq!(rt; &piece, bytes, "{count} bytes were given");
+        }
+        let mut sink = StdSink::new(VecDeque::new(rt.alloc()));
+        assert_eq!(rt; sink.write(text), Ok(3));
+        assert_eq!(rt; sink.writer.into_iter().eq([b'a', b'b', b'c']), true);
+        assert_eq!(rt; sink.faults, 0);
+        Ok(())
+    }
+
+    #[test]
+    fn failed_calls_are_counted(rt: HostRuntime) {
+        let mut source = StdSource::new(Flaky { calls: 0 });
+        let mut sink = StdSink::new(Flaky { calls: 0 });
+        // A source at its end is not at fault, a sink that takes nothing is.
+        for (read, read_faults, wrote, write_faults) in [
+            (Ok(1), 0, Ok(1), 0),
+            (Err(Failed), 1, Err(Failed), 1),
+            (Ok(0), 1, Err(Failed), 2),
+            (Ok(1), 1, Ok(1), 2),
+        ] {
+            assert_eq!(rt; source.read(&mut [0; 2]), read);
+            assert_eq!(rt; source.faults, read_faults);
+            assert_eq!(rt; sink.write(b"ab"), wrote);
+            assert_eq!(rt; sink.faults, write_faults);
+        }
+        assert_eq!(rt; source.read(&mut []), Ok(0));
+        assert_eq!(rt; sink.write(b""), Ok(0));
+        assert_eq!(rt;
+            (source.reader.calls, sink.writer.calls),
+            (4, 4),
+            "an empty piece is passed to neither"
+        );
     }
 }

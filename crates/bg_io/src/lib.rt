@@ -8,6 +8,8 @@ mod ends;
 mod gate;
 mod memory;
 mod planned;
+#[cfg(test)]
+mod tests;
 mod transfer;
 
 pub use adapters::{StdSink, StdSource};
