@@ -11,7 +11,7 @@ use std::marker::Model;
 /// Want of memory.
 pub type NoMemory = AllocError;
 
-/// Bytes in memory, which no read of fails. Contracts see the bytes still to come.
+/// Bytes in memory, of which no read fails. Contracts see the bytes still to come.
 #[derive(Debug, Drop)]
 pub struct SteadySource {
     bytes: Vec<u8>,
