@@ -13,3 +13,5 @@ pub mod Shifted
 pub mod Differ
 pub mod Suffice
 pub mod OverlapSpan
+pub mod Counts
+pub mod Grown

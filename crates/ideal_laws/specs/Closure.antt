@@ -5,8 +5,8 @@ use Rattle.words.specs.Words.{OccursAt, degree_of}
 use Rattle.free_poly.specs.declared.term.Term.{Term}
 use Rattle.free_poly.specs.Terms.{product, scaled}
 use Rattle.free_poly.specs.Poly.{lead_of}
-use Rattle.ideal_laws.specs.declared.engine.LimitKind.{LimitKind}
-use Rattle.ideal_laws.specs.declared.engine.LimitKind.TheVariants.{PlainWords, Rows, Columns, Entries, Cells, Terms, NormalWords}
+use Rattle.ideal_laws.specs.declared.limits.LimitKind.{LimitKind}
+use Rattle.ideal_laws.specs.declared.limits.LimitKind.TheVariants.{PlainWords, Rows, Columns, Entries, Cells, Terms, NormalWords}
 
 -- The leading words of two elements are a * c and c * b, and a * c * b has degree d.
 pub record IsObstruction (weights : List ℕ) (G : List (List Term)) (d left right : ℕ) (a c b : List ℕ) : Type 0 where

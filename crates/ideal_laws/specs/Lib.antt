@@ -3,5 +3,7 @@ pub mod Basis
 pub mod Dimension
 pub mod Laws
 pub mod Engine
+pub mod Kept
+pub mod Limits
 pub mod Closure
 pub mod Overlaps

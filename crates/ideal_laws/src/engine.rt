@@ -6,24 +6,13 @@ ghost use Rattle.ideal_laws.specs.Engine.{Elements, IsReducedUpto};
 
 use crate::account::Account;
 use crate::basis::Basis;
+use crate::limits::LimitKind;
 use crate::presentation::Presentation;
 use field_table::Field;
 use free_poly::Poly;
 use std::alloc::Global;
 use std::thread::Threads;
 use words::Items;
-
-/// A kind of limit.
-#[derive(Debug, Clone, Copy, PartialEq, Eq)]
-pub enum LimitKind {
-    PlainWords,
-    Rows,
-    Columns,
-    Entries,
-    Cells,
-    Terms,
-    NormalWords,
-}
 
 /// Why a degree was not computed.
 #[derive(Debug, Drop)]

@@ -5,10 +5,12 @@ mod account;
 mod basis;
 mod engine;
 mod laws;
+mod limits;
 mod presentation;
 
 pub use account::{Account, Answer, Call};
 pub use basis::Basis;
-pub use engine::{DegreeEngine, DegreeReport, EngineFault, LimitKind, advance};
+pub use engine::{DegreeEngine, DegreeReport, EngineFault, advance};
 pub use laws::{basis_laws, overlaps_law};
+pub use limits::{LimitKind, Limits};
 pub use presentation::Presentation;
