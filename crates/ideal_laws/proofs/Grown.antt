@@ -180,3 +180,10 @@ stored_none weights ends few are size none = record {
   size = size;
   counted = λ d le. ap (λ (n : ℕ). get_or ends n 0) (let z : d ≡ 0 = omega (arith, le) in z) ∙ none;
 }
+
+-- the same of a basis that has grown so
+pub reduced_upto_grown : (p : ℕ) (relations : List (List Term)) (old new : Elements) (added : List (List Term)) → IsKept old → IsReducedUpto p relations old → length added ≤ 16777216
+    → IsReducedBasis p old.weights relations (old.done + 1) added → new.weights ≡ old.weights → new.done ≡ old.done + 1 → new.elements ≡ old.elements ++ added → IsReducedUpto p relations new
+reduced_upto_grown p relations old new added kept upto few h w d e =
+    let is : grown old added ≡ new = λ i. record { weights = sym w i; done = sym d i; elements = sym e i } in
+    subst (IsReducedUpto p relations) is (reduced_grown old added (next_from_reduced p relations old added few h) p relations kept upto h)

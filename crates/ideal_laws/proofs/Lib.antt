@@ -15,3 +15,4 @@ pub mod Suffice
 pub mod OverlapSpan
 pub mod Counts
 pub mod Grown
+pub mod Refused

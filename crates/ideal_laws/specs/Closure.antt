@@ -1,12 +1,14 @@
--- Obstructions, reducers, closures, and the quantities of a degree, over a list of elements.
-use Rattle.std.specs.Prelude.{ℕ, ◌≡◌, ◌≢◌, ◌⊎◌, ◌+◌, ◌-◌, ◌<◌, ◌≤◌, ◌^◌, ◌↔◌, min, List, [], ◌∷◌, ◌++◌, AllPairs, Contains, map, length, take, drop, slice_get, Some}
+-- Obstructions, reducers and closures over a list of elements.
+use Rattle.std.specs.Prelude.{ℕ, ◌≡◌, ◌≢◌, ◌⊎◌, ◌+◌, ◌-◌, ◌<◌, ◌≤◌, ◌↔◌, List, [], ◌++◌, AllPairs, Contains, Option, Some, None, map, length, take, drop, slice_get}
 use Rattle.words.specs.Order.{IsLetterwiseGreater}
-use Rattle.words.specs.Words.{OccursAt, degree_of}
+use Rattle.words.specs.Words.{IsFactor, OccursAt, degree_of}
 use Rattle.free_poly.specs.declared.term.Term.{Term}
 use Rattle.free_poly.specs.Terms.{product, scaled}
 use Rattle.free_poly.specs.Poly.{lead_of}
-use Rattle.ideal_laws.specs.declared.limits.LimitKind.{LimitKind}
-use Rattle.ideal_laws.specs.declared.limits.LimitKind.TheVariants.{PlainWords, Rows, Columns, Entries, Cells, Terms, NormalWords}
+
+-- no leading word is a factor of the leading word of an element at another place
+abbrev pub IsFactorFree : List (List Term) → Type 0
+IsFactorFree G = (i j : ℕ) (g h : List Term) (v w : List ℕ) → slice_get G i ≡ Some g → slice_get G j ≡ Some h → lead_of g ≡ Some v → lead_of h ≡ Some w → IsFactor v w → i ≡ j
 
 -- The leading words of two elements are a * c and c * b, and a * c * b has degree d.
 pub record IsObstruction (weights : List ℕ) (G : List (List Term)) (d left right : ℕ) (a c b : List ℕ) : Type 0 where
@@ -25,6 +27,26 @@ pub record IsObstruction (weights : List ℕ) (G : List (List Term)) (d left rig
 abbrev pub obstruction_row : ℕ → List Term → List ℕ → List ℕ → List Term → List Term
 obstruction_row p g b a h = product [] g b ++ scaled (p - 1) (product a h [])
 
+-- two places with leading words that overlap, and the word that both stand in, in its three parts
+pub record Overlap : Type 0 where
+  pub left : ℕ
+  pub right : ℕ
+  pub before : List ℕ
+  pub shared : List ℕ
+  pub behind : List ℕ
+
+abbrev pub overlap_word : Overlap → List ℕ
+overlap_word o = o.before ++ o.shared ++ o.behind
+
+-- a greater word stands first, and of two overlaps with one word the one with the lesser left element
+abbrev pub OverlapsBefore : Overlap → Overlap → Type 0
+OverlapsBefore o q = IsLetterwiseGreater (overlap_word o) (overlap_word q) ⊎ ((overlap_word o ≡ overlap_word q) × (o.left < q.left))
+
+-- exactly the obstructions of degree d, in their order
+pub record AreObstructions (weights : List ℕ) (G : List (List Term)) (d : ℕ) (overlaps : List Overlap) : Type 0 where
+  pub exactly : (o : Overlap) → Contains overlaps o ↔ IsObstruction weights G d o.left o.right o.before o.shared o.behind
+  pub ordered : AllPairs OverlapsBefore overlaps
+
 -- u * g * v, where the leading word of g stands in w at the least possible place
 pub record IsReducer (G : List (List Term)) (w : List ℕ) (reducer : List Term) : Type 0 where
   pub element : List Term
@@ -40,6 +62,11 @@ pub record IsReducer (G : List (List Term)) (w : List ℕ) (reducer : List Term)
 abbrev pub IsNormal : List (List Term) → List ℕ → Type 0
 IsNormal G w = (g : List Term) (v : List ℕ) (k : ℕ) → Contains G g → lead_of g ≡ Some v → OccursAt v w k → ⊥
 
+-- the reducer of a word, or none where the word is normal
+abbrev pub HasReducer : List (List Term) → List ℕ → Option (List Term) → Type 0
+HasReducer G w None = IsNormal G w
+HasReducer G w (Some reducer) = IsReducer G w reducer
+
 -- the least set with these words that has, with each word, the words of its reducer
 pub data IsInClosure (G : List (List Term)) (words : List (List ℕ)) : List ℕ → Type 0 where
   given : (w : List ℕ) → Contains words w → IsInClosure G words w
@@ -49,24 +76,3 @@ pub data IsInClosure (G : List (List Term)) (words : List (List ℕ)) : List ℕ
 pub record AreColumns (G : List (List Term)) (words columns : List (List ℕ)) : Type 0 where
   pub exactly : (w : List ℕ) → Contains columns w ↔ IsInClosure G words w
   pub falling : AllPairs IsLetterwiseGreater columns
-
--- limits with their numbers, and what each quantity is
-abbrev pub Quantities : Type 1
-Quantities = LimitKind → ℕ → Type 0
-
--- the kept value of a quantity that passes a limit
-abbrev pub kept_value : LimitKind → ℕ → ℕ → ℕ
-kept_value PlainWords limit quantity = min quantity (2 ^ 64 - 1)
-kept_value Rows limit quantity = limit + 1
-kept_value Columns limit quantity = limit + 1
-kept_value Entries limit quantity = limit + 1
-kept_value Cells limit quantity = quantity
-kept_value Terms limit quantity = min quantity (2 ^ 64 - 1)
-kept_value NormalWords limit quantity = limit + 1
-
--- this kind is the first, in the order of the limits, whose quantity passes its number
-abbrev pub IsFirstPassing : Quantities → List (LimitKind × ℕ) → LimitKind → ℕ → Type 0
-IsFirstPassing Q [] kind value = ⊥
-IsFirstPassing Q (l ∷ ls) kind value =
-    ((q : ℕ) × Q l.0 q × (l.1 < q) × (kind ≡ l.0) × (value ≡ kept_value l.0 l.1 q))
-    ⊎ ((q : ℕ) × Q l.0 q × (q ≤ l.1) × IsFirstPassing Q ls kind value)

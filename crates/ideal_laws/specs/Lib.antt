@@ -4,6 +4,7 @@ pub mod Dimension
 pub mod Laws
 pub mod Engine
 pub mod Kept
-pub mod Limits
 pub mod Closure
 pub mod Overlaps
+pub mod Limits
+pub mod Quantities

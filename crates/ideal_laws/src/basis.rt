@@ -39,6 +39,7 @@ impl Basis {
         ensures weights { result.weights ≡ alphabet.now.weights }
         ensures done { result.done ≡ 0 }
         ensures none { result.elements ≡ [] }
+        ensures kept { IsKept result }
     {
         Basis {
             weights: weights_of(alphabet),

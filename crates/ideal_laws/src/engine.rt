@@ -1,8 +1,12 @@
-ghost use Rattle.std.specs.Prelude.{◌≡◌, ◌+◌, ◌≤◌, ◌<◌, ◌↔◌, ℕ, List, IfOk, OnOk, MatchResult};
-ghost use Rattle.ideal_laws.specs.declared.presentation.Presentation.{Presentation};
+ghost use Rattle.std.specs.Prelude.{◌≡◌, ◌+◌, ◌++◌, ◌≤◌, ◌<◌, ◌↔◌, ℕ, List, All, Err, IfOk, OnErr, OnOk, length};
+ghost use Rattle.free_poly.specs.declared.term.Term.{Term};
+ghost use Rattle.free_poly.specs.Terms.{HasResidues};
 ghost use Rattle.ideal_laws.specs.declared.account.Account.{Account};
+ghost use Rattle.ideal_laws.specs.declared.limits.LimitKind.{LimitKind};
+ghost use Rattle.ideal_laws.specs.declared.presentation.Presentation.{Presentation};
 ghost use Rattle.ideal_laws.specs.Basis.{IsReducedBasis};
 ghost use Rattle.ideal_laws.specs.Engine.{Elements, IsReducedUpto};
+ghost use Rattle.ideal_laws.specs.Quantities.{IsFirstPassing, IsQuantity, NonePasses};
 
 use crate::account::Account;
 use crate::basis::Basis;
@@ -10,7 +14,7 @@ use crate::limits::LimitKind;
 use crate::presentation::Presentation;
 use field_table::Field;
 use free_poly::Poly;
-use std::alloc::Global;
+use std::alloc::{AllocError, AllocFailed, Global};
 use std::thread::Threads;
 use words::Items;
 
@@ -25,7 +29,27 @@ pub enum EngineFault {
     NoMemory,
 }
 
-/// The elements of a degree, with what the engine tells of it.
+impl From<AllocError> for EngineFault {
+    ghost use Rattle.ideal_laws.specs.declared.engine.EngineFault.TheVariants.{NoMemory};
+
+    ghost from_gives = { λ _ fault. fault ≡ NoMemory };
+
+    fn from(_error: AllocError) -> EngineFault {
+        EngineFault::NoMemory
+    }
+}
+
+impl<T: Drop> From<AllocFailed<T>> for EngineFault {
+    ghost use Rattle.ideal_laws.specs.declared.engine.EngineFault.TheVariants.{NoMemory};
+
+    ghost from_gives = { λ _ fault. fault ≡ NoMemory };
+
+    fn from(_error: AllocFailed<T>) -> EngineFault {
+        EngineFault::NoMemory
+    }
+}
+
+/// The elements of a degree, by falling leading word, with what the engine tells of the degree.
 #[derive(Debug, Drop)]
 pub struct DegreeReport {
     pub elements: Items<Poly>,
@@ -34,10 +58,13 @@ pub struct DegreeReport {
 
 /// An engine that computes the reduced basis of a degree from those below.
 pub trait DegreeEngine {
-    ghost kinds: { Self → List ℕ };
+    /// The limits that the engine has, with their numbers, in the order in which it asks them.
+    ghost kinds: { Self → List (LimitKind × ℕ) };
 
+    /// The accounts that the engine may give, for a modulus, a presentation, the basis below and a degree.
     ghost may_account: { Self → ℕ → Presentation → Elements → ℕ → Account → Type 0 };
 
+    /// Want of memory may stand in the place of any answer.
     fn degree<R: Threads + Sync>(
         &mut self,
         rt: &R,
@@ -51,31 +78,16 @@ pub trait DegreeEngine {
         requires small { d ≤ 64 }
         requires weights { below.now.weights ≡ presentation.now.alphabet.weights }
         requires reduced { IsReducedUpto field.now presentation.now.relations below.now }
+        requires residues { All (HasResidues field.now) presentation.now.relations }
+
         ensures elements { IfOk result (λ report. IsReducedBasis field.now presentation.now.alphabet.weights presentation.now.relations d report.elements) }
+        ensures few { IfOk result (λ report. length report.elements ≤ 16777216) }
         ensures account { IfOk result (λ report. may_account self.old field.now presentation.now below.now d report.account) }
+        ensures within { OnOk result (NonePasses (IsQuantity field.now presentation.now.alphabet.weights presentation.now.relations below.now d) (kinds self.old)) }
+
+        ensures limit { (kind : LimitKind) (degree value : ℕ) → result ≡ Err (EngineFault.Limit kind degree value)
+            → (degree ≡ d) × IsFirstPassing (IsQuantity field.now presentation.now.alphabet.weights presentation.now.relations below.now d) (kinds self.old) kind value }
+
         ensures kinds { kinds self.new ≡ kinds self.old }
         ensures accounts { (p : ℕ) (rs : Presentation) (b : Elements) (e : ℕ) (a : Account) → may_account self.new p rs b e a ↔ may_account self.old p rs b e a };
-}
-
-/// Computes the next degree.
-pub fn advance<R: Threads + Sync, E: DegreeEngine>(
-    rt: &R,
-    alloc: Global,
-    engine: &mut E,
-    field: &Field,
-    presentation: &Presentation,
-    basis: &mut Basis,
-) -> Result<Account, EngineFault>
-    requires small { basis.old.done < 64 }
-    requires weights { basis.old.weights ≡ presentation.now.alphabet.weights }
-    requires reduced { IsReducedUpto field.now presentation.now.relations basis.old }
-    ensures account { IfOk result (E.may_account engine.old field.now presentation.now basis.old (basis.old.done + 1)) }
-{
-    let d = basis.done() + 1;
-    let report = engine.degree(rt, alloc, field, presentation, basis, d)?;
-    let DegreeReport {
-        elements: _,
-        account,
-    } = report;
-    Ok(account)
 }

@@ -3,6 +3,7 @@
 
 mod account;
 mod basis;
+mod degrees;
 mod engine;
 mod laws;
 mod limits;
@@ -10,7 +11,8 @@ mod presentation;
 
 pub use account::{Account, Answer, Call};
 pub use basis::Basis;
-pub use engine::{DegreeEngine, DegreeReport, EngineFault, advance};
+pub use degrees::{advance, run};
+pub use engine::{DegreeEngine, DegreeReport, EngineFault};
 pub use laws::{basis_laws, overlaps_law};
 pub use limits::{LimitKind, Limits};
 pub use presentation::Presentation;

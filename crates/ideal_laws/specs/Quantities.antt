@@ -1,0 +1,123 @@
+-- The quantities of a degree, and which of them passes its limit first.
+use Rattle.std.specs.Prelude.{ℕ, ◌≡◌, ◌+◌, ◌*◌, ◌-◌, ◌^◌, ◌<◌, ◌≤◌, ◌↔◌, ◌⊎◌, min, List, [], ◌∷◌, ◌++◌, AllPairs, Contains, Option, Some, None, map, length}
+use Rattle.std.specs.List.{AllZip, flat_map}
+use Rattle.words.specs.Order.{IsLetterwiseGreater}
+use Rattle.words.specs.Words.{words_of_degree}
+use Rattle.free_poly.specs.declared.term.Term.{Term}
+use Rattle.free_poly.specs.Terms.{HasResidues, IsSame}
+use Rattle.free_poly.specs.Poly.{IsPolynomial}
+use Rattle.ideal_laws.specs.declared.limits.LimitKind.{LimitKind}
+use Rattle.ideal_laws.specs.declared.limits.LimitKind.TheVariants.{PlainWords, Rows, Columns, Entries, Cells, Terms, NormalWords}
+use Rattle.ideal_laws.specs.Basis.{IsReducedBasis}
+use Rattle.ideal_laws.specs.Closure.{AreColumns, AreObstructions, HasReducer, IsNormal, IsObstruction, Overlap, obstruction_row}
+use Rattle.ideal_laws.specs.Engine.{Elements, IsReducedUpto, of_degree}
+use Rattle.ideal_laws.specs.Kept.{IsKept}
+
+-- the words of all terms
+abbrev pub words_of : List (List Term) → List (List ℕ)
+words_of fs = map (λ t. t.word) (flat_map (λ f. f) fs)
+
+-- how many terms all of them have
+abbrev pub terms_in : List (List Term) → ℕ
+terms_in fs = length (flat_map (λ f. f) fs)
+
+-- the polynomial of an obstruction
+pub record IsRowOf (p : ℕ) (weights : List ℕ) (G : List (List Term)) (d : ℕ) (o : Overlap) (row : List Term) : Type 0 where
+  pub obstruction : IsObstruction weights G d o.left o.right o.before o.shared o.behind
+  pub form : IsPolynomial row
+  pub residues : HasResidues p row
+  pub same : IsSame p row (obstruction_row p obstruction.first o.behind o.before obstruction.second)
+
+-- the relations of degree d, and then the rows of its obstructions
+pub record AreRows (p : ℕ) (weights : List ℕ) (relations G : List (List Term)) (d : ℕ) (rows : List (List Term)) : Type 0 where
+  pub overlaps : List Overlap
+  pub overlap_rows : List (List Term)
+  pub are_obstructions : AreObstructions weights G d overlaps
+  pub each : AllZip (IsRowOf p weights G d) overlaps overlap_rows
+  pub joined : rows ≡ of_degree weights d relations ++ overlap_rows
+
+-- the columns of the rows, each with its reducer or none
+pub record AreClosed (p : ℕ) (weights : List ℕ) (relations G : List (List Term)) (d : ℕ) (rows : List (List Term)) (columns : List (List ℕ)) (reducers : List (Option (List Term))) : Type 0 where
+  pub are_rows : AreRows p weights relations G d rows
+  pub are_columns : AreColumns G (words_of rows) columns
+  pub are_reducers : AllZip (HasReducer G) columns reducers
+
+-- the reducers that are there
+abbrev pub reducers_in : List (Option (List Term)) → List (List Term)
+reducers_in [] = []
+reducers_in (None ∷ rs) = reducers_in rs
+reducers_in (Some r ∷ rs) = r ∷ reducers_in rs
+
+-- how many columns have none
+abbrev pub contested_in : List (Option (List Term)) → ℕ
+contested_in [] = 0
+contested_in (None ∷ rs) = 1 + contested_in rs
+contested_in (Some r ∷ rs) = contested_in rs
+
+-- exactly the normal words of a degree
+pub record AreNormalWords (weights : List ℕ) (G : List (List Term)) (d : ℕ) (words : List (List ℕ)) : Type 0 where
+  pub exactly : (w : List ℕ) → Contains words w ↔ (Contains (words_of_degree weights d) w × IsNormal G w)
+  pub falling : AllPairs IsLetterwiseGreater words
+
+-- what each quantity of degree d is, over the reduced basis of the degrees below
+abbrev pub IsQuantity : ℕ → List ℕ → List (List Term) → Elements → ℕ → LimitKind → ℕ → Type 0
+IsQuantity p weights relations below d PlainWords q = q ≡ length (words_of_degree weights d)
+IsQuantity p weights relations below d Rows q = (overlaps : List Overlap) × AreObstructions weights below.elements d overlaps × (q ≡ length (of_degree weights d relations) + length overlaps)
+IsQuantity p weights relations below d Columns q =
+    (rows : List (List Term)) × (columns : List (List ℕ)) × AreRows p weights relations below.elements d rows × AreColumns below.elements (words_of rows) columns × (q ≡ length columns)
+IsQuantity p weights relations below d Entries q =
+    (rows : List (List Term)) × (columns : List (List ℕ)) × (reducers : List (Option (List Term))) × AreClosed p weights relations below.elements d rows columns reducers
+    × (q ≡ terms_in rows + terms_in (reducers_in reducers))
+IsQuantity p weights relations below d Cells q =
+    (rows : List (List Term)) × (columns : List (List ℕ)) × (reducers : List (Option (List Term))) × AreClosed p weights relations below.elements d rows columns reducers
+    × (q ≡ length rows * contested_in reducers)
+IsQuantity p weights relations below d Terms q = (basis : List (List Term)) × IsReducedBasis p weights relations d basis × (q ≡ terms_in below.elements + terms_in basis)
+IsQuantity p weights relations below d NormalWords q =
+    (basis : List (List Term)) × (words : List (List ℕ)) × IsReducedBasis p weights relations d basis × AreNormalWords weights (below.elements ++ basis) d words × (q ≡ length words)
+
+-- what each quantity is
+abbrev pub Quantities : Type 1
+Quantities = LimitKind → ℕ → Type 0
+
+-- the kept value of a quantity that passes a limit
+abbrev pub kept_value : LimitKind → ℕ → ℕ → ℕ
+kept_value PlainWords limit quantity = min quantity (2 ^ 64 - 1)
+kept_value Rows limit quantity = limit + 1
+kept_value Columns limit quantity = limit + 1
+kept_value Entries limit quantity = limit + 1
+kept_value Cells limit quantity = quantity
+kept_value Terms limit quantity = min quantity (2 ^ 64 - 1)
+kept_value NormalWords limit quantity = limit + 1
+
+-- this kind is the first, in the order of the limits, whose quantity passes its number
+abbrev pub IsFirstPassing : Quantities → List (LimitKind × ℕ) → LimitKind → ℕ → Type 0
+IsFirstPassing Q [] kind value = ⊥
+IsFirstPassing Q (l ∷ ls) kind value =
+    ((q : ℕ) × Q l.0 q × (l.1 < q) × (kind ≡ l.0) × (value ≡ kept_value l.0 l.1 q))
+    ⊎ ((q : ℕ) × Q l.0 q × (q ≤ l.1) × IsFirstPassing Q ls kind value)
+
+-- each quantity is at most its number
+abbrev pub NonePasses : Quantities → List (LimitKind × ℕ) → Type 0
+NonePasses Q [] = Unit {0}
+NonePasses Q (l ∷ ls) = ((q : ℕ) × Q l.0 q × (q ≤ l.1)) × NonePasses Q ls
+
+-- the reduced basis of the degrees below d, as a basis keeps it
+pub record IsBelow (p : ℕ) (weights : List ℕ) (relations : List (List Term)) (d : ℕ) (below : Elements) : Type 0 where
+  pub kept : IsKept below
+  pub next : below.done + 1 ≡ d
+  pub same_weights : below.weights ≡ weights
+  pub reduced : IsReducedUpto p relations below
+
+-- in each degree from 1 to d none passes
+abbrev pub NonePassesUpto : ℕ → List ℕ → List (List Term) → List (LimitKind × ℕ) → ℕ → Type 0
+NonePassesUpto p weights relations limits d =
+    (e : ℕ) → 0 < e → e ≤ d → (below : Elements) × IsBelow p weights relations e below × NonePasses (IsQuantity p weights relations below e) limits
+
+-- the first degree up to a bound in which a quantity passes, and the first one there
+pub record IsFirstRefused (p : ℕ) (weights : List ℕ) (relations : List (List Term)) (limits : List (LimitKind × ℕ)) (bound : ℕ) (kind : LimitKind) (d value : ℕ) : Type 0 where
+  pub from : 0 < d
+  pub upto : d ≤ bound
+  pub before : NonePassesUpto p weights relations limits (d - 1)
+  pub below : Elements
+  pub is_below : IsBelow p weights relations d below
+  pub passes : IsFirstPassing (IsQuantity p weights relations below d) limits kind value
