@@ -16,3 +16,4 @@ pub mod OverlapSpan
 pub mod Counts
 pub mod Grown
 pub mod Refused
+pub mod Lower

@@ -31,14 +31,14 @@ use Rattle.ideal_laws.proofs.Search.{AllPairs-kept, in_kept, kept, kept-says, sa
 use Rattle.ideal_laws.proofs.Vectors.{span_from_ideal}
 use Rattle.ideal_laws.proofs.Vectors as vectors
 
-some_same : (a b : List ℕ) → Some a ≡ Some b → a ≡ b
+pub some_same : (a b : List ℕ) → Some a ≡ Some b → a ≡ b
 some_same a b e = cc e
 
 -- the leads of two elements cannot stand in the order both ways
-greater_strict : (f : List Term) → HasGreaterLead f f → ⊥
+pub greater_strict : (f : List Term) → HasGreaterLead f f → ⊥
 greater_strict f h = letterwise-apart h.of_f h.of_g h.greater (some_same h.of_f h.of_g (sym h.leads_f ∙ h.leads_g))
 
-greater_trans : (f g h : List Term) → HasGreaterLead f g → HasGreaterLead g h → HasGreaterLead f h
+pub greater_trans : (f g h : List Term) → HasGreaterLead f g → HasGreaterLead g h → HasGreaterLead f h
 greater_trans f g h a b = record {
   of_f = a.of_f;
   of_g = b.of_g;
@@ -81,7 +81,7 @@ other_total (t ∷ f) w L e h x l ne =
       | inr n ↦ λ there. All-contains (λ s. L s.word → ⊥) f s h n (subst L (sym there) l)
     ]))
 
-monic-led : (f : List Term) → IsMonic f → (w : List ℕ) × (lead_of f ≡ Some w)
+pub monic-led : (f : List Term) → IsMonic f → (w : List ℕ) × (lead_of f ≡ Some w)
 monic-led [] m = absurd m
 monic-led (t ∷ f) m = (t.word, refl)
 

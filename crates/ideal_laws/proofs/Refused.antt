@@ -4,8 +4,8 @@ use Rattle.std.proofs.lemmas.Bool.{cases_lt}
 use Rattle.free_poly.specs.declared.term.Term.{Term}
 use Rattle.ideal_laws.specs.declared.limits.LimitKind.{LimitKind}
 use Rattle.ideal_laws.specs.Engine.{Elements, IsReducedUpto}
-use Rattle.ideal_laws.specs.Kept.{IsKept}
-use Rattle.ideal_laws.specs.Quantities.{IsBelow, IsFirstPassing, IsFirstRefused, IsQuantity, NonePasses, NonePassesUpto}
+use Rattle.ideal_laws.specs.Kept.{IsBelow, IsKept}
+use Rattle.ideal_laws.specs.Quantities.{IsFirstPassing, IsFirstRefused, IsQuantity, NonePasses, NonePassesUpto}
 
 module _ (p : ℕ) (weights : List ℕ) (relations : List (List Term)) (limits : List (LimitKind × ℕ)) (below : Elements) (kept : IsKept below) (same : below.weights ≡ weights) (reduced : IsReducedUpto p relations below) where
   is_below : IsBelow p weights relations (below.done + 1) below

@@ -1,11 +1,11 @@
 -- What every basis keeps.
-use Rattle.std.specs.Prelude.{ℕ, ◌≡◌, ◌⊎◌, ◌*◌, ◌<◌, ◌≤◌, List, [], ◌∷◌, All, AllPairs, length, leb, ltb, count_by, slice_index}
+use Rattle.std.specs.Prelude.{ℕ, ◌≡◌, ◌⊎◌, ◌+◌, ◌*◌, ◌<◌, ◌≤◌, List, [], ◌∷◌, All, AllPairs, length, leb, ltb, count_by, slice_index}
 use Rattle.words.specs.Words.{AreWeights, degree_of}
 use Rattle.free_poly.specs.declared.term.Term.{Term}
 use Rattle.free_poly.specs.Terms.{HasDegree, UsesLetters}
 use Rattle.free_poly.specs.Poly.{IsMonic}
 use Rattle.ideal_laws.specs.Basis.{HasGreaterLead}
-use Rattle.ideal_laws.specs.Engine.{Elements}
+use Rattle.ideal_laws.specs.Engine.{Elements, IsReducedUpto}
 
 -- the degree of the leading word, and 0 for 0
 abbrev pub lead_degree : List ℕ → List Term → ℕ
@@ -46,3 +46,10 @@ pub record IsStored (basis : Elements) (ends : List ℕ) : Type 0 where
   pub kept : IsKept basis
   pub size : length ends ≡ 65
   pub counted : (d : ℕ) → d ≤ basis.done → slice_index ends d ≡ count_upto basis.weights d basis.elements
+
+-- the reduced basis of the degrees below d, as a basis keeps it
+pub record IsBelow (p : ℕ) (weights : List ℕ) (relations : List (List Term)) (d : ℕ) (below : Elements) : Type 0 where
+  pub kept : IsKept below
+  pub next : below.done + 1 ≡ d
+  pub same_weights : below.weights ≡ weights
+  pub reduced : IsReducedUpto p relations below

@@ -5,12 +5,22 @@ use Rattle.free_poly.specs.declared.term.Term.{Term}
 use Rattle.free_poly.specs.Terms.{HasDegree}
 use Rattle.ideal_laws.specs.Ideal.{IsElement, IsInIdeal}
 use Rattle.ideal_laws.specs.Basis.{IsReduced}
-use Rattle.ideal_laws.specs.Closure.{IsObstruction, IsReducer, obstruction_row}
+use Rattle.ideal_laws.specs.Closure.{IsFactorFree, IsObstruction, IsReducer, obstruction_row}
+use Rattle.ideal_laws.specs.Engine.{Elements}
+use Rattle.ideal_laws.specs.Kept.{IsBelow}
 use Rattle.ideal_laws.specs.Laws.{IsSetting, IsSpanned}
 
 -- a list of exactly the reduced elements of degrees below d
 abbrev pub AreLower : ℕ → List ℕ → List (List Term) → ℕ → List (List Term) → Type 0
 AreLower p weights relations d G = (g : List Term) → Contains G g ↔ ((e : ℕ) × (e < d) × IsReduced p weights relations e g)
+
+-- a basis with the reduced basis of each degree below d lists these
+abbrev pub ListsLower : Type 0
+ListsLower = (p : ℕ) (weights : List ℕ) (relations : List (List Term)) → IsSetting p weights relations → (d : ℕ) (below : Elements) → IsBelow p weights relations d below → AreLower p weights relations d below.elements
+
+-- and none of its leading words is a factor of another
+abbrev pub ListsFactorFree : Type 0
+ListsFactorFree = (p : ℕ) (weights : List ℕ) (relations : List (List Term)) → IsSetting p weights relations → (d : ℕ) (below : Elements) → IsBelow p weights relations d below → IsFactorFree below.elements
 
 -- the reducer of a word of degree d, a relation of degree d, or the row of an obstruction of degree d
 pub data IsGenerator (p : ℕ) (weights : List ℕ) (relations G : List (List Term)) (d : ℕ) : List Term → Type 0 where

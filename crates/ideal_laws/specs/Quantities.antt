@@ -10,8 +10,8 @@ use Rattle.ideal_laws.specs.declared.limits.LimitKind.{LimitKind}
 use Rattle.ideal_laws.specs.declared.limits.LimitKind.TheVariants.{PlainWords, Rows, Columns, Entries, Cells, Terms, NormalWords}
 use Rattle.ideal_laws.specs.Basis.{IsReducedBasis}
 use Rattle.ideal_laws.specs.Closure.{AreColumns, AreObstructions, HasReducer, IsNormal, IsObstruction, Overlap, obstruction_row}
-use Rattle.ideal_laws.specs.Engine.{Elements, IsReducedUpto, of_degree}
-use Rattle.ideal_laws.specs.Kept.{IsKept}
+use Rattle.ideal_laws.specs.Engine.{Elements, of_degree}
+use Rattle.ideal_laws.specs.Kept.{IsBelow}
 
 -- the words of all terms
 abbrev pub words_of : List (List Term) → List (List ℕ)
@@ -100,13 +100,6 @@ IsFirstPassing Q (l ∷ ls) kind value =
 abbrev pub NonePasses : Quantities → List (LimitKind × ℕ) → Type 0
 NonePasses Q [] = Unit {0}
 NonePasses Q (l ∷ ls) = ((q : ℕ) × Q l.0 q × (q ≤ l.1)) × NonePasses Q ls
-
--- the reduced basis of the degrees below d, as a basis keeps it
-pub record IsBelow (p : ℕ) (weights : List ℕ) (relations : List (List Term)) (d : ℕ) (below : Elements) : Type 0 where
-  pub kept : IsKept below
-  pub next : below.done + 1 ≡ d
-  pub same_weights : below.weights ≡ weights
-  pub reduced : IsReducedUpto p relations below
 
 -- in each degree from 1 to d none passes
 abbrev pub NonePassesUpto : ℕ → List ℕ → List (List Term) → List (LimitKind × ℕ) → ℕ → Type 0

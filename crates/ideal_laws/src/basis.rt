@@ -124,7 +124,7 @@ impl Basis {
 }
 
 /// The weights of the letters, and 0 past the last one.
-fn weights_of(alphabet: &Alphabet) -> [u8; 64]
+pub(crate) fn weights_of(alphabet: &Alphabet) -> [u8; 64]
     ensures kept { take (length alphabet.now.weights) result ≡ alphabet.now.weights }
     ensures weights { AreWeights alphabet.now.weights }
 {

@@ -1,5 +1,11 @@
-ghost use Rattle.ideal_laws.specs.Laws.{HasOneBasis, HasOneDimension, IsFactorLaw, IsNeighbourSpan};
-ghost use Rattle.ideal_laws.specs.Overlaps.{OverlapsSuffice};
+ghost use Rattle.std.specs.Prelude.{All};
+ghost use Rattle.free_poly.specs.Terms.{HasResidues};
+ghost use Rattle.ideal_laws.specs.Laws.{HasOneBasis, HasOneDimension, IsFactorLaw, IsNeighbourSpan, IsSetting};
+ghost use Rattle.ideal_laws.specs.Overlaps.{ListsFactorFree, ListsLower, OverlapsSuffice};
+
+use crate::basis::weights_of;
+use crate::presentation::Presentation;
+use field_table::Field;
 
 /// The laws of ideals over a field of residues: each degree has one reduced basis and one dimension, which is the
 /// number of its leading words; a word is a leading word exactly where some factor of it is minimal; and a degree is
@@ -15,3 +21,22 @@ pub fn basis_laws()
 pub fn overlaps_law()
     ensures { OverlapsSuffice }
 {}
+
+/// A reduced basis up to a degree lists the reduced elements of all lower degrees, and none of its leading words is a
+/// factor of another.
+pub fn lower_law()
+    ensures lower { ListsLower }
+    ensures factors { ListsFactorFree }
+{}
+
+/// A presentation with residues of a field is what the laws are about.
+pub fn setting_law(field: &Field, presentation: &Presentation)
+    requires { All (HasResidues field.now) presentation.now.relations }
+    ensures { IsSetting field.now presentation.now.alphabet.weights presentation.now.relations }
+{
+    let _modulus = field.modulus();
+    let _weights = weights_of(&presentation.alphabet);
+    for relation in presentation.relations.as_slice() {
+        let _terms = relation.terms();
+    }
+}
