@@ -1,0 +1,12 @@
+//! The printed texts of polynomials, degrees, series and histories of claims. Each text grows in one buffer, piece
+//! by piece, and is a function of what is printed.
+#![tactic(auto)]
+
+mod element;
+mod piece;
+mod series;
+mod trace;
+
+pub use element::{degree_text, element_line, head_line, poly_text};
+pub use series::series_text;
+pub use trace::trace_text;
