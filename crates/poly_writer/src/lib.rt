@@ -5,6 +5,8 @@
 mod element;
 mod piece;
 mod series;
+#[cfg(test)]
+mod tests;
 mod trace;
 
 pub use element::{degree_text, element_line, head_line, poly_text};
