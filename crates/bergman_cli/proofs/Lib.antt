@@ -1,0 +1,9 @@
+pub mod OneRelation
+pub mod Letters
+pub mod Positions
+pub mod Walks
+pub mod SoFar
+pub mod FirstTexts
+pub mod Alphabets
+pub mod Digits
+pub mod Runs
