@@ -1,7 +1,7 @@
 -- A basis with the elements of one degree more.
-use Rattle.std.proofs.Common.{ap₂, ◌≡◌, ◌≢◌, ◌⊎◌, ◌+◌, ◌*◌, ◌<◌, ◌≤◌, ◌==◌, ℕ, suc, Bool, true, false, cond, List, [], ◌∷◌, ◌++◌, length, length-append, append-nil, min, get_or, set, refl, sym, ap, ◌∙◌, inl, inr, arith, eq-eqb, All, AllPairs, subst}
-use Rattle.std.specs.List.{Contains, filter, slice_range}
-use Rattle.std.proofs.lemmas.Bool.{cases_Bool, cases_lt}
+use Rattle.std.proofs.Common.{ap₂, ◌≡◌, ◌≢◌, ◌+◌, ◌<◌, ◌≤◌, ◌==◌, ℕ, Bool, true, false, cond, List, [], ◌∷◌, ◌++◌, length, length-append, append-nil, min, get_or, set, refl, sym, ap, ◌∙◌, inl, inr, arith, eq-eqb, All, AllPairs, subst}
+use Rattle.std.specs.List.{filter, slice_range}
+use Rattle.std.proofs.lemmas.Bool.{cases_lt}
 use Rattle.std.proofs.lemmas.List.{get_or-set_other, get_or-set_same, length-set}
 use Rattle.std.proofs.lemmas.List.Elements.{All-append, All-contains, All-head, All-nil, All-tail, All-weaker}
 use Rattle.words.proofs.Members.{All-from_members, AllPairs-append, AllPairs-nil}

@@ -17,3 +17,4 @@ pub mod Counts
 pub mod Grown
 pub mod Refused
 pub mod Lower
+pub mod OneQuantity

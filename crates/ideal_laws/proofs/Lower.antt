@@ -1,12 +1,12 @@
 -- A basis lists the reduced elements of the degrees that are done, and none of its leading words is a factor of another.
-use Rattle.std.proofs.Common.{◌≡◌, ◌≢◌, ◌⊎◌, ◌+◌, ◌%◌, ◌==◌, ◌<◌, ◌≤◌, ℕ, zero, suc, Bool, true, false, cond, List, [], ◌∷◌, ◌++◌, length, get_or, refl, sym, ap, ◌∙◌, inl, inr, arith, eq-eqb, All, AllPairs, subst, Some, bytes_eq}
+use Rattle.std.proofs.Common.{◌≡◌, ◌≢◌, ◌+◌, ◌%◌, ◌==◌, ◌<◌, ℕ, zero, suc, Bool, true, false, cond, List, [], ◌∷◌, ◌++◌, get_or, refl, sym, ap, ◌∙◌, inl, inr, arith, eq-eqb, All, subst, Some, bytes_eq}
 use Rattle.std.specs.List.{Contains, flat_map, slice_get}
 use Rattle.std.proofs.Math.Nat.{mod-eq_of_lt, zero-mod}
 use Rattle.std.proofs.lemmas.Bool.{cases_Bool, cases_lt}
-use Rattle.std.proofs.lemmas.List.Elements.{All-contains, All-head, All-tail}
+use Rattle.std.proofs.lemmas.List.Elements.{All-contains, All-head}
 use Rattle.std.proofs.lemmas.Option.{get_or_from_slice_get, slice_get_within}
 use Rattle.std.proofs.lemmas.Slice.Eq.{bytes_eq-Decides}
-use Rattle.words.specs.Words.{AreWeights, IsFactor, degree_of}
+use Rattle.words.specs.Words.{AreWeights, degree_of}
 use Rattle.words.proofs.Members.{Contains-cases, Contains-first, Contains-more, Contains-none}
 use Rattle.words.proofs.Weights.{degree_of-positive}
 use Rattle.free_poly.specs.declared.term.Term.{Term}
@@ -14,7 +14,7 @@ use Rattle.free_poly.specs.Terms.{HasDegree, product, total_at}
 use Rattle.free_poly.specs.Poly.{IsMonic, lead_of}
 use Rattle.free_poly.proofs.Products.{degree_of-round}
 use Rattle.free_poly.proofs.Totals.{letterwise-apart}
-use Rattle.ideal_laws.specs.Ideal.{IsLeadingWord, IsMultiple, Multiple, terms_of}
+use Rattle.ideal_laws.specs.Ideal.{IsMultiple, Multiple, terms_of}
 use Rattle.ideal_laws.specs.Basis.{IsReduced}
 use Rattle.ideal_laws.specs.Closure.{IsFactorFree}
 use Rattle.ideal_laws.specs.Engine.{Elements, IsReducedUpto, of_degree}

@@ -12,6 +12,7 @@ use Rattle.ideal_laws.specs.Basis.{IsReducedBasis}
 use Rattle.ideal_laws.specs.Closure.{AreColumns, AreObstructions, HasReducer, IsNormal, IsObstruction, Overlap, obstruction_row}
 use Rattle.ideal_laws.specs.Engine.{Elements, of_degree}
 use Rattle.ideal_laws.specs.Kept.{IsBelow}
+use Rattle.ideal_laws.specs.Laws.{IsSetting}
 
 -- the words of all terms
 abbrev pub words_of : List (List Term) → List (List ℕ)
@@ -74,6 +75,11 @@ IsQuantity p weights relations below d Cells q =
 IsQuantity p weights relations below d Terms q = (basis : List (List Term)) × IsReducedBasis p weights relations d basis × (q ≡ terms_in below.elements + terms_in basis)
 IsQuantity p weights relations below d NormalWords q =
     (basis : List (List Term)) × (words : List (List ℕ)) × IsReducedBasis p weights relations d basis × AreNormalWords weights (below.elements ++ basis) d words × (q ≡ length words)
+
+-- over a reduced basis each quantity is at most one number
+abbrev pub HasOneQuantity : Type 0
+HasOneQuantity = (p : ℕ) (weights : List ℕ) (relations : List (List Term)) → IsSetting p weights relations → (d : ℕ) (below : Elements) → IsBelow p weights relations d below
+    → (kind : LimitKind) (q r : ℕ) → IsQuantity p weights relations below d kind q → IsQuantity p weights relations below d kind r → q ≡ r
 
 -- what each quantity is
 abbrev pub Quantities : Type 1

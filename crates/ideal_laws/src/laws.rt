@@ -2,6 +2,7 @@ ghost use Rattle.std.specs.Prelude.{All};
 ghost use Rattle.free_poly.specs.Terms.{HasResidues};
 ghost use Rattle.ideal_laws.specs.Laws.{HasOneBasis, HasOneDimension, IsFactorLaw, IsNeighbourSpan, IsSetting};
 ghost use Rattle.ideal_laws.specs.Overlaps.{ListsFactorFree, ListsLower, OverlapsSuffice};
+ghost use Rattle.ideal_laws.specs.Quantities.{HasOneQuantity};
 
 use crate::basis::weights_of;
 use crate::presentation::Presentation;
@@ -27,6 +28,11 @@ pub fn overlaps_law()
 pub fn lower_law()
     ensures lower { ListsLower }
     ensures factors { ListsFactorFree }
+{}
+
+/// Each quantity of a degree is one number, so an engine is refused at one limit alone.
+pub fn quantities_law()
+    ensures { HasOneQuantity }
 {}
 
 /// A presentation with residues of a field is what the laws are about.

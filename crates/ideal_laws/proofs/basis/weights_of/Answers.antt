@@ -1,4 +1,4 @@
-use Rattle.std.proofs.Common.{ap₂, ◌≡◌, ◌<◌, ◌≤◌, ◌++◌, ◌∷◌, [], ℕ, List, arith, length, sym, ◌∙◌, get_or, subst}
+use Rattle.std.proofs.Common.{ap₂, ◌<◌, ◌≤◌, ◌++◌, ◌∷◌, [], ℕ, List, arith, length, sym, ◌∙◌, subst}
 use Rattle.std.proofs.lemmas.List.{length-set, take_more, take_more_set}
 use Rattle.std.proofs.lemmas.List.Elements.{All-more}
 use Rattle.ideal_laws.proofs.basis.weights_of.Goals as goal

@@ -1,7 +1,7 @@
-use Rattle.std.proofs.Common.{◌≡◌, ◌+◌, ◌≤◌, ℕ, List, Err, Result, subst, sym, ap, ◌∙◌, arith}
+use Rattle.std.proofs.Common.{◌≡◌, ◌+◌, ℕ, List, Err, Result, subst, sym, ap, ◌∙◌, arith}
 use Rattle.std.proofs.lemmas.Result.{err_from_is_err_and}
 use Rattle.ideal_laws.specs.declared.limits.LimitKind.{LimitKind}
-use Rattle.ideal_laws.specs.Quantities.{IsFirstPassing, IsQuantity, NonePasses, NonePassesUpto}
+use Rattle.ideal_laws.specs.Quantities.{IsFirstPassing, IsQuantity, NonePasses}
 use Rattle.ideal_laws.proofs.Refused.{refused_next, upto_next}
 use Rattle.ideal_laws.proofs.degrees.run.Goals as goal
 
@@ -16,7 +16,7 @@ returns-in_err-_account-clause-limit g c = λ kind degree value e.
     let kinds = g.E.DegreeEngine.kinds c.args.engine.now in
     let h = c.in_err-_account.ensures.limit kind degree value (ap Err (sym p.2 ∙ one_fault c.from_residual.result _ _ p.1 e)) in
     let Q : List (LimitKind × ℕ) → Type 0 = λ limits. (degree ≡ basis.done + 1) × IsFirstPassing (IsQuantity c.args.field.now basis.weights c.args.presentation.now.relations basis (basis.done + 1)) limits kind value in
-    refused_next c.args.field.now c.args.presentation.now.alphabet.weights c.args.presentation.now.relations kinds basis inv.2 inv.1 inv.3 c.loop-degree._degree c.args.bound inv.0 c.loop-degree-test.true inv.4
+    refused_next c.args.field.now c.args.presentation.now.alphabet.weights c.args.presentation.now.relations kinds basis inv.2 inv.1 inv.3 c.loop-degree._degree c.args.bound inv.0 (omega (arith, c.loop-degree-test.true)) inv.4
     kind degree value (subst Q inv.5 h)
 
 pub loop-degree-preserved : goal.loop-degree-preserved

@@ -1,4 +1,4 @@
-use Rattle.std.proofs.Common.{ap₂, ◌≡◌, ◌+◌, ◌≤◌, ℕ, List, [], length, take, arith, refl, sym, ap, ◌∙◌, subst}
+use Rattle.std.proofs.Common.{◌≡◌, ℕ, List, take, sym, ap, ◌∙◌, subst}
 use Rattle.free_poly.specs.declared.term.Term.{Term}
 use Rattle.ideal_laws.specs.Kept.{IsStored}
 use Rattle.ideal_laws.proofs.Grown.{stored_none}

@@ -1,8 +1,8 @@
-use Rattle.std.proofs.Common.{ap₂, ◌≡◌, ◌+◌, ◌-◌, ◌≤◌, ℕ, suc, sym, ap, ◌∙◌, arith, length}
+use Rattle.std.proofs.Common.{ap₂, ◌-◌, ℕ, sym, ap, ◌∙◌, arith}
 use Rattle.std.specs.List.{slice_range}
 use Rattle.std.proofs.lemmas.List.Sums.{count_by-le-length}
 use Rattle.std.specs.Prelude.{leb}
-use Rattle.ideal_laws.specs.Kept.{count_below, count_upto, lead_degree}
+use Rattle.ideal_laws.specs.Kept.{count_below, lead_degree}
 use Rattle.ideal_laws.proofs.Counts.{below-le-upto, below-suc, below-zero}
 use Rattle.ideal_laws.proofs.Grown.{degree_together}
 use Rattle.ideal_laws.proofs.basis.Basis.of_degree.Goals as goal

@@ -1,4 +1,4 @@
-use Rattle.std.proofs.Common.{ap₂, ◌≡◌, ◌+◌, ◌++◌, ◌<◌, ℕ, List, length, set, take, sym, ap, ◌∙◌, arith, subst}
+use Rattle.std.proofs.Common.{◌≡◌, ◌+◌, ◌++◌, ◌<◌, ℕ, List, length, set, take, sym, ap, ◌∙◌, arith, subst}
 use Rattle.free_poly.specs.declared.term.Term.{Term}
 use Rattle.ideal_laws.specs.Engine.{Elements}
 use Rattle.ideal_laws.specs.Kept.{IsStored}
