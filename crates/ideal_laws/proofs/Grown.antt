@@ -106,6 +106,7 @@ module _ (basis : Elements) (added : List (List Term)) (next : AreNext basis add
       (All-weaker (IsKeptElement basis.weights basis.done) (IsKeptElement basis.weights (basis.done + 1)) (λ f k. record { monic = k.monic; letters = k.letters; degree = k.degree; from = k.from; upto = omega (arith, k.upto) }) basis.elements h.each)
       kept_next in
       record {
+        some = h.some;
         letters = h.letters;
         weights = h.weights;
         degrees = omega (arith, room);
@@ -167,9 +168,10 @@ next_from_reduced p relations basis added few h = record {
 }
 
 -- no degree is done
-pub stored_none : (weights ends : List ℕ) → length weights ≤ 64 → AreWeights weights → length ends ≡ 65 → get_or ends 0 0 ≡ 0 → IsStored (record { weights = weights; done = 0; elements = [] }) ends
-stored_none weights ends few are size none = record {
+pub stored_none : (weights ends : List ℕ) → 0 < length weights → length weights ≤ 64 → AreWeights weights → length ends ≡ 65 → get_or ends 0 0 ≡ 0 → IsStored (record { weights = weights; done = 0; elements = [] }) ends
+stored_none weights ends one few are size none = record {
   kept = record {
+    some = one;
     letters = few;
     weights = are;
     degrees = omega arith;

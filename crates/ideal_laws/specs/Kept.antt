@@ -32,8 +32,9 @@ pub record IsKeptElement (weights : List ℕ) (done : ℕ) (f : List Term) : Typ
 abbrev pub StandsBefore : List ℕ → List Term → List Term → Type 0
 StandsBefore weights f g = (lead_degree weights f < lead_degree weights g) ⊎ ((lead_degree weights f ≡ lead_degree weights g) × HasGreaterLead f g)
 
--- at most 64 letters with their weights, at most 64 degrees, and elements in order, of which a degree has at most 16,777,216
+-- from 1 to 64 letters with their weights, at most 64 degrees, and elements in order, of which a degree has at most 16,777,216
 pub record IsKept (basis : Elements) : Type 0 where
+  pub some : 0 < length basis.weights
   pub letters : length basis.weights ≤ 64
   pub weights : AreWeights basis.weights
   pub degrees : basis.done ≤ 64

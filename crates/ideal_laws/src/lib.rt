@@ -1,4 +1,7 @@
-//! Ideals of relations, their leading words, reduced bases and dimensions.
+//! Ideals of relations in a free algebra over a field of residues, degree by degree: their leading words, reduced
+//! bases, dimensions and overlaps, with the laws that tie them; and what an engine promises that computes the reduced
+//! basis of a degree from those below. Spans and greatest words define all of it, so a basis does not depend on the
+//! engine.
 #![tactic(auto)]
 
 mod account;

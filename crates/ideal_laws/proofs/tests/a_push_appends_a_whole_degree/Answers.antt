@@ -1,0 +1,5 @@
+use Rattle.std.proofs.Common.{lit<}
+use Rattle.ideal_laws.proofs.tests.a_push_appends_a_whole_degree.Goals as goal
+
+pub new-requires-clause-field : goal.new-requires-clause-field
+new-requires-clause-field g c = c.listed_moduli_law.ensures 6 0 (lit< tt)
