@@ -1,0 +1,9 @@
+pub mod Rows
+pub mod Spans
+pub mod Pivots
+pub mod Chosen
+pub mod Degree
+pub mod Listing
+pub mod Building
+pub mod Tables
+pub mod Terms

@@ -1,0 +1,13 @@
+use Rattle.std.proofs.Common.{◌-◌, length}
+use Rattle.std.specs.List.{flat_map, range_with_len}
+use Rattle.ideal_laws.specs.Kept.{lead_degree}
+use Rattle.plain_engine.specs.Lists.{list_at}
+use Rattle.plain_engine.specs.Products.{round_rows}
+use Rattle.plain_engine.specs.Table.{IsBuilt, IsTable}
+use Rattle.plain_engine.proofs.products.insert_relation.Given as goal
+
+abbrev pub invariant-loop-before : goal.invariant-loop-before
+invariant-loop-before l = record {
+  table : IsTable l.field (length (list_at l.lists l.d)) l.table;
+  built : IsBuilt l.field l.fn.table (flat_map (λ k. round_rows (list_at l.lists l.d) (list_at l.lists k) l.relation (list_at l.lists (l.d - lead_degree l.alphabet.weights l.relation - k))) (range_with_len 0 l.before)) l.table;
+}
