@@ -1,0 +1,42 @@
+-- A path of nodes that is pushed letter by letter.
+use Rattle.std.proofs.Common.{◌≡◌, ◌+◌, ◌<◌, ℕ, zero, suc, List, [], ◌∷◌, ◌++◌, length, refl, sym, ◌∙◌, inl, inr, arith, subst, Some, length-append}
+use Rattle.std.specs.List.{slice_get}
+use Rattle.std.proofs.lemmas.Bool.{cases_lt}
+use Rattle.lead_index.specs.declared.tree.Node.{Node}
+use Rattle.lead_index.specs.Tree.{HasPath, IsOnPath}
+
+-- the first nodes of the path are there
+pub record IsBegun (old new : List Node) (letters : List ℕ) (element i : ℕ) : Type 0 where
+  pub count : length new ≡ length old + i
+  pub kept : (n : ℕ) → n < length old → slice_get new n ≡ slice_get old n
+  pub path : (k : ℕ) → k < i → (node : Node) × (slice_get new (length old + k) ≡ Some node) × IsOnPath (length old + k + 1) letters element k node
+
+slice_get-append : (xs ys : List Node) (n : ℕ) → n < length xs → slice_get (xs ++ ys) n ≡ slice_get xs n
+slice_get-append [] ys n lt = absurd (omega (arith, lt))
+slice_get-append (x ∷ xs) ys zero lt = refl
+slice_get-append (x ∷ xs) ys (suc n) lt = slice_get-append xs ys n (omega (arith, lt))
+
+slice_get-push : (xs : List Node) (y : Node) (n : ℕ) → n ≡ length xs → slice_get (xs ++ y ∷ []) n ≡ Some y
+slice_get-push [] y zero e = refl
+slice_get-push [] y (suc n) e = absurd (omega (arith, e))
+slice_get-push (x ∷ xs) y zero e = absurd (omega (arith, e))
+slice_get-push (x ∷ xs) y (suc n) e = slice_get-push xs y n (omega (arith, e))
+
+pub begun_more : (old new more : List Node) (letters : List ℕ) (element i : ℕ) (node : Node) → IsBegun old new letters element i → IsOnPath (length old + i + 1) letters element i node → more ≡ new ++ node ∷ []
+    → IsBegun old more letters element (i + 1)
+begun_more old new more letters element i node h on e = subst (λ (xs : List Node). IsBegun old xs letters element (i + 1)) (sym e) (record {
+  count = let c = h.count in omega (arith, length-append new (node ∷ []));
+  kept = λ n lt. slice_get-append new (node ∷ []) n (let c = h.count in omega arith) ∙ h.kept n lt;
+  path = λ k lt. elim (cases_lt k i) [
+    | inl below ↦ let p = h.path k below in (p.0, slice_get-append new (node ∷ []) (length old + k) (let c = h.count in omega arith) ∙ p.1, p.2)
+    | inr le ↦ let same : i ≡ k = omega arith in
+        (node, slice_get-push new node (length old + k) (let c = h.count in omega arith), subst (λ (m : ℕ). IsOnPath (length old + m + 1) letters element m node) same on)
+  ];
+})
+
+pub begun_all : (old new : List Node) (letters : List ℕ) (element i : ℕ) → i ≡ length letters → IsBegun old new letters element i → HasPath old new letters element
+begun_all old new letters element i e h = record {
+  count = let c = h.count in omega arith;
+  kept = h.kept;
+  path = λ k lt. h.path k (omega arith);
+}
