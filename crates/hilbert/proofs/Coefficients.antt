@@ -1,0 +1,113 @@
+-- The number of normal words of a degree is its Hilbert coefficient.
+use Rattle.std.proofs.Common.{◌≡◌, ◌≢◌, ◌⊎◌, ◌+◌, ◌<◌, ◌≤◌, ℕ, zero, suc, List, [], ◌∷◌, ◌++◌, length, take, drop, refl, sym, ap, ◌∙◌, inl, inr, arith, All, AllPairs, subst, Some, append_assoc, length-append}
+use Rattle.std.specs.List.{Contains}
+use Rattle.std.proofs.Math.Seq.{drop-append_seam, take-append_seam}
+use Rattle.std.proofs.lemmas.List.{take-append-drop}
+use Rattle.std.proofs.lemmas.List.Elements.{All-contains, Contains-append_cases, Contains-append_left, Contains-append_right}
+use Rattle.words.specs.Words.{IsFactor, OccursAt, degree_of, words_of_degree}
+use Rattle.words.proofs.Degrees.{words_of_degree-says}
+use Rattle.words.proofs.Members.{AllPairs-first, AllPairs-rest, Contains-cases, Contains-first, Contains-more, Contains-none}
+use Rattle.free_poly.specs.declared.term.Term.{Term}
+use Rattle.free_poly.specs.Poly.{lead_of}
+use Rattle.free_poly.proofs.Products.{degree_of-round}
+use Rattle.free_poly.proofs.Totals.{letterwise-apart}
+use Rattle.ideal_laws.specs.Closure.{IsNormal}
+use Rattle.ideal_laws.specs.Dimension.{IsHilbertCoefficient}
+use Rattle.ideal_laws.specs.Engine.{Elements, IsReducedUpto}
+use Rattle.ideal_laws.specs.Ideal.{IsLeadingWord}
+use Rattle.ideal_laws.specs.Kept.{IsKept}
+use Rattle.ideal_laws.specs.Laws.{IsSetting}
+use Rattle.ideal_laws.specs.Overlaps.{AreLower}
+use Rattle.ideal_laws.proofs.Dimensions.{has_one_dimension}
+use Rattle.ideal_laws.proofs.Factors.{factor_law}
+use Rattle.ideal_laws.proofs.Lower.{lists_lower}
+use Rattle.ideal_laws.proofs.OneBasis.{minimal_led}
+use Rattle.hilbert.specs.Series.{CountsCoefficients, IsCount}
+
+-- a list that has x, in the parts before and after it
+record IsHad {X : Type 0} (x : X) (xs : List X) : Type 0 where
+  before : List X
+  after : List X
+  is : xs ≡ before ++ x ∷ after
+
+had : {X : Type 0} (x : X) (xs : List X) → Contains xs x → IsHad x xs
+had x [] m = absurd (Contains-none x m)
+had x (y ∷ xs) m = elim (Contains-cases y xs x m) [
+  | inl e ↦ record { before = []; after = xs; is = λ i. e i ∷ xs }
+  | inr n ↦ let h = had x xs n in record { before = y ∷ h.before; after = h.after; is = λ i. y ∷ h.is i }
+]
+
+-- of two lists without repeats the one whose members the other has is no longer
+no_longer : {X : Type 0} (xs ys : List X) → AllPairs (λ a b. a ≢ b) xs → ((x : X) → Contains xs x → Contains ys x) → length xs ≤ length ys
+no_longer [] ys p h = omega arith
+no_longer (x ∷ xs) ys p h =
+    let k = had x ys (h x (Contains-first x xs)) in
+    let rest = no_longer xs (k.before ++ k.after) (AllPairs-rest (λ a b. a ≢ b) x xs p)
+    (λ y m. elim (Contains-append_cases k.before (x ∷ k.after) y (subst (λ zs. Contains zs y) k.is (h y (Contains-more x xs y m)))) [
+      | inl b ↦ Contains-append_left k.before k.after y b
+      | inr a ↦ elim (Contains-cases x k.after y a) [
+        | inl e ↦ absurd (All-contains (λ b. x ≢ b) xs y (AllPairs-first (λ a b. a ≢ b) x xs p) m e)
+        | inr b ↦ Contains-append_right k.before k.after y b
+      ]
+    ]) in
+    omega (arith, rest, length-append k.before k.after, length-append k.before (x ∷ k.after), ap length k.is)
+
+factor_occurs : (v w : List ℕ) (f : IsFactor v w) → OccursAt v w (length f.before)
+factor_occurs v w f =
+    let split : w ≡ f.before ++ (v ++ f.after) = f.joined ∙ append_assoc f.before v f.after in
+    record {
+      within = omega (arith, ap length split, length-append f.before (v ++ f.after), length-append v f.after);
+      same = ap (λ (x : List ℕ). take (length v) (drop (length f.before) x)) split ∙ ap (take (length v)) (drop-append_seam f.before (v ++ f.after)) ∙ take-append_seam v f.after;
+    }
+
+occurs_factor : (v w : List ℕ) (k : ℕ) → OccursAt v w k → IsFactor v w
+occurs_factor v w k o = record {
+  before = take k w;
+  after = drop (length v) (drop k w);
+  joined = sym (append_assoc (take k w) v (drop (length v) (drop k w)) ∙ ap (λ (x : List ℕ). take k w ++ (x ++ drop (length v) (drop k w))) (sym o.same)
+      ∙ ap (λ (x : List ℕ). take k w ++ x) (take-append-drop (length v) (drop k w)) ∙ take-append-drop k w);
+}
+
+module _ (p : ℕ) (relations : List (List Term)) (basis : Elements) (st : IsSetting p basis.weights relations) (kept : IsKept basis) (upto : IsReducedUpto p relations basis) where
+  lower : AreLower p basis.weights relations (basis.done + 1) basis.elements
+  lower = lists_lower p basis.weights relations st (basis.done + 1) basis (record { kept = kept; next = refl; same_weights = refl; reduced = upto })
+
+  -- a leading word is not normal
+  leading_not_normal : (d : ℕ) (w : List ℕ) → d ≤ basis.done → Contains (words_of_degree basis.weights d) w → IsNormal basis.elements w → IsLeadingWord p basis.weights relations d w → ⊥
+  leading_not_normal d w le m normal l =
+      let says = words_of_degree-says basis.weights st.are_weights d w m in
+      let own = subst (λ (n : ℕ). IsLeadingWord p basis.weights relations n w) (sym says.1) l in
+      let f = (factor_law p basis.weights relations st w says.0).0 own in
+      let g = minimal_led p basis.weights relations st f.0 f.2 in
+      let within : degree_of basis.weights f.0 < basis.done + 1 =
+      omega (arith, le, says.1, ap (degree_of basis.weights) f.1.joined, degree_of-round basis.weights f.1.before f.0 f.1.after) in
+      normal g.0 f.0 (length f.1.before) ((lower g.0).1 (degree_of basis.weights f.0, within, g.1)) g.2 (factor_occurs f.0 w f.1)
+
+  -- the other words are
+  normal_from : (d : ℕ) (w : List ℕ) → Contains (words_of_degree basis.weights d) w → (IsLeadingWord p basis.weights relations d w → ⊥) → IsNormal basis.elements w
+  normal_from d w m not g v k among led o =
+      let says = words_of_degree-says basis.weights st.are_weights d w m in
+      let r = (lower g).0 among in
+      not (subst (λ (n : ℕ). IsLeadingWord p basis.weights relations n w) says.1
+      ((factor_law p basis.weights relations st w says.0).1 (v, occurs_factor v w k o, r.2.minimal v led)))
+
+  pub count_coefficient : (d n : ℕ) → d ≤ basis.done → IsCount basis.weights basis.elements d n → IsHilbertCoefficient p basis.weights relations d n
+  count_coefficient d n le c =
+      let H = has_one_dimension p basis.weights relations st d in
+      let there : length c.words ≤ length H.others =
+      no_longer c.words H.others (λ i j x below within. letterwise-apart _ _ (c.are_normal.falling i j x below within))
+      (λ w m.
+      let s = (c.are_normal.exactly w).0 m in
+      elim ((H.split w).0 s.0) [
+        | inl l ↦ absurd (leading_not_normal d w le s.0 s.1 ((H.are_leading.exactly w).0 l))
+        | inr o ↦ o
+      ]) in
+      let back : length H.others ≤ length c.words =
+      no_longer H.others c.words H.apart
+      (λ w m.
+      let all = (H.split w).1 (inr m) in
+      (c.are_normal.exactly w).1 (all, normal_from d w all (H.are_others w m))) in
+      (H.coefficient n).1 (omega (arith, there, back, c.count))
+
+pub counts_coefficients : CountsCoefficients
+counts_coefficients p relations basis st kept upto d n le c = count_coefficient p relations basis st kept upto d n le c

@@ -1,0 +1,143 @@
+-- One more degree: its number, and the degrees that are held.
+use Rattle.std.proofs.Common.{◌≡◌, ◌≢◌, ◌⊎◌, ◌+◌, ◌-◌, ◌<◌, ◌≤◌, ℕ, zero, suc, min, List, [], ◌∷◌, ◌++◌, Result, Ok, Err, IfOk, length, drop, get_or, refl, sym, ap, ◌∙◌, inl, inr, arith, All, subst, length-append}
+use Rattle.std.specs.List.{Contains}
+use Rattle.std.proofs.lemmas.Bool.{cases_lt}
+use Rattle.std.proofs.lemmas.List.{get_or_append_left, get_or_push}
+use Rattle.std.proofs.lemmas.List.Elements.{All-append, All-cons, All-nil, All-tail}
+use Rattle.free_poly.specs.declared.term.Term.{Term}
+use Rattle.ideal_laws.specs.Quantities.{AreNormalWords}
+use Rattle.lead_index.specs.declared.lead.Lead.{Lead}
+use Rattle.normal_words.specs.Normal.{AreBefore, AreNormal, WordsOfDegree, next_of}
+use Rattle.hilbert.specs.Series.{AreCounts, AreHeld, IndexesLeads, IsCount, IsFirstLarge}
+
+pub if_ok : {T E : Type 0} (P Q : T → Type 0) (r : Result T E) → IfOk r P → ((v : T) → P v → Q v) → IfOk r Q
+if_ok P Q (Ok v) h f = f v h
+if_ok P Q (Err e) h f = h
+
+-- the normal words of the index are those of the elements
+pub normal_words_of : (weights : List ℕ) (G : List (List Term)) (leads : List Lead) (d : ℕ) (words : List (List ℕ)) → IndexesLeads G leads → AreNormal weights leads d words → AreNormalWords weights G d words
+normal_words_of weights G leads d words i h = record {
+  exactly = λ w. (λ m. let s = (h.exactly w).0 m in (s.0, (i.says w).0 s.1), λ (m, n). (h.exactly w).1 (m, (i.says w).1 n));
+  falling = h.falling;
+}
+
+module _ (weights : List ℕ) (G : List (List Term)) (limit : ℕ) where
+  pub no_counts : AreCounts weights G limit 0 []
+  no_counts = record { size = refl; each = λ d lt. absurd (omega (arith, lt)); few = All-nil (λ n. n ≤ limit) }
+
+  pub counts-more : (d : ℕ) (numbers : List ℕ) (words : List (List ℕ)) → AreCounts weights G limit d numbers → AreNormalWords weights G d words → length words ≤ limit → AreCounts weights G limit (d + 1) (numbers ++ length words ∷ [])
+  counts-more d numbers words h normal le = record {
+    size = omega (arith, h.size, length-append numbers (length words ∷ []));
+    each = λ e lt. elim (cases_lt e d) [
+      | inl below ↦ subst (IsCount weights G e) (sym (get_or_append_left numbers (length words ∷ []) 0 e (omega (arith, below, h.size)))) (h.each e below)
+      | inr from ↦
+          let same : d ≡ e = omega (arith, lt, from) in
+          let one : IsCount weights G d (length words) = record { words = words; are_normal = normal; count = refl } in
+          subst (IsCount weights G e) (sym (get_or_push numbers (length words) 0 e (h.size ∙ same))) (subst (λ (k : ℕ). IsCount weights G k (length words)) same one)
+    ];
+    few = All-append (λ n. n ≤ limit) numbers (length words ∷ []) h.few (All-cons (λ n. n ≤ limit) (length words) [] le (All-nil (λ n. n ≤ limit)));
+  }
+
+  pub first_large : (bound d degree value : ℕ) (numbers below words : _) → d ≤ bound → AreCounts weights G limit d numbers → AreNormalWords weights G d words → limit < length words → d ≡ degree → limit + 1 ≡ value → numbers ≡ below
+      → IsFirstLarge weights G limit bound degree value below
+  first_large bound d degree value numbers below words le h normal more same kept is = record {
+    upto = omega (arith, le, same);
+    kept = sym kept;
+    before = subst (λ (k : ℕ). AreCounts weights G limit k below) same (subst (AreCounts weights G limit d) is h);
+    number = length words;
+    is_number = subst (λ (k : ℕ). IsCount weights G k (length words)) same (record { words = words; are_normal = normal; count = refl });
+    large = more;
+  }
+
+module _ (weights : List ℕ) (leads : List Lead) where
+  none_held : AreHeld weights leads []
+  none_held = record { consecutive = λ i n lt. absurd (omega (arith, lt)); each = All-nil (λ n. AreNormal weights leads n.degree n.words); enough = inl refl }
+
+  -- consecutive degrees that end before this one
+  record IsRow (next : ℕ) (held : List WordsOfDegree) : Type 0 where
+    consecutive : (i : ℕ) (n : WordsOfDegree) → i < length held → (get_or held i n).degree + length held ≡ next + i
+    each : All (λ n. AreNormal weights leads n.degree n.words) held
+    is_next : next_of held ≡ next
+
+  next_of-push : (held : List WordsOfDegree) (n : WordsOfDegree) (d : ℕ) → next_of held ≡ d → n.degree ≡ d → next_of (held ++ n ∷ []) ≡ d + 1
+  next_of-push [] n d e same = omega (arith, same)
+  next_of-push (m ∷ held) n d e same = omega (arith, e, length-append held (n ∷ []))
+
+  pushed : (held : List WordsOfDegree) (n : WordsOfDegree) (d : ℕ) → AreHeld weights leads held → next_of held ≡ d → n.degree ≡ d → AreNormal weights leads d n.words → IsRow (d + 1) (held ++ n ∷ [])
+  pushed held n d h e same normal =
+      let size = length-append held (n ∷ []) in
+      record {
+        consecutive = λ i m lt. elim (cases_lt i (length held)) [
+          | inl below ↦ omega (arith, size, e, h.consecutive i m below, ap (λ (x : WordsOfDegree). x.degree) (get_or_append_left held (n ∷ []) m i below))
+          | inr from ↦
+              let last : length held ≡ i = omega (arith, size, lt, from) in
+              omega (arith, size, last, same, ap (λ (x : WordsOfDegree). x.degree) (get_or_push held n m i last))
+        ];
+        each = All-append (λ k. AreNormal weights leads k.degree k.words) held (n ∷ []) h.each
+            (All-cons (λ k. AreNormal weights leads k.degree k.words) n [] (subst (λ (k : ℕ). AreNormal weights leads k n.words) (sym same) normal) (All-nil (λ k. AreNormal weights leads k.degree k.words)));
+        is_next = next_of-push held n d e same;
+      }
+
+  without_first : (next : ℕ) (x : WordsOfDegree) (held : List WordsOfDegree) → 0 < length held → IsRow next (x ∷ held) → IsRow next held
+  without_first next x [] some h = absurd (omega (arith, some))
+  without_first next x (y ∷ held) some h = record {
+    consecutive = λ i n lt. omega (arith, h.consecutive (suc i) n (omega (arith, lt)));
+    each = All-tail (λ k. AreNormal weights leads k.degree k.words) x (y ∷ held) h.each;
+    is_next = omega (arith, h.consecutive 1 x (omega arith));
+  }
+
+  -- what is held after one more degree
+  pub record IsNextHeld (d : ℕ) (held : List WordsOfDegree) : Type 0 where
+    pub are_held : AreHeld weights leads held
+    pub is_next : next_of held ≡ d
+    pub few : length held ≤ 8
+
+  pub none_next : IsNextHeld 0 []
+  none_next = record { are_held = none_held; is_next = refl; few = omega arith }
+
+  from_row : (next : ℕ) (held : List WordsOfDegree) → IsRow next held → (next ≡ length held) ⊎ (8 ≤ length held) → length held ≤ 8 → IsNextHeld next held
+  from_row next held r enough few = record {
+    are_held = record {
+      consecutive = λ i n lt. omega (arith, r.consecutive i n lt, r.is_next);
+      each = r.each;
+      enough = subst (λ (k : ℕ). (k ≡ length held) ⊎ (8 ≤ length held)) (sym r.is_next) enough;
+    };
+    is_next = r.is_next;
+    few = few;
+  }
+
+  still : (held : List WordsOfDegree) (d k : ℕ) → (d ≡ length held) ⊎ (8 ≤ length held) → length held < 8 → k ≡ length held + 1 → d + 1 ≡ k
+  still held d k (inl e) lt is = omega (arith, e, is)
+  still held d k (inr le) lt is = absurd (omega (arith, le, lt))
+
+  full : (held : List WordsOfDegree) (n : WordsOfDegree) (d : ℕ) → 8 ≤ length held → length held ≤ 8 → IsRow d (held ++ n ∷ []) → IsNextHeld d (drop 1 (held ++ n ∷ []))
+  full [] n d le few r = absurd (omega (arith, le))
+  full (x ∷ held) n d le few r =
+      let size = length-append held (n ∷ []) in
+      from_row d (held ++ n ∷ []) (without_first d x (held ++ n ∷ []) (omega (arith, size)) r) (inr (omega (arith, size, le))) (omega (arith, size, few))
+
+  pub held-more : (held : List WordsOfDegree) (n : WordsOfDegree) (d : ℕ) → IsNextHeld d held → n.degree ≡ d → AreNormal weights leads d n.words → IsNextHeld (d + 1) (drop (length held + 1 - 8) (held ++ n ∷ []))
+  held-more held n d h same normal =
+      let row = pushed held n d h.are_held h.is_next same normal in
+      let size = length-append held (n ∷ []) in
+      elim (cases_lt (length held) 8) [
+        | inl lt ↦
+            let none : 0 ≡ length held + 1 - 8 = omega (arith, lt) in
+            let enough = subst (λ (k : ℕ). (k ≡ length held) ⊎ (8 ≤ length held)) h.is_next h.are_held.enough in
+            subst (λ (k : ℕ). IsNextHeld (d + 1) (drop k (held ++ n ∷ []))) none
+            (from_row (d + 1) (held ++ n ∷ []) row (inl (still held d (length (held ++ n ∷ [])) enough lt (omega (arith, size)))) (omega (arith, size, lt)))
+        | inr le ↦
+            let one : 1 ≡ length held + 1 - 8 = omega (arith, le, h.few) in
+            subst (λ (k : ℕ). IsNextHeld (d + 1) (drop k (held ++ n ∷ []))) one (full held n (d + 1) le h.few row)
+      ]
+
+  -- some degree is held, and all that a letter can leave
+  pub before_of : (held : List WordsOfDegree) → AreHeld weights leads held → 0 < length held → AreBefore weights leads held
+  before_of held h some = record { some = some; consecutive = h.consecutive; each = h.each }
+
+  pub enough_held : (held : List WordsOfDegree) → AreHeld weights leads held → min 8 (next_of held) ≤ length held
+  enough_held held h = by_cases h.enough
+    where
+      by_cases : (next_of held ≡ length held) ⊎ (8 ≤ length held) → min 8 (next_of held) ≤ length held
+      by_cases (inl e) = omega (arith, e)
+      by_cases (inr le) = omega (arith, le)
