@@ -1,0 +1,5 @@
+pub mod Spans
+pub mod TextSplits
+pub mod OneSplit
+pub mod Spelled
+pub mod Trees
