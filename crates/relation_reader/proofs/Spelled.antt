@@ -1,7 +1,13 @@
 -- The table of places lets through what a tree spells.
 use Rattle.std.proofs.Common.{ℕ, ◌≡◌, Bool, true, false, List, [], ◌∷◌, ◌++◌, Option, Some, None, codes, refl, sym, ap, ◌∙◌, append_assoc}
 use Rattle.std.specs.List.{flat_map}
-use Rattle.relation_reader.specs.Grammar.{Lexeme, name, number, star, comma, semicolon, the_end, Item, Factor, constant, power, Summand, Sign, positive, negative, Signed, Relation, Tree, Place, beginning, after_vars, after_list_comma, after_declared, after_list_colon, after_weight, after_list, after_comma, after_operator, after_name, after_caret, after_number, after_last, after_end, reached, spelled, spelled_factor, spelled_first_sign, spelled_item, spelled_relation, spelled_relations, spelled_sign, spelled_summand}
+use Rattle.relation_reader.specs.declared.place.Place.{Place}
+use Rattle.relation_reader.specs.declared.place.Place.TheVariants as places
+use Rattle.relation_reader.specs.Grammar.{Lexeme, name, number, star, comma, semicolon, the_end, Item, Factor, constant, power, Summand, Sign, positive, negative, Signed, Relation, Tree, reached, spelled, spelled_factor, spelled_first_sign, spelled_item, spelled_relation, spelled_relations, spelled_sign, spelled_summand}
+
+-- the text behind the last relation
+abbrev pub ending : List Lexeme
+ending = semicolon ∷ the_end ∷ []
 
 -- `*` and a factor, for each of these
 abbrev pub starred : List Factor → List Lexeme
@@ -20,9 +26,9 @@ abbrev pub listed : List Item → List Lexeme
 listed items = flat_map (λ item. comma ∷ spelled_item item) items
 
 -- the place after a factor: after a name, or after a number
-abbrev end_place : Bool → Place
-end_place true = after_name
-end_place false = after_number
+abbrev pub end_place : Bool → Place
+end_place true = places.AfterName
+end_place false = places.AfterNumber
 
 abbrev factor_end : Factor → Bool
 factor_end (constant value) = false
@@ -43,26 +49,26 @@ signed_end b (s ∷ ss) = signed_end (summand_end s.summand) ss
 abbrev relation_end : Relation → Bool
 relation_end r = signed_end (summand_end r.first) r.others
 
-factor-walk : (f : Factor) (rest : List Lexeme) → reached (Some after_operator) (spelled_factor f ++ rest) ≡ reached (Some (end_place (factor_end f))) rest
+factor-walk : (f : Factor) (rest : List Lexeme) → reached (Some places.AfterOperator) (spelled_factor f ++ rest) ≡ reached (Some (end_place (factor_end f))) rest
 factor-walk (constant value) rest = refl
 factor-walk (power letter None) rest = refl
 factor-walk (power letter (Some value)) rest = refl
 
-star-walk : (b : Bool) (rest : List Lexeme) → reached (Some (end_place b)) (star ∷ rest) ≡ reached (Some after_operator) rest
+star-walk : (b : Bool) (rest : List Lexeme) → reached (Some (end_place b)) (star ∷ rest) ≡ reached (Some places.AfterOperator) rest
 star-walk true rest = refl
 star-walk false rest = refl
 
-sign-walk : (b : Bool) (s : Sign) (rest : List Lexeme) → reached (Some (end_place b)) (spelled_sign s ++ rest) ≡ reached (Some after_operator) rest
+sign-walk : (b : Bool) (s : Sign) (rest : List Lexeme) → reached (Some (end_place b)) (spelled_sign s ++ rest) ≡ reached (Some places.AfterOperator) rest
 sign-walk true positive rest = refl
 sign-walk true negative rest = refl
 sign-walk false positive rest = refl
 sign-walk false negative rest = refl
 
-comma-walk : (b : Bool) (rest : List Lexeme) → reached (Some (end_place b)) (comma ∷ rest) ≡ reached (Some after_comma) rest
+comma-walk : (b : Bool) (rest : List Lexeme) → reached (Some (end_place b)) (comma ∷ rest) ≡ reached (Some places.AfterComma) rest
 comma-walk true rest = refl
 comma-walk false rest = refl
 
-semicolon-walk : (b : Bool) (rest : List Lexeme) → reached (Some (end_place b)) (semicolon ∷ rest) ≡ reached (Some after_last) rest
+semicolon-walk : (b : Bool) (rest : List Lexeme) → reached (Some (end_place b)) (semicolon ∷ rest) ≡ reached (Some places.AfterLast) rest
 semicolon-walk true rest = refl
 semicolon-walk false rest = refl
 
@@ -74,9 +80,9 @@ others-walk b (f ∷ fs) rest =
     ∙ factor-walk f (starred fs ++ rest)
     ∙ others-walk (factor_end f) fs rest
 
-summand-walk : (s : Summand) (rest : List Lexeme) → reached (Some after_operator) (spelled_summand s ++ rest) ≡ reached (Some (end_place (summand_end s))) rest
+summand-walk : (s : Summand) (rest : List Lexeme) → reached (Some places.AfterOperator) (spelled_summand s ++ rest) ≡ reached (Some (end_place (summand_end s))) rest
 summand-walk s rest =
-    ap (reached (Some after_operator)) (append_assoc (spelled_factor s.first) (starred s.others) rest)
+    ap (reached (Some places.AfterOperator)) (append_assoc (spelled_factor s.first) (starred s.others) rest)
     ∙ factor-walk s.first (starred s.others ++ rest)
     ∙ others-walk (factor_end s.first) s.others rest
 
@@ -89,11 +95,11 @@ signeds-walk b (s ∷ ss) rest =
     ∙ signeds-walk (summand_end s.summand) ss rest
 
 -- the place before a relation: the first, or another one
-abbrev start_place : Bool → Place
-start_place true = after_list
-start_place false = after_comma
+abbrev pub start_place : Bool → Place
+start_place true = places.AfterList
+start_place false = places.AfterComma
 
-start-factor : (b : Bool) (f : Factor) (rest : List Lexeme) → reached (Some (start_place b)) (spelled_factor f ++ rest) ≡ reached (Some after_operator) (spelled_factor f ++ rest)
+start-factor : (b : Bool) (f : Factor) (rest : List Lexeme) → reached (Some (start_place b)) (spelled_factor f ++ rest) ≡ reached (Some places.AfterOperator) (spelled_factor f ++ rest)
 start-factor true (constant value) rest = refl
 start-factor true (power letter None) rest = refl
 start-factor true (power letter (Some value)) rest = refl
@@ -101,13 +107,13 @@ start-factor false (constant value) rest = refl
 start-factor false (power letter None) rest = refl
 start-factor false (power letter (Some value)) rest = refl
 
-start-summand : (b : Bool) (s : Summand) (rest : List Lexeme) → reached (Some (start_place b)) (spelled_summand s ++ rest) ≡ reached (Some after_operator) (spelled_summand s ++ rest)
+start-summand : (b : Bool) (s : Summand) (rest : List Lexeme) → reached (Some (start_place b)) (spelled_summand s ++ rest) ≡ reached (Some places.AfterOperator) (spelled_summand s ++ rest)
 start-summand b s rest =
     ap (reached (Some (start_place b))) (append_assoc (spelled_factor s.first) (starred s.others) rest)
     ∙ start-factor b s.first (starred s.others ++ rest)
-    ∙ ap (reached (Some after_operator)) (sym (append_assoc (spelled_factor s.first) (starred s.others) rest))
+    ∙ ap (reached (Some places.AfterOperator)) (sym (append_assoc (spelled_factor s.first) (starred s.others) rest))
 
-first-walk : (b : Bool) (s : Option Sign) (m : Summand) (rest : List Lexeme) → reached (Some (start_place b)) (spelled_first_sign s ++ (spelled_summand m ++ rest)) ≡ reached (Some after_operator) (spelled_summand m ++ rest)
+first-walk : (b : Bool) (s : Option Sign) (m : Summand) (rest : List Lexeme) → reached (Some (start_place b)) (spelled_first_sign s ++ (spelled_summand m ++ rest)) ≡ reached (Some places.AfterOperator) (spelled_summand m ++ rest)
 first-walk b None m rest = start-summand b m rest
 first-walk true (Some positive) m rest = refl
 first-walk true (Some negative) m rest = refl
@@ -121,7 +127,7 @@ relation-walk b r rest =
     ∙ summand-walk r.first (signeds r.others ++ rest)
     ∙ signeds-walk (summand_end r.first) r.others rest
 
-further-walk : (b : Bool) (rs : List Relation) → reached (Some (end_place b)) (commaed rs ++ (semicolon ∷ the_end ∷ [])) ≡ Some after_end
+further-walk : (b : Bool) (rs : List Relation) → reached (Some (end_place b)) (commaed rs ++ (semicolon ∷ the_end ∷ [])) ≡ Some places.AfterEnd
 further-walk b [] = semicolon-walk b (the_end ∷ [])
 further-walk b (r ∷ rs) =
     ap (λ ls. reached (Some (end_place b)) (comma ∷ ls)) (append_assoc (spelled_relation r) (commaed rs) (semicolon ∷ the_end ∷ []))
@@ -129,17 +135,17 @@ further-walk b (r ∷ rs) =
     ∙ relation-walk false r (commaed rs ++ (semicolon ∷ the_end ∷ []))
     ∙ further-walk (relation_end r) rs
 
-relations-walk : (rs : List Relation) → reached (Some after_list) (spelled_relations rs ++ (semicolon ∷ the_end ∷ [])) ≡ Some after_end
+relations-walk : (rs : List Relation) → reached (Some places.AfterList) (spelled_relations rs ++ (semicolon ∷ the_end ∷ [])) ≡ Some places.AfterEnd
 relations-walk [] = refl
 relations-walk (r ∷ rs) =
-    ap (reached (Some after_list)) (append_assoc (spelled_relation r) (commaed rs) (semicolon ∷ the_end ∷ []))
+    ap (reached (Some places.AfterList)) (append_assoc (spelled_relation r) (commaed rs) (semicolon ∷ the_end ∷ []))
     ∙ relation-walk true r (commaed rs ++ (semicolon ∷ the_end ∷ []))
     ∙ further-walk (relation_end r) rs
 
 -- the place after an item: after its name, or after its weight
-abbrev item_place : Bool → Place
-item_place true = after_declared
-item_place false = after_weight
+abbrev pub item_place : Bool → Place
+item_place true = places.AfterDeclared
+item_place false = places.AfterWeight
 
 abbrev weight_end : Option ℕ → Bool
 weight_end None = true
@@ -149,7 +155,7 @@ abbrev items_end : Bool → List Item → Bool
 items_end b [] = b
 items_end b (item ∷ items) = items_end (weight_end item.weight) items
 
-first-item : (x : List ℕ) (w : Option ℕ) (rest : List Lexeme) → reached (Some after_vars) (spelled_item (record { name = x; weight = w }) ++ rest) ≡ reached (Some (item_place (weight_end w))) rest
+first-item : (x : List ℕ) (w : Option ℕ) (rest : List Lexeme) → reached (Some places.AfterVars) (spelled_item (record { name = x; weight = w }) ++ rest) ≡ reached (Some (item_place (weight_end w))) rest
 first-item x None rest = refl
 first-item x (Some value) rest = refl
 
@@ -159,7 +165,7 @@ next-item true x (Some value) rest = refl
 next-item false x None rest = refl
 next-item false x (Some value) rest = refl
 
-list-end : (b : Bool) (rest : List Lexeme) → reached (Some (item_place b)) (semicolon ∷ rest) ≡ reached (Some after_list) rest
+list-end : (b : Bool) (rest : List Lexeme) → reached (Some (item_place b)) (semicolon ∷ rest) ≡ reached (Some places.AfterList) rest
 list-end true rest = refl
 list-end false rest = refl
 
@@ -170,7 +176,7 @@ items-walk b (item ∷ items) rest =
     ∙ next-item b item.name item.weight (listed items ++ rest)
     ∙ items-walk (weight_end item.weight) items rest
 
-pub spelled-walk : (tree : Tree) → reached (Some beginning) (spelled tree) ≡ Some after_end
+pub spelled-walk : (tree : Tree) → reached (Some places.Beginning) (spelled tree) ≡ Some places.AfterEnd
 spelled-walk tree =
     let rest = semicolon ∷ (spelled_relations tree.relations ++ (semicolon ∷ the_end ∷ [])) in
     first-item tree.first.name tree.first.weight (listed tree.others ++ rest)
@@ -179,18 +185,18 @@ spelled-walk tree =
     ∙ relations-walk tree.relations
 
 -- from each place a text of the grammar can be ended
-pub tight : (place : Place) → (rest : List Lexeme) × (reached (Some place) rest ≡ Some after_end)
-tight beginning = (name (codes "vars") ∷ name (codes "x") ∷ semicolon ∷ semicolon ∷ the_end ∷ [], refl)
-tight after_vars = (name (codes "x") ∷ semicolon ∷ semicolon ∷ the_end ∷ [], refl)
-tight after_list_comma = (name (codes "x") ∷ semicolon ∷ semicolon ∷ the_end ∷ [], refl)
-tight after_declared = (semicolon ∷ semicolon ∷ the_end ∷ [], refl)
-tight after_list_colon = (number 1 ∷ semicolon ∷ semicolon ∷ the_end ∷ [], refl)
-tight after_weight = (semicolon ∷ semicolon ∷ the_end ∷ [], refl)
-tight after_list = (semicolon ∷ the_end ∷ [], refl)
-tight after_comma = (number 1 ∷ semicolon ∷ the_end ∷ [], refl)
-tight after_operator = (number 1 ∷ semicolon ∷ the_end ∷ [], refl)
-tight after_name = (semicolon ∷ the_end ∷ [], refl)
-tight after_caret = (number 1 ∷ semicolon ∷ the_end ∷ [], refl)
-tight after_number = (semicolon ∷ the_end ∷ [], refl)
-tight after_last = (the_end ∷ [], refl)
-tight after_end = ([], refl)
+pub tight : (place : Place) → (rest : List Lexeme) × (reached (Some place) rest ≡ Some places.AfterEnd)
+tight places.Beginning = (name (codes "vars") ∷ name (codes "x") ∷ semicolon ∷ semicolon ∷ the_end ∷ [], refl)
+tight places.AfterVars = (name (codes "x") ∷ semicolon ∷ semicolon ∷ the_end ∷ [], refl)
+tight places.AfterListComma = (name (codes "x") ∷ semicolon ∷ semicolon ∷ the_end ∷ [], refl)
+tight places.AfterDeclared = (semicolon ∷ semicolon ∷ the_end ∷ [], refl)
+tight places.AfterListColon = (number 1 ∷ semicolon ∷ semicolon ∷ the_end ∷ [], refl)
+tight places.AfterWeight = (semicolon ∷ semicolon ∷ the_end ∷ [], refl)
+tight places.AfterList = (semicolon ∷ the_end ∷ [], refl)
+tight places.AfterComma = (number 1 ∷ semicolon ∷ the_end ∷ [], refl)
+tight places.AfterOperator = (number 1 ∷ semicolon ∷ the_end ∷ [], refl)
+tight places.AfterName = (semicolon ∷ the_end ∷ [], refl)
+tight places.AfterCaret = (number 1 ∷ semicolon ∷ the_end ∷ [], refl)
+tight places.AfterNumber = (semicolon ∷ the_end ∷ [], refl)
+tight places.AfterLast = (the_end ∷ [], refl)
+tight places.AfterEnd = ([], refl)

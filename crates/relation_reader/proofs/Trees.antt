@@ -2,11 +2,10 @@
 use Rattle.std.proofs.Common.{ℕ, ◌≡◌, true, if◌then◌else◌, List, [], ◌∷◌, ◌++◌, Option, Some, None, codes, bytes_eq, inl, inr, refl, sym, ap, ◌∙◌, append_assoc}
 use Rattle.std.proofs.lemmas.Bool.{cases_Bool}
 use Rattle.std.proofs.lemmas.Slice.Eq.{bytes_eq-Decides}
-use Rattle.relation_reader.specs.Grammar.{Lexeme, name, number, plus, minus, star, caret, comma, semicolon, colon, the_end, Item, Factor, constant, power, Summand, Sign, positive, negative, Signed, Relation, Tree, Place, beginning, after_vars, after_list_comma, after_declared, after_list_colon, after_weight, after_list, after_comma, after_operator, after_name, after_caret, after_number, after_last, after_end, reached, spelled, spelled_exponent, spelled_factor, spelled_first_sign, spelled_item, spelled_relation, spelled_relations, spelled_sign, spelled_weight}
-use Rattle.relation_reader.proofs.Spelled.{commaed, listed, signeds, starred}
-
-abbrev ending : List Lexeme
-ending = semicolon ∷ the_end ∷ []
+use Rattle.relation_reader.specs.declared.place.Place.{Place}
+use Rattle.relation_reader.specs.declared.place.Place.TheVariants as places
+use Rattle.relation_reader.specs.Grammar.{Lexeme, name, number, plus, minus, star, caret, comma, semicolon, colon, the_end, Item, Factor, constant, power, Summand, Sign, positive, negative, Signed, Relation, Tree, reached, spelled, spelled_exponent, spelled_factor, spelled_first_sign, spelled_item, spelled_relation, spelled_relations, spelled_sign, spelled_weight}
+use Rattle.relation_reader.proofs.Spelled.{commaed, ending, listed, signeds, starred}
 
 -- the text behind a factor
 abbrev tail_text : List Factor → List Signed → List Relation → List Lexeme
@@ -80,20 +79,20 @@ record BeforeItem (ls : List Lexeme) : Type 0 where
 
 -- what is left at a place
 abbrev Left : Place → List Lexeme → Type 0
-Left beginning ls = (tree : Tree) × (ls ≡ spelled tree)
-Left after_vars ls = BeforeItem ls
-Left after_list_comma ls = BeforeItem ls
-Left after_declared ls = LeftAfterDeclared ls
-Left after_list_colon ls = LeftAfterColon ls
-Left after_weight ls = LeftAfterWeight ls
-Left after_list ls = LeftAfterList ls
-Left after_comma ls = LeftAfterComma ls
-Left after_operator ls = LeftAfterOperator ls
-Left after_name ls = LeftAfterName ls
-Left after_caret ls = LeftAfterCaret ls
-Left after_number ls = LeftAfterFactor ls
-Left after_last ls = ls ≡ the_end ∷ []
-Left after_end ls = ls ≡ []
+Left places.Beginning ls = (tree : Tree) × (ls ≡ spelled tree)
+Left places.AfterVars ls = BeforeItem ls
+Left places.AfterListComma ls = BeforeItem ls
+Left places.AfterDeclared ls = LeftAfterDeclared ls
+Left places.AfterListColon ls = LeftAfterColon ls
+Left places.AfterWeight ls = LeftAfterWeight ls
+Left places.AfterList ls = LeftAfterList ls
+Left places.AfterComma ls = LeftAfterComma ls
+Left places.AfterOperator ls = LeftAfterOperator ls
+Left places.AfterName ls = LeftAfterName ls
+Left places.AfterCaret ls = LeftAfterCaret ls
+Left places.AfterNumber ls = LeftAfterFactor ls
+Left places.AfterLast ls = ls ≡ the_end ∷ []
+Left places.AfterEnd ls = ls ≡ []
 
 regroup : (a f s q y : List Lexeme) → a ++ (f ++ (s ++ (q ++ y))) ≡ ((a ++ (f ++ s)) ++ q) ++ y
 regroup a f s q y = simp append_assoc
@@ -149,7 +148,7 @@ no_weight ls x = record { weight = None; items = x.items; relations = x.relation
 declared : (b : List ℕ) (ls : List Lexeme) → LeftAfterDeclared ls → BeforeItem (name b ∷ ls)
 declared b ls x = record { item = record { name = b; weight = x.weight }; items = x.items; relations = x.relations; is = ap (λ t. name b ∷ t) x.is }
 
-never : (ls : List Lexeme) → reached None ls ≡ Some after_end → ⊥
+never : (ls : List Lexeme) → reached None ls ≡ Some places.AfterEnd → ⊥
 never ls = λ e. cc
 
 -- a text that begins with `vars`
@@ -159,47 +158,47 @@ vars_first b ls e x = (
   (λ i. name ((bytes_eq-Decides b (codes "vars")).0 e i) ∷ x.is i),
 )
 
-left : (ls : List Lexeme) (place : Place) → reached (Some place) ls ≡ Some after_end → Left place ls
-left [] after_end e = refl
-left [] place e = absurd (let f : reached (Some place) [] ≡ Some after_end = e in cc)
-left (name b ∷ ls) beginning e = elim (cases_Bool (bytes_eq b (codes "vars"))) [
-  | inl is_vars ↦ vars_first b ls is_vars (left ls after_vars (sym (ap (λ t. reached (if t then Some after_vars else None) ls) is_vars) ∙ e))
-  | inr is_other ↦ absurd (never ls (sym (ap (λ t. reached (if t then Some after_vars else None) ls) is_other) ∙ e))
+left : (ls : List Lexeme) (place : Place) → reached (Some place) ls ≡ Some places.AfterEnd → Left place ls
+left [] places.AfterEnd e = refl
+left [] place e = absurd (let f : reached (Some place) [] ≡ Some places.AfterEnd = e in cc)
+left (name b ∷ ls) places.Beginning e = elim (cases_Bool (bytes_eq b (codes "vars"))) [
+  | inl is_vars ↦ vars_first b ls is_vars (left ls places.AfterVars (sym (ap (λ t. reached (if t then Some places.AfterVars else None) ls) is_vars) ∙ e))
+  | inr is_other ↦ absurd (never ls (sym (ap (λ t. reached (if t then Some places.AfterVars else None) ls) is_other) ∙ e))
 ]
-left (name b ∷ ls) after_vars e = declared b ls (left ls after_declared e)
-left (name b ∷ ls) after_list_comma e = declared b ls (left ls after_declared e)
-left (comma ∷ ls) after_declared e = no_weight (comma ∷ ls) (item_first ls (left ls after_list_comma e))
-left (semicolon ∷ ls) after_declared e = no_weight (semicolon ∷ ls) (list_end ls (left ls after_list e))
-left (colon ∷ ls) after_declared e = let x = left ls after_list_colon e in record { weight = Some x.value; items = x.items; relations = x.relations; is = ap (λ t. colon ∷ t) x.is }
-left (number v ∷ ls) after_list_colon e = let x = left ls after_weight e in record { value = v; items = x.items; relations = x.relations; is = ap (λ t. number v ∷ t) x.is }
-left (comma ∷ ls) after_weight e = item_first ls (left ls after_list_comma e)
-left (semicolon ∷ ls) after_weight e = list_end ls (left ls after_list e)
-left (semicolon ∷ ls) after_list e = record { relations = []; is = ap (λ t. semicolon ∷ t) (left ls after_last e) }
-left (plus ∷ ls) after_list e = first_relation (plus ∷ ls) (signed_relation positive ls (left ls after_operator e))
-left (minus ∷ ls) after_list e = first_relation (minus ∷ ls) (signed_relation negative ls (left ls after_operator e))
-left (name b ∷ ls) after_list e = first_relation (name b ∷ ls) (plain_relation (name b ∷ ls) (name_first b ls (left ls after_name e)))
-left (number v ∷ ls) after_list e = first_relation (number v ∷ ls) (plain_relation (number v ∷ ls) (number_first v ls (left ls after_number e)))
-left (plus ∷ ls) after_comma e = signed_relation positive ls (left ls after_operator e)
-left (minus ∷ ls) after_comma e = signed_relation negative ls (left ls after_operator e)
-left (name b ∷ ls) after_comma e = plain_relation (name b ∷ ls) (name_first b ls (left ls after_name e))
-left (number v ∷ ls) after_comma e = plain_relation (number v ∷ ls) (number_first v ls (left ls after_number e))
-left (name b ∷ ls) after_operator e = name_first b ls (left ls after_name e)
-left (number v ∷ ls) after_operator e = number_first v ls (left ls after_number e)
-left (caret ∷ ls) after_name e = let x = left ls after_caret e in record { exponent = Some x.value; others = x.others; signed = x.signed; relations = x.relations; is = ap (λ t. caret ∷ t) x.is }
-left (star ∷ ls) after_name e = no_exponent (star ∷ ls) (star_first ls (left ls after_operator e))
-left (plus ∷ ls) after_name e = no_exponent (plus ∷ ls) (sign_first positive ls (left ls after_operator e))
-left (minus ∷ ls) after_name e = no_exponent (minus ∷ ls) (sign_first negative ls (left ls after_operator e))
-left (comma ∷ ls) after_name e = no_exponent (comma ∷ ls) (comma_first ls (left ls after_comma e))
-left (semicolon ∷ ls) after_name e = no_exponent (semicolon ∷ ls) (semicolon_first ls (left ls after_last e))
-left (number v ∷ ls) after_caret e = let x = left ls after_number e in record { value = v; others = x.others; signed = x.signed; relations = x.relations; is = ap (λ t. number v ∷ t) x.is }
-left (star ∷ ls) after_number e = star_first ls (left ls after_operator e)
-left (plus ∷ ls) after_number e = sign_first positive ls (left ls after_operator e)
-left (minus ∷ ls) after_number e = sign_first negative ls (left ls after_operator e)
-left (comma ∷ ls) after_number e = comma_first ls (left ls after_comma e)
-left (semicolon ∷ ls) after_number e = semicolon_first ls (left ls after_last e)
-left (the_end ∷ ls) after_last e = ap (λ t. the_end ∷ t) (left ls after_end e)
+left (name b ∷ ls) places.AfterVars e = declared b ls (left ls places.AfterDeclared e)
+left (name b ∷ ls) places.AfterListComma e = declared b ls (left ls places.AfterDeclared e)
+left (comma ∷ ls) places.AfterDeclared e = no_weight (comma ∷ ls) (item_first ls (left ls places.AfterListComma e))
+left (semicolon ∷ ls) places.AfterDeclared e = no_weight (semicolon ∷ ls) (list_end ls (left ls places.AfterList e))
+left (colon ∷ ls) places.AfterDeclared e = let x = left ls places.AfterListColon e in record { weight = Some x.value; items = x.items; relations = x.relations; is = ap (λ t. colon ∷ t) x.is }
+left (number v ∷ ls) places.AfterListColon e = let x = left ls places.AfterWeight e in record { value = v; items = x.items; relations = x.relations; is = ap (λ t. number v ∷ t) x.is }
+left (comma ∷ ls) places.AfterWeight e = item_first ls (left ls places.AfterListComma e)
+left (semicolon ∷ ls) places.AfterWeight e = list_end ls (left ls places.AfterList e)
+left (semicolon ∷ ls) places.AfterList e = record { relations = []; is = ap (λ t. semicolon ∷ t) (left ls places.AfterLast e) }
+left (plus ∷ ls) places.AfterList e = first_relation (plus ∷ ls) (signed_relation positive ls (left ls places.AfterOperator e))
+left (minus ∷ ls) places.AfterList e = first_relation (minus ∷ ls) (signed_relation negative ls (left ls places.AfterOperator e))
+left (name b ∷ ls) places.AfterList e = first_relation (name b ∷ ls) (plain_relation (name b ∷ ls) (name_first b ls (left ls places.AfterName e)))
+left (number v ∷ ls) places.AfterList e = first_relation (number v ∷ ls) (plain_relation (number v ∷ ls) (number_first v ls (left ls places.AfterNumber e)))
+left (plus ∷ ls) places.AfterComma e = signed_relation positive ls (left ls places.AfterOperator e)
+left (minus ∷ ls) places.AfterComma e = signed_relation negative ls (left ls places.AfterOperator e)
+left (name b ∷ ls) places.AfterComma e = plain_relation (name b ∷ ls) (name_first b ls (left ls places.AfterName e))
+left (number v ∷ ls) places.AfterComma e = plain_relation (number v ∷ ls) (number_first v ls (left ls places.AfterNumber e))
+left (name b ∷ ls) places.AfterOperator e = name_first b ls (left ls places.AfterName e)
+left (number v ∷ ls) places.AfterOperator e = number_first v ls (left ls places.AfterNumber e)
+left (caret ∷ ls) places.AfterName e = let x = left ls places.AfterCaret e in record { exponent = Some x.value; others = x.others; signed = x.signed; relations = x.relations; is = ap (λ t. caret ∷ t) x.is }
+left (star ∷ ls) places.AfterName e = no_exponent (star ∷ ls) (star_first ls (left ls places.AfterOperator e))
+left (plus ∷ ls) places.AfterName e = no_exponent (plus ∷ ls) (sign_first positive ls (left ls places.AfterOperator e))
+left (minus ∷ ls) places.AfterName e = no_exponent (minus ∷ ls) (sign_first negative ls (left ls places.AfterOperator e))
+left (comma ∷ ls) places.AfterName e = no_exponent (comma ∷ ls) (comma_first ls (left ls places.AfterComma e))
+left (semicolon ∷ ls) places.AfterName e = no_exponent (semicolon ∷ ls) (semicolon_first ls (left ls places.AfterLast e))
+left (number v ∷ ls) places.AfterCaret e = let x = left ls places.AfterNumber e in record { value = v; others = x.others; signed = x.signed; relations = x.relations; is = ap (λ t. number v ∷ t) x.is }
+left (star ∷ ls) places.AfterNumber e = star_first ls (left ls places.AfterOperator e)
+left (plus ∷ ls) places.AfterNumber e = sign_first positive ls (left ls places.AfterOperator e)
+left (minus ∷ ls) places.AfterNumber e = sign_first negative ls (left ls places.AfterOperator e)
+left (comma ∷ ls) places.AfterNumber e = comma_first ls (left ls places.AfterComma e)
+left (semicolon ∷ ls) places.AfterNumber e = semicolon_first ls (left ls places.AfterLast e)
+left (the_end ∷ ls) places.AfterLast e = ap (λ t. the_end ∷ t) (left ls places.AfterEnd e)
 left (l ∷ ls) place e = absurd (never ls e)
 
 -- a tree of what the table lets through
-pub tree-of : (ls : List Lexeme) → reached (Some beginning) ls ≡ Some after_end → (tree : Tree) × (ls ≡ spelled tree)
-tree-of ls e = left ls beginning e
+pub tree-of : (ls : List Lexeme) → reached (Some places.Beginning) ls ≡ Some places.AfterEnd → (tree : Tree) × (ls ≡ spelled tree)
+tree-of ls e = left ls places.Beginning e

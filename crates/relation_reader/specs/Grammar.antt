@@ -7,6 +7,8 @@ use Rattle.relation_reader.specs.declared.token.Token.{Token}
 use Rattle.relation_reader.specs.declared.fault.Want.TheVariants as wants
 use Rattle.relation_reader.specs.declared.fault.InputFault.{InputFault}
 use Rattle.relation_reader.specs.declared.fault.InputFault.TheVariants as faults
+use Rattle.relation_reader.specs.declared.place.Place.{Place}
+use Rattle.relation_reader.specs.declared.place.Place.TheVariants as places
 use Rattle.relation_reader.specs.Tokens.{span}
 
 -- a token as the grammar sees it: its mark, a name with its bytes
@@ -130,91 +132,74 @@ abbrev pub spelled : Tree → List Lexeme
 spelled tree = name (codes "vars") ∷ (spelled_item tree.first ++ (flat_map (λ item. comma ∷ spelled_item item) tree.others
     ++ (semicolon ∷ (spelled_relations tree.relations ++ (semicolon ∷ the_end ∷ [])))))
 
--- the places between tokens, by what stands before them
-pub data Place : Type 0 where
-  beginning : Place
-  after_vars : Place
-  after_list_comma : Place
-  after_declared : Place
-  after_list_colon : Place
-  after_weight : Place
-  after_list : Place
-  after_comma : Place
-  after_operator : Place
-  after_name : Place
-  after_caret : Place
-  after_number : Place
-  after_last : Place
-  after_end : Place
-
 -- what may come after a whole factor, and the place after it
 abbrev pub in_relation : Lexeme → Option Place
-in_relation star = Some after_operator
-in_relation plus = Some after_operator
-in_relation minus = Some after_operator
-in_relation comma = Some after_comma
-in_relation semicolon = Some after_last
+in_relation star = Some places.AfterOperator
+in_relation plus = Some places.AfterOperator
+in_relation minus = Some places.AfterOperator
+in_relation comma = Some places.AfterComma
+in_relation semicolon = Some places.AfterLast
 in_relation lexeme = None
 
 -- what may begin a factor
 abbrev pub of_factor : Lexeme → Option Place
-of_factor (name bytes) = Some after_name
-of_factor (number value) = Some after_number
+of_factor (name bytes) = Some places.AfterName
+of_factor (number value) = Some places.AfterNumber
 of_factor lexeme = None
 
 -- what may begin a relation
 abbrev pub of_term : Lexeme → Option Place
-of_term plus = Some after_operator
-of_term minus = Some after_operator
+of_term plus = Some places.AfterOperator
+of_term minus = Some places.AfterOperator
 of_term lexeme = of_factor lexeme
 
 -- what may come at a place, and the place after it
 abbrev pub next_place : Place → Lexeme → Option Place
-next_place beginning (name bytes) = if bytes_eq bytes (codes "vars") then Some after_vars else None
-next_place beginning lexeme = None
-next_place after_vars (name bytes) = Some after_declared
-next_place after_vars lexeme = None
-next_place after_list_comma (name bytes) = Some after_declared
-next_place after_list_comma lexeme = None
-next_place after_declared comma = Some after_list_comma
-next_place after_declared semicolon = Some after_list
-next_place after_declared colon = Some after_list_colon
-next_place after_declared lexeme = None
-next_place after_list_colon (number value) = Some after_weight
-next_place after_list_colon lexeme = None
-next_place after_weight comma = Some after_list_comma
-next_place after_weight semicolon = Some after_list
-next_place after_weight lexeme = None
-next_place after_list semicolon = Some after_last
-next_place after_list lexeme = of_term lexeme
-next_place after_comma lexeme = of_term lexeme
-next_place after_operator lexeme = of_factor lexeme
-next_place after_name caret = Some after_caret
-next_place after_name lexeme = in_relation lexeme
-next_place after_caret (number value) = Some after_number
-next_place after_caret lexeme = None
-next_place after_number lexeme = in_relation lexeme
-next_place after_last the_end = Some after_end
-next_place after_last lexeme = None
-next_place after_end lexeme = None
+next_place places.Beginning (name bytes) = if bytes_eq bytes (codes "vars") then Some places.AfterVars else None
+next_place places.Beginning lexeme = None
+next_place places.AfterVars (name bytes) = Some places.AfterDeclared
+next_place places.AfterVars lexeme = None
+next_place places.AfterListComma (name bytes) = Some places.AfterDeclared
+next_place places.AfterListComma lexeme = None
+next_place places.AfterDeclared comma = Some places.AfterListComma
+next_place places.AfterDeclared semicolon = Some places.AfterList
+next_place places.AfterDeclared colon = Some places.AfterListColon
+next_place places.AfterDeclared lexeme = None
+next_place places.AfterListColon (number value) = Some places.AfterWeight
+next_place places.AfterListColon lexeme = None
+next_place places.AfterWeight comma = Some places.AfterListComma
+next_place places.AfterWeight semicolon = Some places.AfterList
+next_place places.AfterWeight lexeme = None
+next_place places.AfterList semicolon = Some places.AfterLast
+next_place places.AfterList lexeme = of_term lexeme
+next_place places.AfterComma lexeme = of_term lexeme
+next_place places.AfterOperator lexeme = of_factor lexeme
+next_place places.AfterName caret = Some places.AfterCaret
+next_place places.AfterName lexeme = in_relation lexeme
+next_place places.AfterCaret (number value) = Some places.AfterNumber
+next_place places.AfterCaret lexeme = None
+next_place places.AfterNumber lexeme = in_relation lexeme
+next_place places.AfterLast the_end = Some places.AfterEnd
+next_place places.AfterLast lexeme = None
+next_place places.AfterEnd lexeme = None
 
 -- the fault of a token that may not come at a place
 abbrev pub refusal : Place → Lexeme → ℕ → InputFault
-refusal beginning lexeme at = faults.Expected at wants.Vars
-refusal after_vars semicolon at = faults.NoVariable at
-refusal after_vars lexeme at = faults.Expected at wants.Name
-refusal after_list_comma lexeme at = faults.Expected at wants.Name
-refusal after_declared lexeme at = faults.Expected at wants.ListMark
-refusal after_list_colon lexeme at = faults.Expected at wants.Weight
-refusal after_weight lexeme at = faults.Expected at wants.ListMark
-refusal after_list lexeme at = faults.Expected at wants.Term
-refusal after_comma lexeme at = faults.Expected at wants.Term
-refusal after_operator lexeme at = faults.Expected at wants.Factor
-refusal after_name lexeme at = faults.Expected at wants.Operator
-refusal after_caret lexeme at = faults.Expected at wants.Exponent
-refusal after_number lexeme at = faults.Expected at wants.Operator
-refusal after_last lexeme at = faults.AfterEnd at
-refusal after_end lexeme at = faults.AfterEnd at
+refusal places.Beginning lexeme at = faults.Expected at wants.Vars
+refusal places.AfterVars semicolon at = faults.NoVariable at
+refusal places.AfterVars lexeme at = faults.Expected at wants.Name
+refusal places.AfterListComma lexeme at = faults.Expected at wants.Name
+refusal places.AfterDeclared lexeme at = faults.Expected at wants.ListMark
+refusal places.AfterListColon lexeme at = faults.Expected at wants.Weight
+refusal places.AfterWeight lexeme at = faults.Expected at wants.ListMark
+refusal places.AfterList lexeme at = faults.Expected at wants.Term
+refusal places.AfterComma lexeme at = faults.Expected at wants.Term
+refusal places.AfterOperator lexeme at = faults.Expected at wants.Factor
+refusal places.AfterName lexeme at = faults.Expected at wants.Operator
+refusal places.AfterCaret lexeme at = faults.Expected at wants.Exponent
+refusal places.AfterNumber lexeme at = faults.Expected at wants.Operator
+refusal places.AfterLast lexeme at = faults.AfterEnd at
+refusal places.AfterEnd lexeme at = faults.AfterEnd at
 
 -- the place after some marks, where each may come
 abbrev pub reached : Option Place → List Lexeme → Option Place
@@ -224,11 +209,11 @@ reached (Some place) (l ∷ ls) = reached (next_place place l) ls
 
 -- the marks that the table lets through to the end are those of the texts of the grammar
 abbrev pub TableIsGrammar : Type 0
-TableIsGrammar = (ls : List Lexeme) → (reached (Some beginning) ls ≡ Some after_end) ↔ ((tree : Tree) × (ls ≡ spelled tree))
+TableIsGrammar = (ls : List Lexeme) → (reached (Some places.Beginning) ls ≡ Some places.AfterEnd) ↔ ((tree : Tree) × (ls ≡ spelled tree))
 
 -- each place is on the way to a whole text, so that the table refuses a mark only where no text of the grammar goes on with it
 abbrev pub TableIsTight : Type 0
-TableIsTight = (ls : List Lexeme) (place : Place) → reached (Some beginning) ls ≡ Some place → (rest : List Lexeme) × (reached (Some place) rest ≡ Some after_end)
+TableIsTight = (ls : List Lexeme) (place : Place) → reached (Some places.Beginning) ls ≡ Some place → (rest : List Lexeme) × (reached (Some place) rest ≡ Some places.AfterEnd)
 
 -- a text of the grammar is spelled by one tree
 abbrev pub SpellsOnce : Type 0

@@ -11,7 +11,9 @@ use Rattle.relation_reader.specs.declared.token.Token.{Token}
 use Rattle.relation_reader.specs.declared.fault.InputFault.{InputFault}
 use Rattle.relation_reader.specs.declared.fault.InputFault.TheVariants as faults
 use Rattle.relation_reader.specs.Tokens.{SplitsFrom}
-use Rattle.relation_reader.specs.Grammar.{Lexeme, name, number, star, caret, semicolon, the_end, Piece, piece_of, Factor, constant, power, Summand, Sign, positive, negative, Signed, Relation, Tree, spelled, Place, beginning, after_vars, after_list_comma, after_list_colon, after_list, after_comma, after_operator, after_caret, next_place, refusal}
+use Rattle.relation_reader.specs.declared.place.Place.{Place}
+use Rattle.relation_reader.specs.declared.place.Place.TheVariants as places
+use Rattle.relation_reader.specs.Grammar.{Lexeme, name, number, star, caret, semicolon, the_end, Piece, piece_of, Factor, constant, power, Summand, Sign, positive, negative, Signed, Relation, Tree, spelled, next_place, refusal}
 
 -- The faults with a place.
 
@@ -34,38 +36,38 @@ is_among x (y ∷ ys) = bytes_eq x y || is_among x ys
 
 -- a declared name, and it has this
 abbrev pub is_declared : (List ℕ → Bool) → Place → Lexeme → Bool
-is_declared test after_vars (name bytes) = test bytes
-is_declared test after_list_comma (name bytes) = test bytes
+is_declared test places.AfterVars (name bytes) = test bytes
+is_declared test places.AfterListComma (name bytes) = test bytes
 is_declared test place lexeme = false
 
 -- a name in a relation, and it has this
 abbrev pub is_used : (List ℕ → Bool) → Place → Lexeme → Bool
-is_used test after_list (name bytes) = test bytes
-is_used test after_comma (name bytes) = test bytes
-is_used test after_operator (name bytes) = test bytes
+is_used test places.AfterList (name bytes) = test bytes
+is_used test places.AfterComma (name bytes) = test bytes
+is_used test places.AfterOperator (name bytes) = test bytes
 is_used test place lexeme = false
 
 -- a declared weight, and it has this
 abbrev pub is_weight : (ℕ → Bool) → Place → Lexeme → Bool
-is_weight test after_list_colon (number value) = test value
+is_weight test places.AfterListColon (number value) = test value
 is_weight test place lexeme = false
 
 -- an exponent, and it has this
 abbrev pub is_exponent : (ℕ → Bool) → Place → Lexeme → Bool
-is_exponent test after_caret (number value) = test value
+is_exponent test places.AfterCaret (number value) = test value
 is_exponent test place lexeme = false
 
 -- the first token of a relation
 abbrev pub begins_relation : Place → Lexeme → Bool
-begins_relation after_list semicolon = false
-begins_relation after_list lexeme = true
-begins_relation after_comma lexeme = true
+begins_relation places.AfterList semicolon = false
+begins_relation places.AfterList lexeme = true
+begins_relation places.AfterComma lexeme = true
 begins_relation place lexeme = false
 
 -- the name that a token declares, where it declares one
 abbrev pub declares : Place → Lexeme → List (List ℕ)
-declares after_vars (name bytes) = bytes ∷ []
-declares after_list_comma (name bytes) = bytes ∷ []
+declares places.AfterVars (name bytes) = bytes ∷ []
+declares places.AfterListComma (name bytes) = bytes ∷ []
 declares place lexeme = []
 
 -- the names that some tokens declare
@@ -81,7 +83,7 @@ relations_begun (t ∷ ts) = (if begins_relation t.place t.lexeme then 1 else 0)
 abbrev pub letters_after : ℕ → Place → Lexeme → ℕ
 letters_after n place (name bytes) = n + 1
 letters_after n place caret = n - 1
-letters_after n after_caret (number value) = n + value
+letters_after n places.AfterCaret (number value) = n + value
 letters_after n place (number value) = n
 letters_after n place star = n
 letters_after n place lexeme = 0
@@ -141,7 +143,7 @@ pieces_of text tokens (Some fault) = map (piece_of text) tokens
 
 -- the fault with the least place, and the first of that place
 abbrev pub place_fault : List Piece → Option InputFault → Option InputFault
-place_fault pieces stop = first_of (faults_from [] (placed_from (Some beginning) pieces) ++ stop ∷ [])
+place_fault pieces stop = first_of (faults_from [] (placed_from (Some places.Beginning) pieces) ++ stop ∷ [])
 
 -- What a tree means.
 
