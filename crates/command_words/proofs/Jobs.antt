@@ -1,0 +1,132 @@
+-- From what is kept to the job, or to the key that is missing.
+use Rattle.std.proofs.Common.{◌≡◌, ℕ, List, ◌∷◌, Bool, sym, ap, ◌∙◌, inl, inr, Option, Some, None, subst, false, unwrap_or}
+use Rattle.std.specs.Prelude.{All, IfSome, IsSome, MatchOption}
+use Rattle.std.proofs.lemmas.List.Elements.{All-weaker}
+use Rattle.command_words.specs.declared.job.Command.{Command}
+use Rattle.command_words.specs.declared.job.Key.{Key}
+use Rattle.command_words.specs.declared.job.Key.TheVariants as keys
+use Rattle.command_words.specs.declared.job.Show.{Show}
+use Rattle.command_words.specs.declared.job.Show.TheVariants as shows
+use Rattle.command_words.specs.declared.job.EngineKind.{EngineKind}
+use Rattle.command_words.specs.declared.job.EngineKind.TheVariants as engines
+use Rattle.command_words.specs.declared.job.Job.{Job}
+use Rattle.command_words.specs.declared.value.Value.{Value}
+use Rattle.command_words.specs.declared.value.Value.TheVariants.{Count, Shown, Answer, Kind}
+use Rattle.command_words.specs.Keys.{command_name, required_of}
+use Rattle.command_words.specs.Values.{IsAnswer, IsEngine, IsModulus, IsNumberFrom, IsShow, IsValue, default_of, value_at}
+use Rattle.command_words.specs.Refusals.{Stands}
+use Rattle.command_words.specs.JobOf.{AreTaken, IsFirstMissing, IsJob, IsTold, IsValueIn}
+use Rattle.command_words.specs.Draft.{IsDraft, IsFirstGap, answer_in, count_in, engine_in, kept, show_in}
+use Rattle.command_words.proofs.Drafts.{kept_stands, unkept}
+
+-- what is kept is a value of its key
+abbrev pub AreValues : List (Option Value) → Type 0
+AreValues values = (key : Key) → IfSome (kept values key) (λ value. (text : List ℕ) × IsValue key text value)
+
+has_text : (words : List (List ℕ)) (key : Key) (o : Option Value) → MatchOption o (Stands words key → ⊥) (IsTold words key) → IfSome o (λ value. (text : List ℕ) × IsValue key text value)
+has_text words key None h = tt
+has_text words key (Some v) h = (h.says.text, h.says.is_value)
+
+pub are_values : (command : Command) (words : List (List ℕ)) (values : List (Option Value)) → IsDraft command words values → AreValues values
+are_values command words values draft key = has_text words key (kept values key) (draft.told key)
+
+-- each kind of value, or its default
+count_is : (o : Option Value) (d n : ℕ) → n ≡ count_in o d → IfSome o (λ v. (m : ℕ) × (v ≡ Count m)) → Count n ≡ unwrap_or o (Count d)
+count_is None d n e h = ap Count e
+count_is (Some v) d n e h =
+    let m : n ≡ h.0 = e ∙ ap (λ (w : Value). count_in (Some w) d) h.1 in
+    ap Count m ∙ sym h.1
+
+answer_is : (o : Option Value) (d b : Bool) → b ≡ answer_in o d → IfSome o (λ v. (c : Bool) × (v ≡ Answer c)) → Answer b ≡ unwrap_or o (Answer d)
+answer_is None d b e h = ap Answer e
+answer_is (Some v) d b e h =
+    let m : b ≡ h.0 = e ∙ ap (λ (w : Value). answer_in (Some w) d) h.1 in
+    ap Answer m ∙ sym h.1
+
+show_is : (o : Option Value) (d b : Show) → b ≡ show_in o d → IfSome o (λ v. (c : Show) × (v ≡ Shown c)) → Shown b ≡ unwrap_or o (Shown d)
+show_is None d b e h = ap Shown e
+show_is (Some v) d b e h =
+    let m : b ≡ h.0 = e ∙ ap (λ (w : Value). show_in (Some w) d) h.1 in
+    ap Shown m ∙ sym h.1
+
+engine_is : (o : Option Value) (d b : EngineKind) → b ≡ engine_in o d → IfSome o (λ v. (c : EngineKind) × (v ≡ Kind c)) → Kind b ≡ unwrap_or o (Kind d)
+engine_is None d b e h = ap Kind e
+engine_is (Some v) d b e h =
+    let m : b ≡ h.0 = e ∙ ap (λ (w : Value). engine_in (Some w) d) h.1 in
+    ap Kind m ∙ sym h.1
+
+is_count : (low high : ℕ) (o : Option Value) → IfSome o (λ v. (text : List ℕ) × IsNumberFrom low high text v) → IfSome o (λ v. (m : ℕ) × (v ≡ Count m))
+is_count low high None h = tt
+is_count low high (Some v) h = (h.1.number, h.1.value_is)
+
+is_modulus : (o : Option Value) → IfSome o (λ v. (text : List ℕ) × IsModulus text v) → IfSome o (λ v. (m : ℕ) × (v ≡ Count m))
+is_modulus None h = tt
+is_modulus (Some v) h = (h.1.number, h.1.value_is)
+
+is_answer : (o : Option Value) → IfSome o (λ v. (text : List ℕ) × IsAnswer text v) → IfSome o (λ v. (c : Bool) × (v ≡ Answer c))
+is_answer None h = tt
+is_answer (Some v) h = (h.1.0, h.1.2)
+
+is_show : (o : Option Value) → IfSome o (λ v. (text : List ℕ) × IsShow text v) → IfSome o (λ v. (c : Show) × (v ≡ Shown c))
+is_show None h = tt
+is_show (Some v) h = (h.1.0, h.1.2)
+
+is_engine : (o : Option Value) → IfSome o (λ v. (text : List ℕ) × IsEngine text v) → IfSome o (λ v. (c : EngineKind) × (v ≡ Kind c))
+is_engine None h = tt
+is_engine (Some v) h = (h.1.0, h.1.2)
+
+-- the fields of a job are what is kept
+pub record AreFields (values : List (Option Value)) (job : Job) : Type 0 where
+  pub modulus : job.modulus ≡ count_in (kept values keys.Mod) 0
+  pub bound : job.bound ≡ count_in (kept values keys.Deg) 0
+  pub workers : job.workers ≡ count_in (kept values keys.Workers) 1
+  pub show : job.show ≡ show_in (kept values keys.Show) shows.Both
+  pub trace : job.trace ≡ answer_in (kept values keys.Trace) false
+  pub engine : job.engine ≡ engine_in (kept values keys.Engine) engines.Plain
+  pub schedule : job.schedule ≡ count_in (kept values keys.Schedule) 0
+  pub number : job.number ≡ count_in (kept values keys.Number) 0
+  pub letters : job.letters ≡ count_in (kept values keys.Vars) 0
+  pub gens : job.gens ≡ count_in (kept values keys.Gens) 0
+  pub list : job.list ≡ answer_in (kept values keys.List) false
+  pub ask : job.ask ≡ count_in (kept values keys.Ask) 0
+
+module _ (values : List (Option Value)) (job : Job) (are : AreValues values) (fields : AreFields values job) where
+  pub field_is : (key : Key) → value_at key job ≡ unwrap_or (kept values key) (default_of key)
+  field_is keys.Mod = count_is (kept values keys.Mod) 0 job.modulus fields.modulus (is_modulus (kept values keys.Mod) (are keys.Mod))
+  field_is keys.Deg = count_is (kept values keys.Deg) 0 job.bound fields.bound (is_count 1 64 (kept values keys.Deg) (are keys.Deg))
+  field_is keys.Workers = count_is (kept values keys.Workers) 1 job.workers fields.workers (is_count 1 64 (kept values keys.Workers) (are keys.Workers))
+  field_is keys.Show = show_is (kept values keys.Show) shows.Both job.show fields.show (is_show (kept values keys.Show) (are keys.Show))
+  field_is keys.Trace = answer_is (kept values keys.Trace) false job.trace fields.trace (is_answer (kept values keys.Trace) (are keys.Trace))
+  field_is keys.Engine = engine_is (kept values keys.Engine) engines.Plain job.engine fields.engine (is_engine (kept values keys.Engine) (are keys.Engine))
+  field_is keys.Schedule = count_is (kept values keys.Schedule) 0 job.schedule fields.schedule (is_count 0 4294967295 (kept values keys.Schedule) (are keys.Schedule))
+  field_is keys.Number = count_is (kept values keys.Number) 0 job.number fields.number (is_count 0 4294967295 (kept values keys.Number) (are keys.Number))
+  field_is keys.Vars = count_is (kept values keys.Vars) 0 job.letters fields.letters (is_count 2 33 (kept values keys.Vars) (are keys.Vars))
+  field_is keys.Gens = count_is (kept values keys.Gens) 0 job.gens fields.gens (is_count 1 64 (kept values keys.Gens) (are keys.Gens))
+  field_is keys.List = answer_is (kept values keys.List) false job.list fields.list (is_answer (kept values keys.List) (are keys.List))
+  field_is keys.Ask = count_is (kept values keys.Ask) 0 job.ask fields.ask (is_count 1 4096 (kept values keys.Ask) (are keys.Ask))
+
+value_in_words : (words : List (List ℕ)) (key : Key) (o : Option Value) (v : Value) → MatchOption o (Stands words key → ⊥) (IsTold words key) → v ≡ unwrap_or o (default_of key) → IsValueIn words key v
+value_in_words words key None v h e = inr (h, e)
+value_in_words words key (Some w) v h e = inl (subst (IsTold words key) (sym e) h)
+
+module _ (command : Command) (rest : List (List ℕ)) (values : List (Option Value)) (draft : IsDraft command rest values) where
+  pub job_is : (words : List (List ℕ)) (job : Job) → words ≡ command_name command ∷ rest → job.command ≡ command
+      → All (λ key. IsSome (kept values key)) (required_of command) → ((key : Key) → value_at key job ≡ unwrap_or (kept values key) (default_of key)) → IsJob words job
+  job_is words job whole same complete fields =
+      let stand : All (Stands rest) (required_of command) = All-weaker (λ (key : Key). IsSome (kept values key)) (Stands rest) (kept_stands command rest values draft) (required_of command) complete in
+      record {
+        rest = rest;
+        words_are = whole ∙ ap (λ (c : Command). command_name c ∷ rest) (sym same);
+        taken = subst (λ (c : Command). AreTaken c rest) (sym same) draft.taken;
+        complete = subst (λ (c : Command). All (Stands rest) (required_of c)) (sym same) stand;
+        values = λ key. value_in_words rest key (kept values key) (value_at key job) (draft.told key) (fields key);
+      }
+
+  pub missing_is : (keys : List Key) (key : Key) → IsFirstGap keys values key → IsFirstMissing keys rest key
+  missing_is keys key gap = record {
+    earlier = gap.earlier;
+    later = gap.later;
+    keys_are = gap.keys_are;
+    stand = All-weaker (λ (k : Key). IsSome (kept values k)) (Stands rest) (kept_stands command rest values draft) gap.earlier gap.kept_before;
+    missing = unkept command rest values draft key gap.gap;
+  }

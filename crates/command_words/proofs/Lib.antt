@@ -1,0 +1,13 @@
+pub mod Digits
+pub mod Parts
+pub mod OneKey
+pub mod Values
+pub mod Drafts
+pub mod Jobs
+pub mod Named
+pub mod Members
+pub mod OneFault
+pub mod OneJob
+pub mod OneAnswer
+pub mod Decided
+pub mod SomeAnswer

@@ -1,0 +1,56 @@
+-- Splits of lists, and members of a row of keys.
+use Rattle.std.proofs.Common.{◌≡◌, ◌≢◌, ◌⊎◌, ◌<◌, ℕ, zero, suc, List, [], ◌∷◌, ◌++◌, length, get_or, refl, sym, ap, inl, inr, arith, ◌==◌}
+use Rattle.std.specs.Prelude.{Contains}
+use Rattle.std.proofs.lemmas.Bool.{cases_Bool, eqb-false, eqb-true}
+use Rattle.std.proofs.lemmas.List.Elements.{Contains-append_right}
+use Rattle.command_words.specs.declared.job.Key.{Key}
+use Rattle.command_words.specs.Draft.{place_of}
+use Rattle.command_words.proofs.OneKey.{one_place}
+
+module _ {X : Type 0} where
+  -- two splits of one list are one, or one is before the other
+  pub compare_splits : (b : List X) (w : X) (a : List X) (c : List X) (v : X) (d : List X) → b ++ w ∷ a ≡ c ++ v ∷ d
+      → ((b ≡ c) × (w ≡ v)) ⊎ (((r : List X) × (c ≡ b ++ w ∷ r)) ⊎ ((r : List X) × (b ≡ c ++ v ∷ r)))
+  compare_splits [] w a [] v d e = inl (refl, cc e)
+  compare_splits [] w a (y ∷ c) v d e = let h : y ≡ w = cc e in inr (inl (c, ap (λ (z : X). z ∷ c) h))
+  compare_splits (x ∷ b) w a [] v d e = let h : x ≡ v = cc e in inr (inr (b, ap (λ (z : X). z ∷ b) h))
+  compare_splits (x ∷ b) w a (y ∷ c) v d e =
+      let h : x ≡ y = cc e in
+      let t : b ++ w ∷ a ≡ c ++ v ∷ d = cc e in
+      elim (compare_splits b w a c v d t) [
+        | inl p ↦ (let whole : x ∷ b ≡ y ∷ c = λ i. h i ∷ p.0 i in inl (whole, p.1))
+        | inr q ↦ elim q [
+          | inl p ↦ (let whole : y ∷ c ≡ x ∷ (b ++ w ∷ p.0) = λ i. sym h i ∷ p.1 i in inr (inl (p.0, whole)))
+          | inr p ↦ (let whole : x ∷ b ≡ y ∷ (c ++ v ∷ p.0) = λ i. h i ∷ p.1 i in inr (inr (p.0, whole)))
+        ]
+      ]
+
+  pub middle : (b : List X) (w : X) (a : List X) → Contains (b ++ w ∷ a) w
+  middle b w a = Contains-append_right b (w ∷ a) w (0, omega arith, refl)
+
+  pub Contains-more : (y : X) (xs : List X) (x : X) → Contains xs x → Contains (y ∷ xs) x
+  Contains-more y xs x m = (suc m.0, omega (arith, m.1), m.2)
+
+  at_front : (y : X) (xs : List X) (x : X) (k : ℕ) → k < length (y ∷ xs) → get_or (y ∷ xs) k x ≡ x → (y ≡ x) ⊎ Contains xs x
+  at_front y xs x zero lt e = inl e
+  at_front y xs x (suc k) lt e = inr (k, omega (arith, lt), e)
+
+  pub Contains-cases : (y : X) (xs : List X) (x : X) → Contains (y ∷ xs) x → (y ≡ x) ⊎ Contains xs x
+  Contains-cases y xs x h = at_front y xs x h.0 h.1 h.2
+
+-- keys are one or two, and in a row or not
+pub same_or_not : (a b : Key) → (a ≡ b) ⊎ (a ≢ b)
+same_or_not a b = elim (cases_Bool (place_of a == place_of b)) [
+  | inl t ↦ inl (one_place a b (eqb-true (place_of a) (place_of b) t))
+  | inr f ↦ inr (λ e. eqb-false (place_of a) (place_of b) f (ap place_of e))
+]
+
+pub member_or_not : (row : List Key) (key : Key) → Contains row key ⊎ (Contains row key → ⊥)
+member_or_not [] key = inr (λ m. omega (arith, m.1))
+member_or_not (k ∷ row) key = elim (same_or_not k key) [
+  | inl e ↦ inl (0, omega arith, e)
+  | inr other ↦ elim (member_or_not row key) [
+    | inl m ↦ inl (Contains-more k row key m)
+    | inr none ↦ inr (λ m. elim (Contains-cases k row key m) [ inl e ↦ other e | inr n ↦ none n ])
+  ]
+]
