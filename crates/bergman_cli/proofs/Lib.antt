@@ -1,9 +1,8 @@
-pub mod OneRelation
-pub mod Letters
-pub mod Positions
-pub mod Walks
-pub mod SoFar
-pub mod FirstTexts
-pub mod Alphabets
-pub mod Digits
-pub mod Runs
+pub mod Gaining
+pub mod Printed
+pub mod Reaches
+pub mod Ended
+pub mod DegreeLines
+pub mod Counted
+pub mod Jobs
+pub mod Causes

@@ -1,6 +1,6 @@
-pub mod Words
-pub mod FirstText
-pub mod Walk
-pub mod Reading
-pub mod Run
+pub mod Progress
+pub mod Gains
+pub mod Printing
 pub mod Status
+pub mod Lines
+pub mod Run

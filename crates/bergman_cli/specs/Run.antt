@@ -1,118 +1,147 @@
--- What a run has read, and what it has printed.
-use Rattle.std.specs.Prelude.{ℕ, ◌≡◌, ◌≢◌, ◌⊎◌, ◌<◌, ◌^◌, All, List, [], ◌∷◌, Option, length}
+-- What a run has read and printed, and why it ended so.
+use Rattle.std.specs.Prelude.{ℕ, ◌≡◌, ◌≢◌, ◌⊎◌, ◌≤◌, Bool, true, false, List, [], ◌∷◌, Option, Some, length}
 use Rattle.std.specs.Io.KnownBytes.{Appends, Consumes, IsAtEnd}
 use Rattle.words.specs.Names.{Letters}
-use Rattle.words.specs.Words.{AreWeights, degree_of}
 use Rattle.free_poly.specs.declared.term.Term.{Term}
-use Rattle.free_poly.specs.Poly.{IsPolynomial}
-use Rattle.free_poly.specs.Terms.{HasDegree, HasOneDegree, HasResidues, UsesLetters}
-use Rattle.ideal_laws.specs.Basis.{IsReducedBasis}
-use Rattle.bg_io.specs.Ends.{HasRoom, IsCutShort, Loses, Rose}
-use Rattle.poly_writer.specs.Texts.{degree_text}
+use Rattle.bg_io.specs.Ends.{Loses, LosesAtMost, Rose}
+use Rattle.ideal_laws.specs.declared.limits.LimitKind.{LimitKind}
+use Rattle.ideal_laws.specs.declared.limits.LimitKind.TheVariants.{PlainWords}
+use Rattle.ideal_laws.specs.Laws.{IsSetting}
+use Rattle.ideal_laws.specs.Limits.{standard_limits}
+use Rattle.relation_reader.specs.declared.fault.InputFault.{InputFault}
+use Rattle.relation_reader.specs.Meaning.{FirstFault, Reads}
+use Rattle.command_words.specs.declared.job.Command.TheVariants.{Gb}
+use Rattle.command_words.specs.declared.job.EngineKind.TheVariants.{Plain}
+use Rattle.command_words.specs.declared.job.Job.{Job}
+use Rattle.command_words.specs.declared.job.Show.{Show}
+use Rattle.command_words.specs.declared.job.Show.TheVariants.{Basis, Series, Both}
+use Rattle.command_words.specs.JobOf.{IsJob, IsUsageFault}
+use Rattle.bergman_cli.specs.declared.status.InputProblem.TheVariants.{TooLong, Text}
+use Rattle.bergman_cli.specs.declared.status.Part.TheVariants as parts
 use Rattle.bergman_cli.specs.declared.status.Status.{Status}
-use Rattle.bergman_cli.specs.declared.status.Status.TheVariants.{Done, Unbuilt, ReadFault, WriteFault, NoMemory}
-use Rattle.bergman_cli.specs.declared.status.Part.TheVariants.{Words, Text, MixedDegrees}
-use Rattle.bergman_cli.specs.Words.{IsJob}
-use Rattle.bergman_cli.specs.FirstText.{IsFirstText}
-use Rattle.bergman_cli.specs.Reading.{HasReading}
+use Rattle.bergman_cli.specs.declared.status.Status.TheVariants.{Done, Usage, Input, Limit, Unbuilt, ReadFault, WriteFault, NoMemory}
+use Rattle.bergman_cli.specs.Gains.{HasPrinted, HasPrintedPart, HasPrintedSome}
+use Rattle.bergman_cli.specs.Progress.{IsReach, IsStoppedBy, Reach, Task, whole}
 
--- In the following, left and now are what the source tells of its bytes before and after, held and more what the sink tells of its own.
+-- In the following, left and now are what the source tells of its bytes before and after; held, more, room and the counts of faults are those of Gains.
 
--- the words are no job
-abbrev pub IsNoJob : List (List ℕ) → Type 0
-IsNoJob words = (p d : ℕ) → IsJob words p d → ⊥
+abbrev pub shows_basis : Show → Bool
+shows_basis Basis = true
+shows_basis Series = false
+shows_basis Both = true
 
--- the relations of an ideal: the one that is there, unless it is 0
-abbrev pub relations_of : List Term → List (List Term)
-relations_of [] = []
-relations_of (t ∷ f) = (t ∷ f) ∷ []
+abbrev pub shows_series : Show → Bool
+shows_series Basis = false
+shows_series Series = true
+shows_series Both = true
 
--- the relation is 0 or has the degree that was asked for
-abbrev pub HasAskedDegree : ℕ → Letters → List Term → Type 0
-HasAskedDegree d letters f = (f ≡ []) ⊎ HasDegree letters.weights d f
+-- the task of a job on a text with these letters and relations, with the limit of the plain engine
+abbrev pub task_of_job : Job → Letters → List (List Term) → Task
+task_of_job job letters relations = record {
+  modulus = job.modulus;
+  letters = letters;
+  relations = relations;
+  limits = (PlainWords, standard_limits.plain_words) ∷ [];
+  normal_words = standard_limits.normal_words;
+  bound = job.bound;
+  shows_basis = shows_basis job.show;
+  shows_series = shows_series job.show;
+}
 
--- the relation is not 0, and has another degree than the one that was asked for
-pub record HasOtherDegree (d : ℕ) (letters : Letters) (f : List Term) : Type 0 where
-  pub some : f ≢ []
-  pub own : ℕ
-  pub has_own : HasDegree letters.weights own f
-  pub other : own ≢ d
+-- the words are a job with the command `gb` and the plain engine
+pub record IsPlainJob (words : List (List ℕ)) (job : Job) : Type 0 where
+  pub is_job : IsJob words job
+  pub command : job.command ≡ Gb
+  pub engine : job.engine ≡ Plain
 
--- the text is the printed reduced basis in degree d of the ideal of the relation
-pub record IsOutput (p d : ℕ) (letters : Letters) (f : List Term) (text : List ℕ) : Type 0 where
-  pub basis : List (List Term)
-  pub is_basis : IsReducedBasis p letters.weights (relations_of f) d basis
-  pub printed : text ≡ degree_text letters.names p d basis
+-- the words are such a job, of which something holds
+abbrev pub OfPlainJob : List (List ℕ) → (Job → Type 0) → Type 0
+OfPlainJob words Holds = (job : Job) × IsPlainJob words job × Holds job
 
--- what the source had left was read to its end, and has this reading
-pub record IsRead (left now : Option (List ℕ)) (p : ℕ) (letters : Letters) (f : List Term) : Type 0 where
-  pub text : List ℕ
+-- the words are a job with another command
+abbrev pub IsOtherCommand : List (List ℕ) → Type 0
+IsOtherCommand words = (job : Job) × IsJob words job × (job.command ≢ Gb)
+
+-- the words are a job with the command `gb` and another engine
+abbrev pub IsOtherEngine : List (List ℕ) → Type 0
+IsOtherEngine words = (job : Job) × IsJob words job × (job.command ≡ Gb) × (job.engine ≢ Plain)
+
+-- this is the text: all that the source had left, at most 1,048,576 bytes
+pub record IsInput (left now : Option (List ℕ)) (text : List ℕ) : Type 0 where
   pub taken : Consumes left now text
   pub at_end : IsAtEnd now
-  pub reading : HasReading text p letters f
+  pub short : length text ≤ 1048576
 
--- such a reading has this output
-pub record HasText (left now : Option (List ℕ)) (p d : ℕ) (text : List ℕ) : Type 0 where
-  pub letters : Letters
-  pub relation : List Term
-  pub read : IsRead left now p letters relation
-  pub asked : HasAskedDegree d letters relation
-  pub output : IsOutput p d letters relation text
+-- this is a reading of the text
+abbrev pub ReadsInput : ℕ → Option (List ℕ) → Option (List ℕ) → Letters → List (List Term) → Type 0
+ReadsInput p left now letters relations = (text : List ℕ) × IsInput left now text × Reads text p letters relations
 
--- the source had more than 1,048,576 bytes left, or bytes that are no first text
-abbrev pub HasNoReading : Option (List ℕ) → Option (List ℕ) → ℕ → Type 0
-HasNoReading left now p =
-    Loses left now 1048577
-    ⊎ ((text : List ℕ) × Consumes left now text × IsAtEnd now × ((names : List ℕ) (f : List Term) → IsFirstText text p names f → ⊥))
-
--- what was read has another degree
-pub record HasOtherReading (left now : Option (List ℕ)) (p d : ℕ) : Type 0 where
-  pub letters : Letters
-  pub relation : List Term
-  pub read : IsRead left now p letters relation
-  pub other : HasOtherDegree d letters relation
-
--- why nothing is printed of a job
-abbrev pub IsRefusal : Option (List ℕ) → Option (List ℕ) → ℕ → ℕ → ℕ → ℕ → Status → Type 0
-IsRefusal left now faults_before faults_now p d ReadFault = Rose faults_before faults_now
-IsRefusal left now faults_before faults_now p d NoMemory = Unit {0}
-IsRefusal left now faults_before faults_now p d (Unbuilt Text) = HasNoReading left now p
-IsRefusal left now faults_before faults_now p d (Unbuilt (MixedDegrees relation)) = (relation ≡ 1) × HasOtherReading left now p d
-IsRefusal left now faults_before faults_now p d status = ⊥
-
--- why nothing is printed of a relation
-abbrev pub IsOther : ℕ → Letters → List Term → Status → Type 0
-IsOther d letters f NoMemory = Unit {0}
-IsOther d letters f (Unbuilt (MixedDegrees relation)) = (relation ≡ 1) × HasOtherDegree d letters f
-IsOther d letters f status = ⊥
-
--- a relation of an alphabet, as the calls take it
-pub record IsRelationOf (p : ℕ) (letters : Letters) (f : List Term) : Type 0 where
-  pub weights : AreWeights letters.weights
-  pub form : IsPolynomial f
-  pub residues : HasResidues p f
-  pub over : UsesLetters (length letters.weights) f
-  pub one_degree : HasOneDegree letters.weights f
-  pub small : All (λ t. degree_of letters.weights t.word < 2 ^ 64) f
-
--- the words are a job for which this holds
-pub record IsOfJob (words : List (List ℕ)) (Holds : ℕ → ℕ → Type 0) : Type 0 where
-  pub modulus : ℕ
-  pub degree : ℕ
-  pub job : IsJob words modulus degree
-  pub holds : Holds modulus degree
-
--- the output was gained whole
-pub record HasPrinted (left now held more : Option (List ℕ)) (p d : ℕ) : Type 0 where
+-- the text has a reading, and of the task of the job on it something holds
+pub record OfReading (job : Job) (left now : Option (List ℕ)) (Holds : Task → Type 0) : Type 0 where
   pub text : List ℕ
-  pub has_text : HasText left now p d text
-  pub gained : Appends held more text
+  pub is_input : IsInput left now text
+  pub letters : Letters
+  pub relations : List (List Term)
+  pub reads : Reads text job.modulus letters relations
+  pub setting : IsSetting job.modulus letters.weights relations
+  pub holds : Holds (task_of_job job letters relations)
 
--- a proper prefix of the output was gained, and the sink had told no room for the whole
-pub record HasPrintedPart (left now held more : Option (List ℕ)) (room : Option ℕ) (p d : ℕ) : Type 0 where
-  pub text : List ℕ
-  pub has_text : HasText left now p d text
-  pub first : List ℕ
-  pub cut_short : IsCutShort first text
-  pub gained : Appends held more first
-  pub no_room : HasRoom room (length text) → ⊥
+-- the text is refused with this fault
+abbrev pub IsRefusedInput : Job → Option (List ℕ) → Option (List ℕ) → InputFault → Type 0
+IsRefusedInput job left now fault = (text : List ℕ) × IsInput left now text × FirstFault text job.modulus fault
+
+-- the task comes so far, where this limit stops it, and its text was gained
+abbrev pub HasPrintedUpto : Task → Option (List ℕ) → Option (List ℕ) → (Reach → Type 0) → Type 0
+HasPrintedUpto t held more Stops = (reach : Reach) × Stops reach × HasPrinted t reach held more
+
+-- one byte more than a text may have was taken where it is too long, and elsewhere at most so many
+abbrev pub IsTaken : Option (List ℕ) → Option (List ℕ) → Status → Type 0
+IsTaken left now (Input TooLong) = Loses left now 1048577
+IsTaken left now status = LosesAtMost left now 1048576
+
+-- why a task ended so, and what was gained of its text
+abbrev pub IsTaskEnd : Task → Option (List ℕ) → Option (List ℕ) → Option ℕ → ℕ → ℕ → Status → Type 0
+IsTaskEnd t held more room before after Done = HasPrinted t whole held more
+IsTaskEnd t held more room before after (Limit kind d value) = HasPrintedUpto t held more (λ reach. IsStoppedBy reach kind d value)
+IsTaskEnd t held more room before after WriteFault = Rose before after × HasPrintedPart t held more room
+IsTaskEnd t held more room before after NoMemory = HasPrintedSome t held more
+IsTaskEnd t held more room before after status = ⊥
+
+-- why a text was not read
+abbrev pub IsInputEnd : ℕ → Option (List ℕ) → Option (List ℕ) → ℕ → ℕ → Status → Type 0
+IsInputEnd p left now before after (Input TooLong) = Loses left now 1048577
+IsInputEnd p left now before after (Input (Text fault)) = (text : List ℕ) × IsInput left now text × FirstFault text p fault
+IsInputEnd p left now before after ReadFault = Rose before after
+IsInputEnd p left now before after NoMemory = Unit {0}
+IsInputEnd p left now before after status = ⊥
+
+-- why a job ended so: the text was not read and nothing was gained, or its task has ended so
+abbrev pub IsJobEnd : Job → Option (List ℕ) → Option (List ℕ) → ℕ → ℕ → Option (List ℕ) → Option (List ℕ) → Option ℕ → ℕ → ℕ → Status → Type 0
+IsJobEnd job left now b a held more room before after status =
+    (IsInputEnd job.modulus left now b a status × Appends held more []) ⊎ OfReading job left now (λ t. IsTaskEnd t held more room before after status)
+
+-- why a run ended so
+abbrev pub IsEnd : List (List ℕ) → Option (List ℕ) → Option (List ℕ) → ℕ → ℕ → Option (List ℕ) → Option (List ℕ) → Option ℕ → ℕ → ℕ → Status → Type 0
+IsEnd words left now b a held more room before after (Usage fault) = IsUsageFault words fault
+IsEnd words left now b a held more room before after (Unbuilt parts.Command) = IsOtherCommand words
+IsEnd words left now b a held more room before after (Unbuilt parts.Engine) = IsOtherEngine words
+IsEnd words left now b a held more room before after status = OfPlainJob words (λ job. IsJobEnd job left now b a held more room before after status)
+
+-- where the bytes are told and have a reading, no limit is passed, and no read or write failed, a run ends with its text or for want of memory
+abbrev pub Completes : List (List ℕ) → Option (List ℕ) → ℕ → ℕ → ℕ → ℕ → Status → Type 0
+Completes words left b a before after status =
+    (job : Job) (text : List ℕ) (letters : Letters) (relations : List (List Term)) → IsPlainJob words job → left ≡ Some text → length text ≤ 1048576 → Reads text job.modulus letters relations
+    → IsReach (task_of_job job letters relations) whole → (Rose b a → ⊥) → (Rose before after → ⊥) → (status ≡ Done) ⊎ (status ≡ NoMemory)
+
+-- where the bytes are told and have a first fault, and no read failed, a run ends with this fault or for want of memory
+abbrev pub RefusesText : List (List ℕ) → Option (List ℕ) → ℕ → ℕ → Status → Type 0
+RefusesText words left b a status =
+    (job : Job) (text : List ℕ) (fault : InputFault) → IsPlainJob words job → left ≡ Some text → length text ≤ 1048576 → FirstFault text job.modulus fault → (Rose b a → ⊥)
+    → (status ≡ Input (Text fault)) ⊎ (status ≡ NoMemory)
+
+-- where the bytes are told and have a reading, a limit stops the task, and no read failed, a run ends with this limit, with a failed write or for want of memory
+abbrev pub StopsThere : List (List ℕ) → Option (List ℕ) → ℕ → ℕ → Status → Type 0
+StopsThere words left b a status =
+    (job : Job) (text : List ℕ) (letters : Letters) (relations : List (List Term)) (reach : Reach) (kind : LimitKind) (d value : ℕ) → IsPlainJob words job → left ≡ Some text → length text ≤ 1048576
+    → Reads text job.modulus letters relations → IsReach (task_of_job job letters relations) reach → IsStoppedBy reach kind d value → (Rose b a → ⊥)
+    → (status ≡ Limit kind d value) ⊎ ((status ≡ WriteFault) ⊎ (status ≡ NoMemory))

@@ -1,24 +1,37 @@
-ghost use Rattle.std.specs.Prelude.{◌≡◌, ◌≢◌, ◌↔◌, ◌⊎◌, ◌<◌, ◌^◌, ℕ, IfOk, IfErr, OnOk, map, string_bytes, length};
+ghost use Rattle.std.specs.Prelude.{◌≡◌, ◌≢◌, ◌↔◌, ◌⊎◌, ◌<◌, ◌≤◌, ◌^◌, ℕ, List, [], All, IfErr, IfOk, MatchResult, map, string_bytes};
+ghost use Rattle.std.specs.Io.KnownBytes.{Appends};
 ghost use Rattle.field_table.specs.Residues.{IsFieldModulus};
-ghost use Rattle.bg_io.specs.Ends.{Rose};
-ghost use Rattle.bergman_cli.specs.Run.{HasAskedDegree, HasNoReading, HasOtherReading, HasPrinted, HasPrintedPart, HasText, IsNoJob, IsOfJob, IsOther, IsOutput, IsRefusal, IsRelationOf};
-ghost use Rattle.bergman_cli.specs.Status.{PrintsNothing};
+ghost use Rattle.free_poly.specs.Terms.{HasResidues};
+ghost use Rattle.bg_io.specs.Ends.{LosesAtMost, Rose};
+ghost use Rattle.relation_reader.specs.declared.fault.InputFault.{InputFault};
+ghost use Rattle.relation_reader.specs.Meaning.{Reads};
+ghost use Rattle.ideal_laws.specs.declared.limits.LimitKind.{LimitKind};
+ghost use Rattle.command_words.specs.declared.job.Job.{Job};
+ghost use Rattle.command_words.specs.declared.job.UsageFault.{UsageFault};
+ghost use Rattle.command_words.specs.JobOf.{IsJob, IsUsageFault};
+ghost use Rattle.bergman_cli.specs.Gains.{GainsSome, HasPrinted, HasPrintedPart, HasPrintedSome};
+ghost use Rattle.bergman_cli.specs.Lines.{fault_line};
+ghost use Rattle.bergman_cli.specs.Progress.{IsStoppedBy, whole};
+ghost use Rattle.bergman_cli.specs.Run.{Completes, HasPrintedUpto, IsEnd, IsInputEnd, IsJobEnd, IsOtherCommand, IsOtherEngine, IsRefusedInput, IsTaken, IsTaskEnd, OfPlainJob, OfReading, ReadsInput, RefusesText, StopsThere, shows_basis, shows_series, task_of_job};
+ghost use Rattle.bergman_cli.specs.Status.{PrintsNothing, ReadsNothing};
 
-use crate::command::{Job, job_of};
-use crate::status::{Part, Status};
-use crate::text::{FirstFault, FirstText, first_text};
+use crate::lines::fault_line;
+use crate::print::{Asked, PrintFault, print_job};
+use crate::status::{InputProblem, Part, Status};
 use bg_io::{Gate, ReadAllFault, Sink, Source, read_all, write_all};
+use command_words::{Command, EngineKind, Job, Show, read_words, words_law};
 use field_table::{Field, listed_moduli_law};
-use poly_writer::degree_text;
+use ideal_laws::{Limits, Presentation, setting_law};
+use plain_engine::PlainEngine;
+use relation_reader::{ReaderFault, read, reading_laws};
 use std::alloc::Global;
 use std::thread::Threads;
-use words::degree;
 
 /// The most bytes that a text may have.
 const TEXT_LIMIT: u32 = 1_048_576;
 
-/// Runs the command of the words: reads letters and a relation from `source`, and writes to `out` the reduced
-/// basis of the ideal of the relation in the degree that the words name.
+/// Runs the words: reads letters and relations from `source`, and writes to `out` the reduced basis of their ideal
+/// degree by degree, the lines of each before the next one is asked for, and then its series.
 pub fn bergman<R: Threads + Sync, S: Source, K: Sink, E: Sink, G: Gate>(
     rt: &R,
     alloc: Global,
@@ -28,75 +41,183 @@ pub fn bergman<R: Threads + Sync, S: Source, K: Sink, E: Sink, G: Gate>(
     err: &mut E,
     gate: &G,
 ) -> Status
-    ensures done { result ≡ Status.Done → IsOfJob (map string_bytes words.now) (HasPrinted (S.left source.old) (S.left source.new) (K.held out.old) (K.held out.new)) }
+    ensures done { result ≡ Status.Done → OfPlainJob (map string_bytes words.now) (λ job. OfReading job (S.left source.old) (S.left source.new) (λ task. HasPrinted task whole (K.held out.old) (K.held out.new))) }
 
-    // Each other status comes only for its cause.
-    ensures words { (result ≡ Status.Unbuilt Part.Words) ↔ IsNoJob (map string_bytes words.now) }
-    ensures unread { result ≡ Status.Unbuilt Part.Words → source.new ≡ source.old }
-    ensures read { result ≡ Status.ReadFault → Rose (S.faults source.old) (S.faults source.new) }
-    ensures text { result ≡ Status.Unbuilt Part.Text → IsOfJob (map string_bytes words.now) (λ p d. HasNoReading (S.left source.old) (S.left source.new) p) }
-    ensures degrees { (relation : ℕ) → result ≡ Status.Unbuilt (Part.MixedDegrees relation)
-        → IsOfJob (map string_bytes words.now) (λ p d. (relation ≡ 1) × HasOtherReading (S.left source.old) (S.left source.new) p d) }
+    // Each other status comes only for its cause, and of what words and source decide exactly there.
+    ensures usage { (fault : UsageFault) → (result ≡ Status.Usage fault) ↔ IsUsageFault (map string_bytes words.now) fault }
+    ensures command { (result ≡ Status.Unbuilt Part.Command) ↔ IsOtherCommand (map string_bytes words.now) }
+    ensures engine { (result ≡ Status.Unbuilt Part.Engine) ↔ IsOtherEngine (map string_bytes words.now) }
+    ensures unread { ReadsNothing result → source.new ≡ source.old }
+    ensures read { result ≡ Status.ReadFault → OfPlainJob (map string_bytes words.now) (λ _. Rose (S.faults source.old) (S.faults source.new)) }
+    ensures taken { IsTaken (S.left source.old) (S.left source.new) result }
+    ensures text { (fault : InputFault) → result ≡ Status.Input (InputProblem.Text fault)
+        → OfPlainJob (map string_bytes words.now) (λ job. IsRefusedInput job (S.left source.old) (S.left source.new) fault) }
+    ensures limit { (kind : LimitKind) (d value : ℕ) → result ≡ Status.Limit kind d value
+        → OfPlainJob (map string_bytes words.now) (λ job. OfReading job (S.left source.old) (S.left source.new) (λ task. HasPrintedUpto task (K.held out.old) (K.held out.new) (λ reach. IsStoppedBy reach kind d value))) }
     ensures write { result ≡ Status.WriteFault → Rose (K.faults out.old) (K.faults out.new) }
-    ensures part { result ≡ Status.WriteFault → IsOfJob (map string_bytes words.now) (HasPrintedPart (S.left source.old) (S.left source.new) (K.held out.old) (K.held out.new) (K.room out.old)) }
-
+    ensures part { result ≡ Status.WriteFault
+        → OfPlainJob (map string_bytes words.now) (λ job. OfReading job (S.left source.old) (S.left source.new) (λ task. HasPrintedPart task (K.held out.old) (K.held out.new) (K.room out.old))) }
+    ensures memory { result ≡ Status.NoMemory → Appends (K.held out.old) (K.held out.new) []
+        ⊎ OfPlainJob (map string_bytes words.now) (λ job. OfReading job (S.left source.old) (S.left source.new) (λ task. HasPrintedSome task (K.held out.old) (K.held out.new))) }
     ensures nothing { PrintsNothing result → out.new ≡ out.old }
-    ensures err { err.new ≡ err.old }
+
+    // The line of the status is told, and a fault of it changes no status.
+    ensures told { (Rose (E.faults err.old) (E.faults err.new) → ⊥) → Appends (E.held err.old) (E.held err.new) (fault_line result) }
+    ensures err { GainsSome (E.held err.old) (E.held err.new) (fault_line result) }
+
+    // And where the bytes are told, it comes where its cause stands.
+    ensures complete { Completes (map string_bytes words.now) (S.left source.old) (S.faults source.old) (S.faults source.new) (K.faults out.old) (K.faults out.new) result }
+    ensures refuses { RefusesText (map string_bytes words.now) (S.left source.old) (S.faults source.old) (S.faults source.new) result }
+    ensures stops { StopsThere (map string_bytes words.now) (S.left source.old) (S.faults source.old) (S.faults source.new) result }
 {
-    let Some(job) = job_of(words) else {
-        return Status::Unbuilt { part: Part::Words };
-    };
-    listed_moduli_law();
-    match basis_text(alloc, job, source) {
-        Ok(text) => match write_all(out, text.as_slice()) {
-            Ok(()) => Status::Done,
-            Err(_) => Status::WriteFault,
-        },
-        Err(status) => status,
-    }
+    words_law();
+    reading_laws();
+    let status = run_words(rt, alloc, words, source, out);
+    tell(err, status);
+    status
 }
 
-/// The text that the job prints, or the status that stands in its place.
-fn basis_text<S: Source>(alloc: Global, job: Job, source: &mut S) -> Result<Vec<u8>, Status>
-    requires modulus { IsFieldModulus job.modulus }
-    requires small { job.modulus < 2 ^ 31 }
-    ensures text { IfOk result (λ text. HasText (S.left source.old) (S.left source.new) job.modulus job.degree text.items) }
-    ensures refused { IfErr result (IsRefusal (S.left source.old) (S.left source.new) (S.faults source.old) (S.faults source.new) job.modulus job.degree) }
+/// Tells the line of the status.
+fn tell<E: Sink>(err: &mut E, status: Status)
+    ensures told { (Rose (E.faults err.old) (E.faults err.new) → ⊥) → Appends (E.held err.old) (E.held err.new) (fault_line status) }
+    ensures some { GainsSome (E.held err.old) (E.held err.new) (fault_line status) }
 {
-    let field = Field::new(alloc, job.modulus)?;
+    let line = fault_line(&status);
+    let _written = write_all(err, line.as_bytes());
+}
+
+fn run_words<R: Threads + Sync, S: Source, K: Sink>(
+    rt: &R,
+    alloc: Global,
+    words: &[String],
+    source: &mut S,
+    out: &mut K,
+) -> Status
+    ensures end { IsEnd (map string_bytes words.now) (S.left source.old) (S.left source.new) (S.faults source.old) (S.faults source.new) (K.held out.old) (K.held out.new) (K.room out.old) (K.faults out.old) (K.faults out.new) result }
+    ensures taken { IsTaken (S.left source.old) (S.left source.new) result }
+    ensures unread { ReadsNothing result → source.new ≡ source.old }
+    ensures nothing { PrintsNothing result → out.new ≡ out.old }
+{
+    let job = match read_words(words) {
+        Ok(job) => job,
+        Err(fault) => return Status::Usage(fault),
+    };
+    if job.command != Command::Gb {
+        return Status::Unbuilt {
+            part: Part::Command,
+        };
+    }
+    if job.engine != EngineKind::Plain {
+        return Status::Unbuilt { part: Part::Engine };
+    }
+    listed_moduli_law();
+    run_job(rt, alloc, &job, source, out)
+}
+
+/// Runs a job with the command `gb` and the plain engine.
+fn run_job<R: Threads + Sync, S: Source, K: Sink>(
+    rt: &R,
+    alloc: Global,
+    job: &Job,
+    source: &mut S,
+    out: &mut K,
+) -> Status
+    requires modulus { IsFieldModulus job.now.modulus }
+    requires small { job.now.modulus < 2 ^ 31 }
+    requires bound { job.now.bound ≤ 64 }
+
+    ensures end { IsJobEnd job.now (S.left source.old) (S.left source.new) (S.faults source.old) (S.faults source.new) (K.held out.old) (K.held out.new) (K.room out.old) (K.faults out.old) (K.faults out.new) result }
+    ensures taken { IsTaken (S.left source.old) (S.left source.new) result }
+    ensures nothing { PrintsNothing result → out.new ≡ out.old }
+{
+    let Ok(field) = Field::new(alloc, job.modulus) else {
+        return Status::NoMemory;
+    };
+    let given = match read_input(alloc, &field, source) {
+        Ok(given) => given,
+        Err(status) => return status,
+    };
+    setting_law(&field, &given);
+    print_input(rt, alloc, job, &field, &given, out)
+}
+
+/// The letters and relations that the source has, or the status that stands in their place.
+fn read_input<S: Source>(
+    alloc: Global,
+    field: &Field,
+    source: &mut S,
+) -> Result<Presentation, Status>
+    ensures reads { MatchResult result (λ given. ReadsInput field.now (S.left source.old) (S.left source.new) given.alphabet given.relations) (IsInputEnd field.now (S.left source.old) (S.left source.new) (S.faults source.old) (S.faults source.new)) }
+    ensures taken { MatchResult result (λ _. LosesAtMost (S.left source.old) (S.left source.new) 1048576) (IsTaken (S.left source.old) (S.left source.new)) }
+    ensures residues { IfOk result (λ given. All (HasResidues field.now) given.relations) }
+{
     let bytes = match read_all(alloc, source, TEXT_LIMIT) {
         Ok(bytes) => bytes,
         Err(ReadAllFault::ReadFault) => return Err(Status::ReadFault),
-        Err(ReadAllFault::TooLong) => return Err(Status::Unbuilt { part: Part::Text }),
+        Err(ReadAllFault::TooLong) => return Err(Status::Input(InputProblem::TooLong)),
         Err(ReadAllFault::NoMemory) => return Err(Status::NoMemory),
     };
-    let first = match first_text(alloc, &field, bytes.as_slice()) {
-        Ok(first) => first,
-        Err(FirstFault::Text) => return Err(Status::Unbuilt { part: Part::Text }),
-        Err(FirstFault::NoMemory) => return Err(Status::NoMemory),
-    };
-    match printed(alloc, &field, job.degree, &first) {
-        Ok(text) => Ok(text),
-        Err(status) => Err(status),
+    match read(alloc, field, bytes.as_slice()) {
+        Ok(given) => Ok(given),
+        Err(ReaderFault::Text(fault)) => Err(Status::Input(InputProblem::Text(fault))),
+        Err(ReaderFault::NoMemory) => Err(Status::NoMemory),
     }
 }
 
-/// The printed basis of a reading whose relation is 0 or has this degree.
-fn printed(alloc: Global, field: &Field, d: u32, first: &FirstText) -> Result<Vec<u8>, Status>
-    requires modulus { IsFieldModulus field.now }
-    requires relation { IsRelationOf field.now first.now.alphabet first.now.relation }
-    ensures asked { OnOk result (HasAskedDegree d first.now.alphabet first.now.relation) }
-    ensures output { IfOk result (λ text. IsOutput field.now d first.now.alphabet first.now.relation text.items) }
-    ensures refused { IfErr result (IsOther d first.now.alphabet first.now.relation) }
+/// Prints what the job asks of these letters and relations.
+fn print_input<R: Threads + Sync, K: Sink>(
+    rt: &R,
+    alloc: Global,
+    job: &Job,
+    field: &Field,
+    given: &Presentation,
+    out: &mut K,
+) -> Status
+    requires modulus { field.now ≡ job.now.modulus }
+    requires bound { job.now.bound ≤ 64 }
+    requires residues { All (HasResidues field.now) given.now.relations }
+
+    ensures end { IsTaskEnd (task_of_job job.now given.now.alphabet given.now.relations) (K.held out.old) (K.held out.new) (K.room out.old) (K.faults out.old) (K.faults out.new) result }
 {
-    let Some(lead) = first.relation.lead() else {
-        return Ok(Vec::new(alloc));
-    };
-    if degree(&first.alphabet, lead.letters()) != u64::from(d) {
-        return Err(Status::Unbuilt {
-            part: Part::MixedDegrees { relation: 1 },
-        });
+    let mut engine = PlainEngine::new(Limits::standard());
+    let asked = asked_of(job);
+    match print_job(rt, alloc, &mut engine, field, given, asked, out) {
+        Ok(()) => Status::Done,
+        Err(
+            PrintFault::Limit {
+                kind,
+                degree,
+                value,
+            },
+        ) => Status::Limit {
+            kind,
+            degree,
+            value,
+        },
+        Err(PrintFault::WriteFault) => Status::WriteFault,
+        Err(PrintFault::NoMemory) => Status::NoMemory,
     }
-    let element = first.relation.monic(alloc, field)?;
-    Ok(degree_text(alloc, &first.alphabet, field, d, &[element])?)
+}
+
+/// What the job shows.
+fn asked_of(job: &Job) -> Asked
+    ensures { result ≡ record { bound = job.now.bound; basis = shows_basis job.now.show; series = shows_series job.now.show } }
+{
+    match job.show {
+        Show::Basis => Asked {
+            bound: job.bound,
+            basis: true,
+            series: false,
+        },
+        Show::Series => Asked {
+            bound: job.bound,
+            basis: false,
+            series: true,
+        },
+        Show::Both => Asked {
+            bound: job.bound,
+            basis: true,
+            series: true,
+        },
+    }
 }

@@ -1,24 +1,41 @@
 ghost use Rattle.std.specs.Prelude.{◌≡◌};
 ghost use Rattle.bergman_cli.specs.Status.{code_of};
 
-use std::alloc::AllocError;
+use command_words::UsageFault;
+use ideal_laws::LimitKind;
+use relation_reader::InputFault;
 
-/// A part of the input that is not built yet, as this run needs it.
+/// A part of the program that is not built yet, as this run needs it.
 #[derive(Debug, Clone, Copy, PartialEq, Eq)]
 pub enum Part {
-    /// Words other than `gb mod=P deg=D show=basis`.
-    Words,
-    /// A text other than letters and one relation.
-    Text,
-    /// A relation, counted from 1, of another degree than the one that was asked for.
-    MixedDegrees { relation: u32 },
+    /// A command other than `gb`.
+    Command,
+    /// An engine other than the plain one.
+    Engine,
+}
+
+/// Why an input is no text with a reading.
+#[derive(Debug, Clone, Copy, PartialEq, Eq)]
+pub enum InputProblem {
+    /// More than 1,048,576 bytes.
+    TooLong,
+    Text(InputFault),
 }
 
 /// How a run ended.
 #[derive(Debug, Clone, Copy, PartialEq, Eq)]
 pub enum Status {
     Done,
-    Unbuilt { part: Part },
+    Usage(UsageFault),
+    Input(InputProblem),
+    Limit {
+        kind: LimitKind,
+        degree: u32,
+        value: u64,
+    },
+    Unbuilt {
+        part: Part,
+    },
     ReadFault,
     WriteFault,
     NoMemory,
@@ -31,21 +48,13 @@ impl Status {
     {
         match self {
             Status::Done => 0,
+            Status::Usage(_) => 2,
+            Status::Input(_) => 3,
+            Status::Limit { .. } => 4,
             Status::ReadFault => 5,
             Status::WriteFault => 6,
             Status::NoMemory => 7,
             Status::Unbuilt { .. } => 8,
         }
-    }
-}
-
-impl From<AllocError> for Status {
-    ghost use Rattle.bergman_cli.specs.declared.status.Status.TheVariants.{NoMemory};
-    ghost use Rattle.std.specs.Prelude.{◌≡◌};
-
-    ghost from_gives = { λ _ status. status ≡ NoMemory };
-
-    fn from(_refused: AllocError) -> Status {
-        Status::NoMemory
     }
 }

@@ -1,161 +1,481 @@
 use crate::run::bergman;
-use crate::status::{Part, Status};
-use bg_io::{MemorySink, MemorySource, OpenGate};
+use crate::status::{InputProblem, Part, Status};
+use bg_io::{FixedSink, MemorySink, MemorySource, OpenGate, SteadySource};
+use command_words::{Key, UsageFault};
+use ideal_laws::LimitKind;
+use relation_reader::{InputFault, Want};
+use std::alloc::Global;
 use std::process::Abort;
 use std::test::Fail;
 use std::thread::Threads;
 
-/// Runs the words on the text, which comes in pieces of 10 bytes and is written in pieces of 3, with these reads and
-/// writes failing, and asks for this status and output.
+/// x and y commute.
+const COMMUTING: &str = "vars x,y; x*y-y*x;";
+
+const COMMUTING_ANSWER: &str = "% 2\nx*y-y*x\n% series\n0 1\n1 2\n2 3\n3 4\n";
+
+const SQUARE: &str = "vars x,y; x^2-y*x;";
+
+const EXTERIOR: &str =
+    "% the exterior algebra on three letters\nvars x, y, z;\nx^2, y^2, z^2,\nx*y + y*x, x*z + z*x, y*z + z*y;\n";
+
+/// The reads and writes that fail, by their numbers; 0 is none.
+#[derive(Clone, Copy)]
+struct Failing {
+    read: u32,
+    write: u32,
+    told: u32,
+}
+
+const NONE: Failing = Failing {
+    read: 0,
+    write: 0,
+    told: 0,
+};
+
+fn words_of(alloc: Global, line: &str) -> Result<Vec<String>, Fail> {
+    let mut words = Vec::new(alloc);
+    for word in line.split_whitespace() {
+        words.push(String::from_str(alloc, word)?)?;
+    }
+    Ok(words)
+}
+
+/// Runs the words on the text, which comes in pieces of 4 bytes, and asks for this status, output, which is written in
+/// pieces of 3, and line.
 fn expect_run<R: Threads + Sync + Abort + AllocGlobal>(
     rt: &R,
-    words: &str,
+    line: &str,
     text: &[u8],
-    failing: (&[u32], &[u32]),
+    failing: Failing,
     status: Status,
-    output: &[u8],
+    output: &str,
+    told: &str,
 ) -> Result<(), Fail> {
     let alloc = rt.alloc();
-    let mut list = Vec::new(alloc);
-    for word in words.split_whitespace() {
-        list.push(String::from_str(alloc, word)?)?;
-    }
+    let words = words_of(alloc, line)?;
     let mut source = MemorySource::new(
         Vec::from_slice(alloc, text)?,
-        10,
-        Vec::from_slice(alloc, failing.0)?,
+        4,
+        Vec::from_slice(alloc, &[failing.read])?,
     );
-    let mut out = MemorySink::new(alloc, 3, Vec::from_slice(alloc, failing.1)?);
-    let mut err = MemorySink::new(alloc, 3, Vec::new(alloc));
+    let mut out = MemorySink::new(alloc, 3, Vec::from_slice(alloc, &[failing.write])?);
+    let mut err = MemorySink::new(alloc, 3, Vec::from_slice(alloc, &[failing.told])?);
     let answer = bergman(
         rt,
         alloc,
-        list.as_slice(),
+        words.as_slice(),
         &mut source,
         &mut out,
         &mut err,
         &OpenGate,
     );
-    assert_eq!(rt; answer, status, "{words}");
-    assert_eq!(rt; out.held(), output, "{words}");
-    assert_eq!(rt; err.held().len(), 0, "{words}");
+    assert_eq!(rt; answer, status, "{line}");
+    assert_eq!(rt; out.held(), output.as_bytes(), "{line}");
+    assert_eq!(rt; err.held(), told.as_bytes(), "{line}");
     Ok(())
 }
 
-const MIXED: Status = Status::Unbuilt {
-    part: Part::MixedDegrees { relation: 1 },
-};
-
-const NO_TEXT: Status = Status::Unbuilt { part: Part::Text };
-
-const NO_WORDS: Status = Status::Unbuilt { part: Part::Words };
+#[test]
+fn algebras_print_their_bases_and_series(rt: HostRuntime) -> Result<(), Fail> {
+    for (line, text, output) in [
+        ("gb mod=101 deg=3", COMMUTING, COMMUTING_ANSWER),
+        ("gb mod=65521 deg=3", COMMUTING, COMMUTING_ANSWER),
+        ("gb deg=3 mod=1000003", COMMUTING, COMMUTING_ANSWER),
+        (
+            "gb mod=101 deg=3 workers=2 engine=plain",
+            "vars x,y; x*y-y*x, x*y-y*x;",
+            COMMUTING_ANSWER,
+        ),
+        (
+            "gb mod=101 deg=3 show=series",
+            COMMUTING,
+            "% series\n0 1\n1 2\n2 3\n3 4\n",
+        ),
+        ("gb mod=101 deg=2 show=basis", COMMUTING, "% 2\nx*y-y*x\n"),
+        (
+            "gb mod=101 deg=2 show=basis",
+            "vars x,y; x*y+y*x, x*y-y*x;",
+            "% 2\nx*y\ny*x\n",
+        ),
+        (
+            "gb mod=101 deg=2",
+            "vars x,y; ;",
+            "% series\n0 1\n1 2\n2 4\n",
+        ),
+        (
+            "gb mod=2 deg=2",
+            "vars x,y; x*y+x*y;",
+            "% series\n0 1\n1 2\n2 4\n",
+        ),
+        (
+            "gb mod=2 deg=2",
+            "vars x,y; x*y+y*x;",
+            "% 2\nx*y+y*x\n% series\n0 1\n1 2\n2 3\n",
+        ),
+        (
+            "gb mod=101 deg=4",
+            SQUARE,
+            "% 2\nx^2-y*x\n% 3\nx*y*x-y^2*x\n% 4\nx*y^2*x-y^3*x\n% series\n0 1\n1 2\n2 3\n3 4\n4 5\n",
+        ),
+        ("gb mod=101 deg=1", SQUARE, "% series\n0 1\n1 2\n"),
+        (
+            "gb mod=101 deg=2",
+            "vars x,y; x-y;",
+            "% 1\nx-y\n% series\n0 1\n1 1\n2 1\n",
+        ),
+        (
+            "gb mod=101 deg=4",
+            "vars x; x^3;",
+            "% 3\nx^3\n% series\n0 1\n1 1\n2 1\n3 0\n4 0\n",
+        ),
+        (
+            "gb mod=101 deg=2",
+            "vars x; x^200*x^56;",
+            "% series\n0 1\n1 1\n2 1\n",
+        ),
+        ("gb mod=3 deg=2", "vars x; 3;", "% series\n0 1\n1 1\n2 1\n"),
+        (
+            "gb mod=32003 deg=4",
+            EXTERIOR,
+            "% 2\nx^2\nx*y+y*x\nx*z+z*x\ny^2\ny*z+z*y\nz^2\n% series\n0 1\n1 3\n2 3\n3 1\n4 0\n",
+        ),
+        (
+            "gb mod=7 deg=2",
+            "vars x,y; 2*x*y-3*y*x;",
+            "% 2\nx*y+2*y*x\n% series\n0 1\n1 2\n2 3\n",
+        ),
+        (
+            "gb mod=7 deg=2 show=basis",
+            "vars x,y; 340282366920938463463374607431768211455*x*y+y*x;",
+            "% 2\nx*y-2*y*x\n",
+        ),
+        (
+            "gb mod=1000003 deg=2",
+            "vars x,y; 2*x*y-3*y*x;",
+            "% 2\nx*y+500000*y*x\n% series\n0 1\n1 2\n2 3\n",
+        ),
+        (
+            "gb mod=101 deg=3",
+            "vars x:2,y; x-y^2;",
+            "% 2\nx-y^2\n% series\n0 1\n1 1\n2 1\n3 1\n",
+        ),
+        (
+            "gb mod=101 deg=4",
+            "vars x:2,y; x*y-y*x;",
+            "% 3\nx*y-y*x\n% series\n0 1\n1 1\n2 2\n3 2\n4 3\n",
+        ),
+        (
+            "gb mod=101 deg=6",
+            "vars x:2,y; x^2-y^4;",
+            "% 4\nx^2-y^4\n% 6\nx*y^4-y^4*x\n% series\n0 1\n1 1\n2 2\n3 3\n4 4\n5 6\n6 8\n",
+        ),
+    ] {
+        expect_run(&rt, line, text.as_bytes(), NONE, Status::Done, output, "")?;
+    }
+    Ok(())
+}
 
 #[test]
-fn relations_print_their_basis(rt: HostRuntime) -> Result<(), Fail> {
-    let none: (&[u32], &[u32]) = (&[], &[]);
-    let words = "gb mod=101 deg=2 show=basis";
-    let commuting = b"vars x,y; x*y-y*x;".as_slice();
+fn texts_are_refused_with_their_first_fault(rt: HostRuntime) -> Result<(), Fail> {
+    for (text, fault, told) in [
+        (
+            "vars x,y; x*x-y;",
+            InputFault::NotHomogeneous { relation: 1 },
+            "relation 1: not homogeneous",
+        ),
+        (
+            "vars x,y; x*y",
+            InputFault::Expected {
+                at: 13,
+                what: Want::Operator,
+            },
+            "byte 13: expected an operator",
+        ),
+        (
+            "vars x,x; ;",
+            InputFault::RepeatedVariable { at: 7 },
+            "byte 7: repeated variable",
+        ),
+        (
+            "vars x,y; 340282366920938463463374607431768211456*x*y;",
+            InputFault::NumberTooWide { at: 10 },
+            "byte 10: number too wide",
+        ),
+        (
+            "vars x,y; (x*y);",
+            InputFault::BadByte { at: 10 },
+            "byte 10: bad byte",
+        ),
+        (
+            "vars x,y; ; x*y;",
+            InputFault::AfterEnd { at: 12 },
+            "byte 12: text after the end",
+        ),
+        (
+            "vars x,y; x*z;",
+            InputFault::UnknownVariable { at: 12 },
+            "byte 12: unknown variable",
+        ),
+        (
+            "",
+            InputFault::Expected {
+                at: 0,
+                what: Want::Vars,
+            },
+            "byte 0: expected vars",
+        ),
+        (
+            "vars ; ;",
+            InputFault::NoVariable { at: 5 },
+            "byte 5: no variable",
+        ),
+        (
+            "vars x; 3;",
+            InputFault::Constant { relation: 1 },
+            "relation 1: constant",
+        ),
+        (
+            "vars x; x^257;",
+            InputFault::ExponentTooLarge { at: 10 },
+            "byte 10: exponent too large",
+        ),
+        (
+            "vars x; x^200*x^57;",
+            InputFault::WordTooLong { at: 16 },
+            "byte 16: word too long",
+        ),
+        (
+            "vars x:0,y; ;",
+            InputFault::WeightOutOfRange { at: 7 },
+            "byte 7: weight out of range",
+        ),
+        (
+            "vars x:,y; ;",
+            InputFault::Expected {
+                at: 7,
+                what: Want::Weight,
+            },
+            "byte 7: expected a weight",
+        ),
+        (
+            "vars x,y; x:2;",
+            InputFault::Expected {
+                at: 11,
+                what: Want::Operator,
+            },
+            "byte 11: expected an operator",
+        ),
+    ] {
+        let line = format!(in rt.alloc(); "bergman: input: {told}\n")?;
+        expect_run(
+            &rt,
+            "gb mod=101 deg=2",
+            text.as_bytes(),
+            NONE,
+            Status::Input(InputProblem::Text(fault)),
+            "",
+            line.as_str(),
+        )?;
+    }
+    Ok(())
+}
+
+#[test]
+fn words_are_refused_before_the_source_is_read(rt: HostRuntime) -> Result<(), Fail> {
+    // The first read fails.
+    let failing = Failing {
+        read: 1,
+        write: 0,
+        told: 0,
+    };
+    for (line, status, told) in [
+        (
+            "",
+            Status::Usage(UsageFault::NoCommand),
+            "bergman: usage: no command\n",
+        ),
+        (
+            "frob",
+            Status::Usage(UsageFault::UnknownCommand),
+            "bergman: usage: unknown command\n",
+        ),
+        (
+            "gb mod=101 deg=3 color=red",
+            Status::Usage(UsageFault::UnknownKey { word: 4 }),
+            "bergman: usage: word 4: unknown key\n",
+        ),
+        (
+            "gb mod=101 mod=7 deg=3",
+            Status::Usage(UsageFault::RepeatedKey { word: 3 }),
+            "bergman: usage: word 3: repeated key\n",
+        ),
+        (
+            "gb mod=4 deg=3",
+            Status::Usage(UsageFault::BadValue { word: 2 }),
+            "bergman: usage: word 2: bad value\n",
+        ),
+        (
+            "gb mod=101 deg=65",
+            Status::Usage(UsageFault::BadValue { word: 3 }),
+            "bergman: usage: word 3: bad value\n",
+        ),
+        (
+            "gb mod=101",
+            Status::Usage(UsageFault::MissingKey { key: Key::Deg }),
+            "bergman: usage: missing deg\n",
+        ),
+        (
+            "chains mod=101 deg=3",
+            Status::Unbuilt {
+                part: Part::Command,
+            },
+            "bergman: not built: command\n",
+        ),
+        (
+            "gb mod=101 deg=3 engine=race",
+            Status::Unbuilt { part: Part::Engine },
+            "bergman: not built: engine\n",
+        ),
+        (
+            "gb mod=101 deg=3",
+            Status::ReadFault,
+            "bergman: read fault\n",
+        ),
+    ] {
+        expect_run(&rt, line, COMMUTING.as_bytes(), failing, status, "", told)?;
+    }
+    Ok(())
+}
+
+/// Degree 8 has 3^8 words.
+#[test]
+fn a_limit_stands_behind_the_lines_of_the_degrees_below(rt: HostRuntime) -> Result<(), Fail> {
+    let limit = Status::Limit {
+        kind: LimitKind::PlainWords,
+        degree: 8,
+        value: 6561,
+    };
+    let text = b"vars x,y,z; x*y-y*x;".as_slice();
+    let told = "bergman: limit: plain words 6561 in degree 8\n";
+    for (line, output) in [
+        ("gb mod=101 deg=8 engine=plain", "% 2\nx*y-y*x\n"),
+        ("gb mod=101 deg=9 show=series", ""),
+    ] {
+        expect_run(&rt, line, text, NONE, limit, output, told)?;
+    }
+    Ok(())
+}
+
+/// A text may have 1,048,576 bytes.
+#[test]
+fn a_longer_text_is_refused(rt: HostRuntime) -> Result<(), Fail> {
+    let mut text = vec![in rt.alloc(); b' '; 1_048_576]?;
+    let line = "gb mod=101 deg=2";
+    let fault = InputFault::Expected {
+        at: 1_048_576,
+        what: Want::Vars,
+    };
     expect_run(
         &rt,
-        words,
-        commuting,
-        none,
-        Status::Done,
-        b"% 2\nx*y-y*x\n".as_slice(),
+        line,
+        text.as_slice(),
+        NONE,
+        Status::Input(InputProblem::Text(fault)),
+        "",
+        "bergman: input: byte 1048576: expected vars\n",
     )?;
+    text.push(b' ')?;
     expect_run(
         &rt,
-        "gb mod=0101 deg=02 show=basis",
-        b"vars x,y; y*x-x*y;\n".as_slice(),
-        none,
-        Status::Done,
-        b"% 2\nx*y-y*x\n".as_slice(),
-    )?;
-    expect_run(
-        &rt,
-        "gb mod=7 deg=2 show=basis",
-        b"vars x,y; x*y+x*y-y*x;".as_slice(),
-        none,
-        Status::Done,
-        b"% 2\nx*y+3*y*x\n".as_slice(),
-    )?;
-    expect_run(
-        &rt,
-        "gb mod=2 deg=2 show=basis",
-        b"vars x,y; x*y+x*y;".as_slice(),
-        none,
-        Status::Done,
-        b"".as_slice(),
+        line,
+        text.as_slice(),
+        NONE,
+        Status::Input(InputProblem::TooLong),
+        "",
+        "bergman: input: more than 1048576 bytes\n",
     )
 }
 
 #[test]
-fn each_refusal_has_its_name(rt: HostRuntime) -> Result<(), Fail> {
-    let none: (&[u32], &[u32]) = (&[], &[]);
-    let words = "gb mod=101 deg=2 show=basis";
-    let commuting = b"vars x,y; x*y-y*x;".as_slice();
-    expect_run(
-        &rt,
-        "gb mod=101 deg=3 show=basis",
-        commuting,
-        none,
-        MIXED,
-        b"".as_slice(),
-    )?;
+fn a_failed_call_ends_the_run(rt: HostRuntime) -> Result<(), Fail> {
+    for read in 1..7 {
+        let failing = Failing {
+            read,
+            write: 0,
+            told: 0,
+        };
+        expect_run(
+            &rt,
+            "gb mod=101 deg=3",
+            COMMUTING.as_bytes(),
+            failing,
+            Status::ReadFault,
+            "",
+            "bergman: read fault\n",
+        )?;
+    }
+    // Each line is written by itself.
+    for (write, output) in (1..).zip([
+        "",
+        "% 2",
+        "% 2\n",
+        "% 2\nx*y",
+        "% 2\nx*y-y*",
+        "% 2\nx*y-y*x\n",
+        "% 2\nx*y-y*x\n% s",
+    ]) {
+        let failing = Failing {
+            read: 0,
+            write,
+            told: 0,
+        };
+        expect_run(
+            &rt,
+            "gb mod=101 deg=3",
+            COMMUTING.as_bytes(),
+            failing,
+            Status::WriteFault,
+            output,
+            "bergman: write fault\n",
+        )?;
+    }
+    // A fault of the line changes no status.
     expect_run(
         &rt,
         "gb mod=101 deg=2",
-        commuting,
-        none,
-        NO_WORDS,
-        b"".as_slice(),
-    )?;
-    expect_run(
-        &rt,
-        "gb mod=4 deg=3 show=basis",
-        commuting,
-        none,
-        NO_WORDS,
-        b"".as_slice(),
-    )?;
-    expect_run(
-        &rt,
-        words,
-        b"vars x,y; x*y".as_slice(),
-        none,
-        NO_TEXT,
-        b"".as_slice(),
-    )?;
-    expect_run(
-        &rt,
-        words,
-        b"vars x,y; x*x-y;".as_slice(),
-        none,
-        NO_TEXT,
-        b"".as_slice(),
-    )?;
-    expect_run(
-        &rt,
-        words,
-        b"vars x,x; x*x;".as_slice(),
-        none,
-        NO_TEXT,
-        b"".as_slice(),
-    )?;
-    expect_run(
-        &rt,
-        words,
-        commuting,
-        (&[2], &[]),
-        Status::ReadFault,
-        b"".as_slice(),
-    )?;
-    expect_run(
-        &rt,
-        words,
-        commuting,
-        (&[], &[2]),
-        Status::WriteFault,
-        b"% 2".as_slice(),
+        b"vars x; 3;".as_slice(),
+        Failing {
+            read: 0,
+            write: 0,
+            told: 1,
+        },
+        Status::Input(InputProblem::Text(InputFault::Constant { relation: 1 })),
+        "",
+        "",
     )
+}
+
+/// The whole text has 37 bytes.
+#[test]
+fn a_told_room_is_enough_or_not(rt: HostRuntime) -> Result<(), Fail> {
+    let alloc = rt.alloc();
+    let words = words_of(alloc, "gb mod=101 deg=3")?;
+    for (room, status) in [(36, Status::WriteFault), (37, Status::Done)] {
+        let mut source = SteadySource::new(Vec::from_slice(alloc, COMMUTING.as_bytes())?);
+        let mut out = FixedSink::new(alloc, room)?;
+        let mut err = FixedSink::new(alloc, 96)?;
+        let answer = bergman(
+            &rt,
+            alloc,
+            words.as_slice(),
+            &mut source,
+            &mut out,
+            &mut err,
+            &OpenGate,
+        );
+        assert_eq!(rt; answer, status, "room {room}");
+        assert_eq!(rt; Some(out.held()), COMMUTING_ANSWER.as_bytes().get(..room));
+    }
+    Ok(())
 }

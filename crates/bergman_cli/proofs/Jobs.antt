@@ -1,0 +1,70 @@
+-- What the words of a job say of it, and that words are one job or have one fault.
+use Rattle.std.proofs.Common.{◌≡◌, ◌<◌, ◌≤◌, ℕ, List, [], ◌∷◌, All, refl, sym, ◌∙◌, inl, inr, arith, subst, true, get_or, Result, Ok, Err}
+use Rattle.std.specs.Prelude.{nat_le}
+use Rattle.std.specs.List.{Contains}
+use Rattle.std.proofs.lemmas.Bool.Decides.{nat_tests}
+use Rattle.std.proofs.lemmas.List.Elements.{All-contains}
+use Rattle.std.proofs.lemmas.List.Sums.{AllPass-from_list_all}
+use Rattle.field_table.specs.Residues.{listed_moduli}
+use Rattle.words.proofs.Members.{Contains-first, Contains-more}
+use Rattle.command_words.specs.declared.job.Command.{Command}
+use Rattle.command_words.specs.declared.job.Command.TheVariants.{Gb}
+use Rattle.command_words.specs.declared.job.Key.{Key}
+use Rattle.command_words.specs.declared.job.Key.TheVariants as keys
+use Rattle.command_words.specs.declared.job.Job.{Job}
+use Rattle.command_words.specs.declared.job.UsageFault.{UsageFault}
+use Rattle.command_words.specs.declared.value.Value.TheVariants.{Count}
+use Rattle.command_words.specs.JobOf.{HasOneAnswer, IsJob, IsUsageFault, IsValueIn}
+use Rattle.command_words.specs.Keys.{required_of}
+use Rattle.command_words.specs.Refusals.{Stands}
+use Rattle.command_words.specs.Values.{IsValue, value_at}
+
+one_count : (m n : ℕ) → Count m ≡ Count n → m ≡ n
+one_count m n e = cc
+
+-- a required key has a value that a word says
+told : (words : List (List ℕ)) (job : Job) (key : Key) → (j : IsJob words job) → Stands j.rest key → (text : List ℕ) × IsValue key text (value_at key job)
+told words job key j stands = by_value (j.values key)
+  where
+    by_value : IsValueIn j.rest key (value_at key job) → (text : List ℕ) × IsValue key text (value_at key job)
+    by_value (inl t) = (t.says.text, t.says.is_value)
+    by_value (inr d) = absurd (d.0 stands)
+
+module _ (words : List (List ℕ)) (job : Job) (j : IsJob words job) (gb : job.command ≡ Gb) where
+  required : All (Stands j.rest) (keys.Mod ∷ keys.Deg ∷ [])
+  required = subst (λ (command : Command). All (Stands j.rest) (required_of command)) gb j.complete
+
+  pub listed : Contains listed_moduli job.modulus
+  listed =
+      let t = told words job keys.Mod j (All-contains (Stands j.rest) (keys.Mod ∷ keys.Deg ∷ []) keys.Mod required (Contains-first keys.Mod (keys.Deg ∷ []))) in
+      subst (Contains listed_moduli) (sym (one_count job.modulus t.1.number t.1.value_is)) t.1.listed
+
+  pub bound_small : job.bound ≤ 64
+  bound_small =
+      let t = told words job keys.Deg j (All-contains (Stands j.rest) (keys.Mod ∷ keys.Deg ∷ []) keys.Deg required (Contains-more keys.Mod (keys.Deg ∷ []) keys.Deg (Contains-first keys.Deg []))) in
+      omega (arith, one_count job.bound t.1.number t.1.value_is, t.1.below)
+
+le_says : (m n : ℕ) → nat_le m n ≡ true → m ≤ n
+le_says m n e = grind (arith, nat_tests)
+
+-- the listed moduli are from 2 to 1000003
+pub listed_small : (p : ℕ) → Contains listed_moduli p → p ≤ 1000003
+listed_small p m = All-contains (λ n. n ≤ 1000003) listed_moduli p (λ k d within. le_says (get_or listed_moduli k d) 1000003 (AllPass-from_list_all (λ n. nat_le n 1000003) listed_moduli refl k d within)) m
+
+pub listed_some : (p : ℕ) → Contains listed_moduli p → 0 < p
+listed_some p m =
+    let two = All-contains (λ n. 2 ≤ n) listed_moduli p (λ k d within. le_says 2 (get_or listed_moduli k d) (AllPass-from_list_all (λ n. nat_le 2 n) listed_moduli refl k d within)) m in
+    omega (arith, two)
+
+module _ (words : List (List ℕ)) (one : HasOneAnswer words) where
+  same_answer : (a b : Result Job UsageFault) → a ≡ one.answer → b ≡ one.answer → a ≡ b
+  same_answer a b e f = e ∙ sym f
+
+  pub one_job : (j k : Job) → IsJob words j → IsJob words k → j ≡ k
+  one_job j k a b = let e : Ok j ≡ Ok k = same_answer (Ok j) (Ok k) (one.only (Ok j) a) (one.only (Ok k) b) in cc
+
+  pub no_fault : (j : Job) (f : UsageFault) → IsJob words j → IsUsageFault words f → ⊥
+  no_fault j f a b = let e : Ok j ≡ Err f = same_answer (Ok j) (Err f) (one.only (Ok j) a) (one.only (Err f) b) in cc
+
+  pub one_fault : (f g : UsageFault) → IsUsageFault words f → IsUsageFault words g → f ≡ g
+  one_fault f g a b = let e : Err f ≡ Err g = same_answer (Err f) (Err g) (one.only (Err f) a) (one.only (Err g) b) in cc

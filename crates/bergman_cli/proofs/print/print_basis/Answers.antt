@@ -1,0 +1,48 @@
+use Rattle.std.proofs.Common.{◌+◌, ◌++◌, ℕ, List, [], refl, ap, subst, ◌∙◌, arith}
+use Rattle.std.proofs.lemmas.Result.{err_from_is_err_and}
+use Rattle.ideal_laws.specs.declared.limits.LimitKind.{LimitKind}
+use Rattle.bergman_cli.specs.Printing.{IsBasisUndone, IsNext, IsNextUndone, lines_of, task_of}
+use Rattle.bergman_cli.proofs.Gaining.{all_behind, all_none}
+use Rattle.bergman_cli.proofs.DegreeLines.{if_err}
+use Rattle.bergman_cli.proofs.Printed.{so_far_next, so_far_start, undone_next}
+use Rattle.bergman_cli.proofs.print.print_basis.Goals as goal
+
+pub loop-degree-init : goal.loop-degree-init
+loop-degree-init g c =
+    let task = task_of c.args.field.now c.args.given.now (g.E.DegreeEngine.kinds c.args.engine.now) c.args.asked in
+    let new = c.new-basis.ensures in (
+      [],
+      record { done = new.done; weights = new.weights; kept = new.kept; reduced = λ d from le. absurd (omega (arith, from, le, new.done)); so_far = so_far_start task },
+      all_none (g.K.Sink.held c.args.out.now) (g.K.Sink.room c.args.out.now) (g.K.Sink.faults c.args.out.now),
+      refl,
+    )
+
+pub returns-in_err-print_next-clause-undone : goal.returns-in_err-print_next-clause-undone
+returns-in_err-print_next-clause-undone g c =
+    let task = task_of c.args.field.now c.args.given.now (g.E.DegreeEngine.kinds c.args.engine.now) c.args.asked in
+    let e = err_from_is_err_and c.from_residual.result c.from_residual.ensures.1 in
+    let inv = c.loop-degree.invariant in
+    let undone = subst (λ (limits : List (LimitKind × ℕ)). IsNextUndone c.args.field.now c.args.given.now.alphabet c.args.given.now.relations limits c.loop-degree.basis c.args.asked.basis (g.K.Sink.held c.loop-degree.out) (g.K.Sink.held c.print_next.new.out)
+    (g.K.Sink.room c.loop-degree.out) (g.K.Sink.faults c.loop-degree.out) (g.K.Sink.faults c.print_next.new.out) c.in_err-print_next.field-0.0) inv.3 c.in_err-print_next.ensures.undone in
+    if_err c.from_residual.result e.0 _ (IsBasisUndone task _ _ _ _ _) e.1 e.2
+    (undone_next task c.loop-degree._degree c.loop-degree.basis inv.0 inv.1 c.loop-degree-test.true _ _ _ _ _ _ _ _ _ inv.2 undone)
+
+pub loop-degree-preserved : goal.loop-degree-preserved
+loop-degree-preserved g c =
+    let task = task_of c.args.field.now c.args.given.now (g.E.DegreeEngine.kinds c.args.engine.now) c.args.asked in
+    let inv = c.loop-degree.invariant in
+    let below = c.loop-degree.basis in
+    let next = c.in_ok-print_next.ensures in
+    let printed = next.printed in
+    let is_next = subst (λ (limits : List (LimitKind × ℕ)). IsNext c.args.field.now c.args.given.now.alphabet.weights c.args.given.now.relations limits below printed.0) inv.3 printed.1 in (
+      inv.0 ++ lines_of c.args.asked.basis c.args.given.now.alphabet.names c.args.field.now (below.done + 1) printed.0,
+      record {
+        done = next.done ∙ ap (λ (n : ℕ). n + 1) inv.1.done;
+        weights = next.weights ∙ inv.1.weights;
+        kept = next.kept.1;
+        reduced = next.reduced;
+        so_far = so_far_next task c.loop-degree._degree below inv.0 inv.1 c.loop-degree-test.true printed.0 is_next;
+      },
+      all_behind _ _ _ _ _ _ _ _ _ _ _ inv.2 printed.2,
+      next.kinds ∙ inv.3,
+    )

@@ -1,0 +1,42 @@
+use Rattle.std.proofs.Common.{◌+◌, ℕ, List, Err, ap, subst, ◌∙◌}
+use Rattle.std.proofs.KnownBytes.{Appends-nil}
+use Rattle.ideal_laws.specs.Quantities.{IsFirstPassing, IsQuantity}
+use Rattle.bergman_cli.proofs.Gaining.{all_none}
+use Rattle.bergman_cli.proofs.DegreeLines.{hidden_next, limit_moved, residues_of, shown_next, undone_shown}
+use Rattle.bergman_cli.proofs.print.print_next.Goals as goal
+
+pub returns-in-Err-Limit-clause-undone : goal.returns-in-Err-Limit-clause-undone
+returns-in-Err-Limit-clause-undone g c =
+    let basis = c.args.basis.now in
+    let limits = g.E.DegreeEngine.kinds c.args.engine.now in
+    let Q = IsQuantity c.args.field.now c.args.given.now.alphabet.weights c.args.given.now.relations basis (basis.done + 1) in
+    let u = c.in-Err-Limit.ensures.limit c.in-Err-Limit.kind c.in-Err-Limit.degree c.in-Err-Limit.value (ap Err c.in-Err-Limit.field-0-is) in
+    let passes = subst (λ (ws : List ℕ). IsFirstPassing (IsQuantity c.args.field.now ws c.args.given.now.relations basis (basis.done + 1)) limits c.in-Err-Limit.kind c.in-Err-Limit.value) c.requires.weights u.1 in (
+      c.in-Err-Limit.degree-is ∙ u.0,
+      limit_moved (IsFirstPassing Q limits) _ _ _ _ c.in-Err-Limit.kind-is c.in-Err-Limit.value-is passes,
+      Appends-nil (g.K.Sink.held c.args.out.now),
+    )
+
+pub returns-then-not-shows-clause-printed : goal.returns-then-not-shows-clause-printed
+returns-then-not-shows-clause-printed g c =
+    let next = c.in-Ok.ensures in
+    hidden_next c.args.field.now c.args.given.now.alphabet c.args.given.now.relations (g.E.DegreeEngine.kinds c.args.engine.now) c.args.basis.now c.advance.new.basis c.requires.weights next.weights next.done next.reduced next.within
+    c.args.shows _ _ _ _ _ _ c.if-not-shows.true (all_none (g.K.Sink.held c.args.out.now) (g.K.Sink.room c.args.out.now) (g.K.Sink.faults c.args.out.now))
+
+pub write_degree-requires-clause-residues : goal.write_degree-requires-clause-residues
+write_degree-requires-clause-residues g c =
+    let next = c.in-Ok.ensures in
+    residues_of c.args.field.now c.args.given.now.alphabet c.args.given.now.relations (g.E.DegreeEngine.kinds c.args.engine.now) c.args.basis.now c.advance.new.basis c.requires.weights next.weights next.done next.reduced next.within
+    c.setting_law.ensures next.kept.1
+
+pub returns-in-Ok-write_degree-clause-printed : goal.returns-in-Ok-write_degree-clause-printed
+returns-in-Ok-write_degree-clause-printed g c =
+    let next = c.in-Ok.ensures in
+    shown_next c.args.field.now c.args.given.now.alphabet c.args.given.now.relations (g.E.DegreeEngine.kinds c.args.engine.now) c.args.basis.now c.advance.new.basis c.requires.weights next.weights next.done next.reduced next.within
+    c.args.shows _ _ _ _ _ _ c.if-not-shows.false c.in-Ok-write_degree.ensures.written
+
+pub returns-clause-undone : goal.returns-clause-undone
+returns-clause-undone g c =
+    let next = c.in-Ok.ensures in
+    undone_shown c.args.field.now c.args.given.now.alphabet c.args.given.now.relations (g.E.DegreeEngine.kinds c.args.engine.now) c.args.basis.now c.advance.new.basis c.requires.weights next.weights next.done next.reduced next.within
+    c.args.shows _ _ _ _ _ _ c.if-not-shows.false c.in-Err.ensures.unwritten

@@ -1,0 +1,45 @@
+use Rattle.std.proofs.Common.{map, string_bytes}
+use Rattle.bergman_cli.proofs.Causes.{command_exactly, completes, end_done, end_limit, end_memory, end_part, end_read, end_text, end_write, engine_exactly, refuses_text, stops_there, usage_exactly}
+use Rattle.bergman_cli.proofs.run.bergman.Goals as goal
+
+pub returns-clause-done : goal.returns-clause-done
+returns-clause-done g c = end_done (map string_bytes c.args.words.now) _ _ _ _ _ _ _ _ _ c.run_words-status.result c.run_words-status.ensures.end
+
+pub returns-clause-usage : goal.returns-clause-usage
+returns-clause-usage g c = λ fault. usage_exactly (map string_bytes c.args.words.now) _ _ _ _ _ _ _ _ _ (c.words_law.ensures (map string_bytes c.args.words.now)) fault c.run_words-status.result c.run_words-status.ensures.end
+
+pub returns-clause-command : goal.returns-clause-command
+returns-clause-command g c = command_exactly (map string_bytes c.args.words.now) _ _ _ _ _ _ _ _ _ (c.words_law.ensures (map string_bytes c.args.words.now)) c.run_words-status.result c.run_words-status.ensures.end
+
+pub returns-clause-engine : goal.returns-clause-engine
+returns-clause-engine g c = engine_exactly (map string_bytes c.args.words.now) _ _ _ _ _ _ _ _ _ (c.words_law.ensures (map string_bytes c.args.words.now)) c.run_words-status.result c.run_words-status.ensures.end
+
+pub returns-clause-read : goal.returns-clause-read
+returns-clause-read g c = end_read (map string_bytes c.args.words.now) _ _ _ _ _ _ _ _ _ c.run_words-status.result c.run_words-status.ensures.end
+
+pub returns-clause-text : goal.returns-clause-text
+returns-clause-text g c = end_text (map string_bytes c.args.words.now) _ _ _ _ _ _ _ _ _ c.run_words-status.result c.run_words-status.ensures.end
+
+pub returns-clause-limit : goal.returns-clause-limit
+returns-clause-limit g c = end_limit (map string_bytes c.args.words.now) _ _ _ _ _ _ _ _ _ c.run_words-status.result c.run_words-status.ensures.end
+
+pub returns-clause-write : goal.returns-clause-write
+returns-clause-write g c = end_write (map string_bytes c.args.words.now) _ _ _ _ _ _ _ _ _ c.run_words-status.result c.run_words-status.ensures.end
+
+pub returns-clause-part : goal.returns-clause-part
+returns-clause-part g c = end_part (map string_bytes c.args.words.now) _ _ _ _ _ _ _ _ _ c.run_words-status.result c.run_words-status.ensures.end
+
+pub returns-clause-memory : goal.returns-clause-memory
+returns-clause-memory g c = end_memory (map string_bytes c.args.words.now) _ _ _ _ _ _ _ _ _ c.run_words-status.result c.run_words-status.ensures.end
+
+pub returns-clause-complete : goal.returns-clause-complete
+returns-clause-complete g c =
+    completes (map string_bytes c.args.words.now) _ _ _ _ _ _ _ _ _ (c.words_law.ensures (map string_bytes c.args.words.now)) c.reading_laws.ensures.reading c.run_words-status.result c.run_words-status.ensures.end
+
+pub returns-clause-refuses : goal.returns-clause-refuses
+returns-clause-refuses g c =
+    refuses_text (map string_bytes c.args.words.now) _ _ _ _ _ _ _ _ _ (c.words_law.ensures (map string_bytes c.args.words.now)) c.reading_laws.ensures.reading c.run_words-status.result c.run_words-status.ensures.end
+
+pub returns-clause-stops : goal.returns-clause-stops
+returns-clause-stops g c =
+    stops_there (map string_bytes c.args.words.now) _ _ _ _ _ _ _ _ _ (c.words_law.ensures (map string_bytes c.args.words.now)) c.reading_laws.ensures.reading c.run_words-status.result c.run_words-status.ensures.end
