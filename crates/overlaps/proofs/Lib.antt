@@ -1,0 +1,9 @@
+pub mod Fronts
+pub mod Places
+pub mod Blocks
+pub mod Sums
+pub mod Ordered
+pub mod Exactly
+pub mod Apart
+pub mod Sorted
+pub mod Rows
