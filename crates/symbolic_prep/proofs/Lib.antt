@@ -1,0 +1,9 @@
+pub mod Reducing
+pub mod Pigeons
+pub mod Stays
+pub mod Listing
+pub mod Walks
+pub mod Sets
+pub mod Contested
+pub mod Ending
+pub mod Single
