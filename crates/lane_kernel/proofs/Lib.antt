@@ -1,0 +1,3 @@
+pub mod Shoup
+pub mod LaneLists
+pub mod Blocks
