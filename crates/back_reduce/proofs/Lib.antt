@@ -1,0 +1,13 @@
+pub mod Vectors
+pub mod Sums
+pub mod Tables
+pub mod RowLists
+pub mod Eliminated
+pub mod Coordinates
+pub mod Forms
+pub mod Members
+pub mod Echelons
+pub mod HeldLeaders
+pub mod Gathered
+pub mod OneForm
+pub mod SwappedRows

@@ -1,0 +1,23 @@
+//! Row problems over the residues of a field modulus: rows over numbered columns, the pivots that elimination finds
+//! in them, and the reduced row echelon form of their span. Whoever finds the pivots, the form is the same, so
+//! engines differ in that alone. A row of the form comes from the rows of the pivots alone, by one walk over its
+//! columns, so all rows are reduced side by side.
+#![tactic(auto)]
+
+mod echelon;
+mod elimination;
+mod laws;
+mod pivots;
+mod problem;
+mod table;
+#[cfg(test)]
+mod tests;
+
+pub use echelon::reduced;
+pub use elimination::{SeqPivots, eliminate};
+pub use laws::echelon_law;
+pub use pivots::PivotRows;
+pub use problem::Problem;
+
+/// Want of memory.
+pub type NoMemory = std::alloc::AllocError;

@@ -1,0 +1,86 @@
+mod swapped;
+
+ghost use Rattle.std.specs.Prelude.{◌≡◌, IfOk, IfSome};
+
+use crate::NoMemory;
+use crate::echelon::reduced;
+use crate::elimination::eliminate;
+use crate::pivots::PivotRows;
+use crate::problem::Problem;
+use field_table::{Field, listed_moduli_law};
+use std::alloc::Global;
+use std::test::Fail;
+use swapped::swapped_pivots;
+
+/// The problem of n rows of m residues modulo 101, where the cells are that.
+fn problem_of(alloc: Global, m: u32, n: u32, cells: &[u32]) -> Result<Option<Problem>, NoMemory>
+    ensures { IfOk result (λ found. IfSome found (λ problem. problem.modulus ≡ 101)) }
+{
+    if m > 8 || n > 8 || cells.len() != (n * m) as usize || !cells.iter().all(|a| *a < 101) {
+        return Ok(None);
+    }
+    Ok(Some(Problem {
+        degree: 0,
+        modulus: 101,
+        m,
+        n,
+        cells: Vec::from_slice(alloc, cells)?,
+    }))
+}
+
+/// The rows, one after another.
+fn joined(alloc: Global, rows: &[Vec<u32>]) -> Result<Vec<u32>, NoMemory> {
+    let mut all = Vec::new(alloc);
+    for row in rows {
+        all.extend_from_slice(row.as_slice())?;
+    }
+    Ok(all)
+}
+
+#[test]
+fn rows_have_their_echelon_form(rt: HostRuntime) -> Result<(), Fail> {
+    listed_moduli_law();
+    let alloc = rt.alloc();
+    let field = Field::new(alloc, 101)?;
+    let none: &[u32] = &[];
+    let cases: [(u32, u32, &[u32], &[u32]); 6] = [
+        (3, 3, &[1, 2, 3, 2, 4, 7, 0, 0, 1], &[1, 2, 0, 0, 0, 1]),
+        (3, 2, &[0, 3, 6, 5, 10, 20], &[1, 0, 0, 0, 1, 2]),
+        (
+            3,
+            3,
+            &[1, 100, 0, 1, 0, 100, 0, 1, 100],
+            &[1, 0, 100, 0, 1, 100],
+        ),
+        (2, 2, &[50, 1, 100, 2], &[1, 99]),
+        (2, 3, &[0, 0, 0, 7, 0, 0], &[0, 1]),
+        (4, 0, none, none),
+    ];
+    for (m, n, cells, form) in cases {
+        let Some(problem) = problem_of(alloc, m, n, cells)? else {
+            return Err(Fail::new("no problem"));
+        };
+        let pivots = eliminate(alloc, &field, problem)?;
+        let echelon = reduced(&rt, alloc, &field, &pivots)?;
+        let found = joined(alloc, echelon.as_slice())?;
+        assert_eq!(rt; found.as_slice(), form, "of {cells:?}");
+        assert_eq!(rt; pivots.problem().cells.as_slice(), cells);
+    }
+    Ok(())
+}
+
+/// The second of the rows (1, 2, 3) and (2, 4, 7) holds column 0 when it comes first, as (1, 2, 54).
+#[test]
+fn pivots_in_another_order_have_the_same_form(rt: HostRuntime) -> Result<(), Fail> {
+    listed_moduli_law();
+    let alloc = rt.alloc();
+    let field = Field::new(alloc, 101)?;
+    let pivots = swapped_pivots(alloc, &field, &[1, 2, 3], &[2, 4, 7])?;
+    let held = [pivots.holder(0), pivots.holder(1), pivots.holder(2)];
+    assert_eq!(rt; held, [Some(1), None, Some(0)]);
+    assert_eq!(rt; pivots.value(0, 2), 54);
+    let echelon = reduced(&rt, alloc, &field, &pivots)?;
+    let found = joined(alloc, echelon.as_slice())?;
+    assert_eq!(rt; found.as_slice(), [1, 2, 0, 0, 0, 1].as_slice());
+    Ok(())
+}
