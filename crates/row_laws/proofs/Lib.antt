@@ -1,0 +1,17 @@
+pub mod Forms
+pub mod OnColumns
+pub mod Spread
+pub mod Places
+pub mod Reducers
+pub mod Triangle
+pub mod Beside
+pub mod DegreeRows
+pub mod ClosedColumns
+pub mod Parts
+pub mod Cleared
+pub mod ContestedRows
+pub mod OneRow
+pub mod Mixtures
+pub mod Leaders
+pub mod NormalLeads
+pub mod RowBasis
