@@ -1,0 +1,9 @@
+pub mod Residues
+pub mod Clearing
+pub mod Lookups
+pub mod Dense
+pub mod ColumnLists
+pub mod ContestedColumns
+pub mod RowsLeft
+pub mod Joined
+pub mod Cells

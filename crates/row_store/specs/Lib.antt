@@ -1,0 +1,2 @@
+pub mod Contested
+pub mod Entries
