@@ -1,0 +1,145 @@
+-- In a state that keeps the rule, each view that has not ended may meet its word.
+use Rattle.std.proofs.Common.{◌≡◌, ◌≢◌, inl, inr, ℕ, ◌+◌, ◌-◌, ◌*◌, ◌<◌, ◌≤◌, ◌^◌, All, length, refl, sym, ap, ◌∙◌, arith, subst}
+use Rattle.std.specs.List.{sum_by}
+use Rattle.std.proofs.lemmas.List.Elements.{All-from_get_or, All-get_or, All-replicate}
+use Rattle.std.proofs.lemmas.List.Sums.{get_or-le-sum_by, sum_by-le}
+use Rattle.std.proofs.lemmas.Nat.{mul-le}
+use Rattle.std.proofs.lemmas.Bool.{cases_lt}
+use Rattle.back_reduce.specs.declared.problem.Problem.{Problem}
+use Rattle.pivot_core.specs.declared.view.Phase.{Phase}
+use Rattle.pivot_core.specs.declared.view.Phase.TheVariants as phase
+use Rattle.pivot_core.specs.declared.sight.Sight.{Sight}
+use Rattle.pivot_core.specs.Words.{counter, row_word}
+use Rattle.pivot_core.specs.Views.{fresh, zeros}
+use Rattle.pivot_core.specs.Steps.{spot_of}
+use Rattle.pivot_core.specs.Runs.{State, claim_at, view_at, word_at}
+use Rattle.pivot_core.specs.Phases.{HasRow, IsIdle, IsPhase, IsUnread, is_ended}
+use Rattle.pivot_core.specs.Rule.{IsRead}
+use Rattle.pivot_core.specs.Calls.{call_count, steps_of_row}
+use Rattle.pivot_core.specs.Claimed.{ClaimedPivots}
+use Rattle.pivot_core.specs.Laws.{IsSetting}
+use Rattle.pivot_core.specs.Meets.{IsMetClaim, IsMetWord, MayMeet}
+use Rattle.pivot_core.proofs.ClaimWords.{few_rows}
+use Rattle.std.proofs.Math.Nat.{mul-add, mul_assoc, mul_comm}
+use Rattle.pivot_core.proofs.Counts.{all_views, call_count-few}
+use Rattle.pivot_core.proofs.HeldRows.{held_row-at, values-from}
+use Rattle.pivot_core.proofs.StepCounts.{counted}
+
+module _ (problem : Problem) (crew : ℕ) (setting : IsSetting problem crew) (s : State) (h : ClaimedPivots problem crew s) (i : ℕ) (lt : i < crew) where
+  abbrev v : Sight
+  v = view_at problem s i
+
+  two : 2 ≤ problem.modulus
+  two = setting.field.two_or_more
+
+  zeros_residues : (m : ℕ) → All (λ a. a < problem.modulus) (zeros m)
+  zeros_residues m = All-replicate (λ a. a < problem.modulus) m 0 (omega (arith, two))
+
+  calls_few : call_count s ≤ 524288
+  calls_few = call_count-few problem crew s h.ranges h.calls_and_counts.each h.calls_and_counts.columns h.disjoint_rows setting.few
+
+  met_claim : (c : ℕ) → c < problem.m → IsMetClaim problem.n (claim_at problem s c)
+  met_claim c within = record { claim = h.ranges.claims c within; stamp = omega (arith, h.calls_and_counts.stamps c within, calls_few) }
+
+  -- the counter is at most the rows and the crew
+  counter_few : word_at problem s counter ≤ problem.n + 64
+  counter_few =
+      let each : All (λ (z : Sight). is_ended z.phase ≤ 1) s.views = all_views problem crew s h.ranges (λ (z : Sight). is_ended z.phase ≤ 1) (λ j lj. at_most_one (view_at problem s j).phase) in
+      let ended : sum_by (λ (z : Sight). is_ended z.phase) s.views ≤ length s.views * 1 = sum_by-le (λ (z : Sight). is_ended z.phase) 1 s.views each in
+      omega (arith, h.counter_sum.counts, h.counter_sum.few, ended, h.ranges.count, setting.few)
+    where
+      at_most_one : (f : Phase) → is_ended f ≤ 1
+      at_most_one phase.Fresh = omega arith
+      at_most_one (phase.Looking row column) = omega arith
+      at_most_one (phase.Putting row column at) = omega arith
+      at_most_one (phase.Claiming row column) = omega arith
+      at_most_one (phase.Reading row column holder at) = omega arith
+      at_most_one phase.Ended = omega arith
+
+  -- the word that a read meets is a residue of the held row
+  read_word : (row column holder at : ℕ) → v.phase ≡ phase.Reading row column holder at → word_at problem s (row_word holder at) < problem.modulus
+  read_word row column holder at is =
+      let numbers : IsPhase problem.m problem.n (phase.Reading row column holder at) = subst (IsPhase problem.m problem.n) is (h.ranges.views i lt).numbers in
+      let read : IsRead problem s (phase.Reading row column holder at) v.seen = subst (λ (f : Phase). IsRead problem s f v.seen) is (h.read_prefix i lt) in
+      let row_is = h.held_in_span.residues column read.0 in
+      let residue = All-get_or (λ a. a < problem.modulus) _ at 0 (omega (arith, row_is.size, numbers.3)) row_is.residues in
+      subst (λ (k : ℕ). k < problem.modulus) (held_row-at problem s column at numbers.3 ∙ values-from problem s column at read.0 numbers.2 ∙ ap (λ (r : ℕ). word_at problem s (row_word r at)) read.1) residue
+
+  met_word : (f : Phase) → v.phase ≡ f → problem.n < 2 ^ 32 → IsMetWord problem f (word_at problem s (spot_of f))
+  met_word phase.Fresh is small = omega (arith, counter_few, small)
+  met_word (phase.Looking row column) is small = met_claim column (subst (IsPhase problem.m problem.n) is (h.ranges.views i lt).numbers).1
+  met_word (phase.Putting row column at) is small = tt
+  met_word (phase.Claiming row column) is small = met_claim column (subst (IsPhase problem.m problem.n) is (h.ranges.views i lt).numbers).1
+  met_word (phase.Reading row column holder at) is small = read_word row column holder at is
+  met_word phase.Ended is small = tt
+
+  -- the current row has residues in every phase
+  current_residues : (f : Phase) → v.phase ≡ f → All (λ a. a < problem.modulus) v.current
+  current_residues phase.Fresh is = subst (All (λ a. a < problem.modulus)) (sym (subst (λ (f : Phase). IsIdle problem.m f v.current) is (h.ranges.views i lt).idle)) (zeros_residues problem.m)
+  current_residues (phase.Looking row column) is = (h.published_prefix.residues i row lt (subst (λ (f : Phase). HasRow f row) (sym is) refl)).residues
+  current_residues (phase.Putting row column at) is = (h.published_prefix.residues i row lt (subst (λ (f : Phase). HasRow f row) (sym is) refl)).residues
+  current_residues (phase.Claiming row column) is = (h.published_prefix.residues i row lt (subst (λ (f : Phase). HasRow f row) (sym is) refl)).residues
+  current_residues (phase.Reading row column holder at) is = (h.published_prefix.residues i row lt (subst (λ (f : Phase). HasRow f row) (sym is) refl)).residues
+  current_residues phase.Ended is = subst (All (λ a. a < problem.modulus)) (sym (subst (λ (f : Phase). IsIdle problem.m f v.current) is (h.ranges.views i lt).idle)) (zeros_residues problem.m)
+
+  unread_residues : (f : Phase) → v.phase ≡ f → v.seen ≡ zeros problem.m → All (λ a. a < problem.modulus) v.seen
+  unread_residues f is none = subst (All (λ a. a < problem.modulus)) (sym none) (zeros_residues problem.m)
+
+  unread_at : (f : Phase) → v.phase ≡ f → IsUnread problem.m f v.seen
+  unread_at f is = subst (λ (g : Phase). IsUnread problem.m g v.seen) is (h.ranges.views i lt).unread
+
+  -- what was seen has residues in every phase
+  seen_residues : (f : Phase) → v.phase ≡ f → All (λ a. a < problem.modulus) v.seen
+  seen_residues phase.Fresh is = unread_residues phase.Fresh is (unread_at phase.Fresh is)
+  seen_residues (phase.Looking row column) is = unread_residues (phase.Looking row column) is (unread_at (phase.Looking row column) is)
+  seen_residues (phase.Putting row column at) is = unread_residues (phase.Putting row column at) is (unread_at (phase.Putting row column at) is)
+  seen_residues (phase.Claiming row column) is = unread_residues (phase.Claiming row column) is (unread_at (phase.Claiming row column) is)
+  seen_residues (phase.Reading row column holder at) is =
+      let read : IsRead problem s (phase.Reading row column holder at) v.seen = subst (λ (f : Phase). IsRead problem s f v.seen) is (h.read_prefix i lt) in
+      let row_is = h.held_in_span.residues column read.0 in
+      All-from_get_or (λ a. a < problem.modulus) v.seen 0 (λ j within. elim (cases_lt j at) [
+        | inl before ↦ subst (λ (k : ℕ). k < problem.modulus) (sym (read.2 j before)) (All-get_or (λ a. a < problem.modulus) _ j 0 (omega (arith, row_is.size, within, (h.ranges.views i lt).seen)) row_is.residues)
+        | inr from ↦ omega (arith, read.3 j from (omega (arith, within, (h.ranges.views i lt).seen)), two)
+      ])
+  seen_residues phase.Ended is = unread_residues phase.Ended is (unread_at phase.Ended is)
+
+  -- a view has drawn some of the rows
+  drawn_few : v.drawn ≤ sum_by (λ (z : Sight). z.drawn) s.views
+  drawn_few = get_or-le-sum_by (λ (z : Sight). z.drawn) s.views i (fresh problem.m i) (omega (arith, lt, h.ranges.count))
+
+  by_few : (column : ℕ) → column < problem.m → v.drawn < 2 ^ 32 - 1
+  by_few column within = omega (arith, drawn_few, h.counter_sum.few, few_rows problem column within)
+
+  drawn_small : (f : Phase) → v.phase ≡ f → f ≢ phase.Ended → problem.n < 2 ^ 32 → word_at problem s (spot_of f) < problem.n → v.drawn < 2 ^ 32 - 1
+  drawn_small phase.Fresh is next rows some = omega (arith, some, rows, drawn_few, h.counter_sum.counts)
+  drawn_small (phase.Looking row column) is next rows some = let numbers : IsPhase problem.m problem.n (phase.Looking row column) = subst (IsPhase problem.m problem.n) is (h.ranges.views i lt).numbers in by_few column numbers.1
+  drawn_small (phase.Putting row column at) is next rows some = let numbers : IsPhase problem.m problem.n (phase.Putting row column at) = subst (IsPhase problem.m problem.n) is (h.ranges.views i lt).numbers in by_few at numbers.2
+  drawn_small (phase.Claiming row column) is next rows some = let numbers : IsPhase problem.m problem.n (phase.Claiming row column) = subst (IsPhase problem.m problem.n) is (h.ranges.views i lt).numbers in by_few column numbers.1
+  drawn_small (phase.Reading row column holder at) is next rows some = let numbers : IsPhase problem.m problem.n (phase.Reading row column holder at) = subst (IsPhase problem.m problem.n) is (h.ranges.views i lt).numbers in by_few at numbers.3
+  drawn_small phase.Ended is next rows some = absurd (next refl)
+
+  -- the steps of all rows are few
+  steps_small : problem.n < 2 ^ 32 → problem.m < 2 ^ 32 → v.steps < 2 ^ 64 - 1
+  steps_small rows columns =
+      let n : ℕ = problem.n in
+      let m : ℕ = problem.m in
+      let own : v.steps ≤ v.drawn * steps_of_row m + 1 = (counted problem crew s h).steps i lt in
+      let most : v.drawn * steps_of_row m ≤ n * steps_of_row m = mul-le v.drawn (steps_of_row m) n (steps_of_row m) (omega (arith, drawn_few, h.counter_sum.few)) (omega arith) in
+      let split : n * steps_of_row m ≡ n * (m * m + 3 * m) + n * 1 = mul-add n (m * m + 3 * m) 1 in
+      let again : n * (m * m + 3 * m) ≡ n * (m * m) + n * (3 * m) = mul-add n (m * m) (3 * m) in
+      let square : n * (m * m) ≡ n * m * m = sym (mul_assoc n m m) in
+      let three : n * (3 * m) ≡ n * m * 3 = ap (λ (k : ℕ). n * k) (mul_comm 3 m) ∙ sym (mul_assoc n m 3) in
+      let cells : n * m * m ≤ 67108864 * 4294967296 = mul-le (n * m) m 67108864 4294967296 problem.few (omega (arith, columns)) in
+      omega (arith, own, most, split, again, square, three, cells, problem.few, rows)
+
+  pub may_meet : problem.n < 2 ^ 32 → problem.m < 2 ^ 32 → v.phase ≢ phase.Ended → MayMeet problem v (word_at problem s (spot_of v.phase))
+  may_meet rows columns next = record {
+    next = next;
+    sight = h.ranges.views i lt;
+    current = current_residues v.phase refl;
+    seen = seen_residues v.phase refl;
+    word = met_word v.phase refl rows;
+    steps = steps_small rows columns;
+    clock = omega (arith, h.calls_and_counts.clocks i lt, calls_few);
+    drawn = drawn_small v.phase refl next rows;
+  }

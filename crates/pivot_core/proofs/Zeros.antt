@@ -1,0 +1,21 @@
+-- Lists of zeros.
+use Rattle.std.proofs.Common.{◌≡◌, ℕ, zero, suc, List, [], ◌∷◌, inl, inr, length, get_or, refl, ap₂, arith}
+use Rattle.std.proofs.lemmas.Bool.{cases_lt}
+use Rattle.std.proofs.lemmas.List.{get_or-replicate, get_or_past, length-replicate}
+use Rattle.pivot_core.specs.Views.{zeros}
+
+pub length-zeros : (m : ℕ) → length (zeros m) ≡ m
+length-zeros m = let none : ℕ = 0 in length-replicate m none
+
+pub zeros-at : (m j : ℕ) → get_or (zeros m) j 0 ≡ 0
+zeros-at m j = elim (cases_lt j m) [
+  | inl lt ↦ get_or-replicate m j 0 0 lt
+  | inr le ↦ get_or_past (zeros m) j 0 (omega (arith, le, length-zeros m))
+]
+
+-- a list of zeros, place by place
+pub zeros_by : (m : ℕ) (xs : List ℕ) → length xs ≡ m → ((j : ℕ) → get_or xs j 0 ≡ 0) → xs ≡ zeros m
+zeros_by zero [] size h = refl
+zeros_by zero (x ∷ xs) size h = absurd (omega (arith, size))
+zeros_by (suc m) [] size h = absurd (omega (arith, size))
+zeros_by (suc m) (x ∷ xs) size h = ap₂ (λ (y : ℕ) (ys : List ℕ). y ∷ ys) (h 0) (zeros_by m xs (omega (arith, size)) (λ j. h (suc j)))

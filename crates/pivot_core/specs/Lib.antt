@@ -1,0 +1,11 @@
+pub mod Words
+pub mod Views
+pub mod Steps
+pub mod Runs
+pub mod Phases
+pub mod Rule
+pub mod Calls
+pub mod Claimed
+pub mod History
+pub mod Laws
+pub mod Meets

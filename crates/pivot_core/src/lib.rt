@@ -1,0 +1,22 @@
+//! The machine of claims, as it stands apart from threads: seats draw rows, publish them word by word, and claim
+//! columns for them, each by one step on one word at a time. A step looks at the view of its seat and at the word
+//! that it meets, and at nothing else, so whatever order the steps of the seats take, the rows that hold columns in
+//! the end are pivots of the problem.
+#![tactic(auto)]
+
+mod event;
+mod laws;
+mod lists;
+mod met;
+mod next;
+mod sight;
+mod view;
+
+pub use event::{Event, Kind, Reply};
+pub use laws::claim_laws;
+pub use next::{comes_next, word_met};
+pub use sight::Sight;
+pub use view::{Phase, View};
+
+/// Want of memory.
+pub type NoMemory = std::alloc::AllocError;

@@ -1,0 +1,74 @@
+ghost use Rattle.std.specs.Prelude.{◌≡◌, ◌<◌, ◌≤◌, All, MatchOption, length, map, max};
+ghost use Rattle.field_table.specs.Residues.{product_of};
+ghost use Rattle.back_reduce.specs.Problems.{row_of};
+ghost use Rattle.pivot_core.specs.Views.{lead_at, zeros};
+ghost use Rattle.pivot_core.specs.Words.{row_in, stamp_in};
+
+use back_reduce::Problem;
+use field_table::Field;
+
+/// The first column at which a row is not 0.
+pub(crate) fn lead(row: &[u32]) -> Option<usize>
+    ensures { MatchOption result (length row.now ≤ lead_at row.now) (λ at. (at ≡ lead_at row.now) × (at < length row.now)) }
+{
+    for at in 0..row.len() {
+        if row[at] != 0 {
+            return Some(at);
+        }
+    }
+    None
+}
+
+pub(crate) fn scale(field: &Field, a: u32, row: &mut [u32])
+    requires factor { a < field.now }
+    requires residues { All (λ r. r < field.now) row.old }
+    ensures { row.new ≡ map (λ r. product_of field.now a r) row.old }
+{
+    for entry in row.iter_mut() {
+        *entry = field.mul(a, *entry);
+    }
+}
+
+/// Writes a row of the problem over another.
+pub(crate) fn copy_row(problem: &Problem, r: u32, row: &mut [u32])
+    requires row { r < problem.now.n }
+    requires length { length row.old ≡ problem.now.m }
+    ensures { row.new ≡ row_of problem.now.m problem.now.cells.items r }
+{
+    let m = problem.m as usize;
+    let from = r as usize * m;
+    row.copy_from_slice(&problem.cells[from..from + m]);
+}
+
+pub(crate) fn clear(row: &mut [u32])
+    ensures { row.new ≡ zeros (length row.old) }
+{
+    row.fill(0);
+}
+
+/// The stamp in a claim word.
+pub(crate) fn stamp_told(word: u64) -> u32
+    ensures { result ≡ stamp_in word }
+{
+    (word / 4294967296) as u32
+}
+
+/// The row in a claim word other than 0.
+pub(crate) fn row_told(word: u64) -> u32
+    ensures { result ≡ row_in word }
+{
+    let low = (word % 4294967296) as u32;
+    if low == 0 {
+        return 0;
+    }
+    low - 1
+}
+
+pub(crate) fn later(first: u32, second: u32) -> u32
+    ensures { result ≡ max first second }
+{
+    if first < second {
+        return second;
+    }
+    first
+}
