@@ -1,0 +1,35 @@
+-- Limits that are asked one after another.
+use Rattle.std.proofs.Common.{◌≡◌, ℕ, List, [], ◌∷◌, ◌++◌, Err, Result, inl, inr}
+use Rattle.ideal_laws.specs.declared.limits.LimitKind.{LimitKind}
+use Rattle.ideal_laws.specs.Quantities.{IsFirstPassing, NonePasses, Quantities}
+
+module _ (Q : Quantities) where
+  -- what passes first among the first limits
+  pub first_before : (ls ms : List (LimitKind × ℕ)) (kind : LimitKind) (value : ℕ) → IsFirstPassing Q ls kind value → IsFirstPassing Q (ls ++ ms) kind value
+  first_before [] ms kind value h = absurd h
+  first_before (l ∷ ls) ms kind value (inl h) = inl h
+  first_before (l ∷ ls) ms kind value (inr h) = inr (h.0, h.1, h.2, first_before ls ms kind value h.3)
+
+  -- what passes first behind limits that none passes
+  pub first_behind : (ls ms : List (LimitKind × ℕ)) (kind : LimitKind) (value : ℕ) → NonePasses Q ls → IsFirstPassing Q ms kind value → IsFirstPassing Q (ls ++ ms) kind value
+  first_behind [] ms kind value none h = h
+  first_behind (l ∷ ls) ms kind value none h = inr (none.0.0, none.0.1, none.0.2, first_behind ls ms kind value none.1 h)
+
+  pub none_together : (ls ms : List (LimitKind × ℕ)) → NonePasses Q ls → NonePasses Q ms → NonePasses Q (ls ++ ms)
+  none_together [] ms none more = more
+  none_together (l ∷ ls) ms none more = (none.0, none_together ls ms none.1 more)
+
+  module _ (R : Quantities) (moved : (kind : LimitKind) (q : ℕ) → Q kind q → R kind q) where
+    -- quantities that are others, too
+    pub first_moved : (ls : List (LimitKind × ℕ)) (kind : LimitKind) (value : ℕ) → IsFirstPassing Q ls kind value → IsFirstPassing R ls kind value
+    first_moved [] kind value h = absurd h
+    first_moved (l ∷ ls) kind value (inl h) = inl (h.0, moved l.0 h.0 h.1, h.2, h.3, h.4)
+    first_moved (l ∷ ls) kind value (inr h) = inr (h.0, moved l.0 h.0 h.1, h.2, first_moved ls kind value h.3)
+
+    pub none_moved : (ls : List (LimitKind × ℕ)) → NonePasses Q ls → NonePasses R ls
+    none_moved [] none = tt
+    none_moved (l ∷ ls) none = ((none.0.0, moved l.0 none.0.0 none.0.1, none.0.2), none_moved ls none.1)
+
+-- a result has one fault
+pub one_fault : {T E : Type 0} (r : Result T E) (a b : E) → r ≡ Err a → r ≡ Err b → a ≡ b
+one_fault r a b h k = cc

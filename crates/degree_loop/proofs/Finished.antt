@@ -1,0 +1,90 @@
+-- The elements of a degree, from the echelon form of its matrix.
+use Rattle.std.proofs.Common.{◌≡◌, Err, Result, ◌+◌, ◌-◌, ◌^◌, ◌<◌, ◌≤◌, ℕ, List, [], ◌∷◌, All, AllPairs, inl, inr, length, map, min, sym, ap, ◌∙◌, arith, subst, refl}
+use Rattle.std.specs.List.{Contains, range_with_len}
+use Rattle.std.proofs.lemmas.List.{length-map}
+use Rattle.std.proofs.lemmas.List.FromFn.{length-range_with_len}
+use Rattle.std.proofs.lemmas.Slice.Zip.{AllZip-long}
+use Rattle.std.proofs.lemmas.List.Elements.{All-cons, All-contains, All-head, All-nil, All-tail}
+use Rattle.words.proofs.Members.{All-from_members, AllPairs-first, AllPairs-rest, Contains-cases, Contains-none}
+use Rattle.free_poly.specs.declared.term.Term.{Term}
+use Rattle.free_poly.specs.Poly.{IsMonic}
+use Rattle.ideal_laws.specs.Basis.{IsReducedBasis}
+use Rattle.ideal_laws.specs.Laws.{IsSetting}
+use Rattle.ideal_laws.specs.declared.limits.LimitKind.{LimitKind}
+use Rattle.ideal_laws.specs.declared.limits.LimitKind.TheVariants.{Terms}
+use Rattle.ideal_laws.specs.declared.engine.EngineFault.{EngineFault}
+use Rattle.ideal_laws.specs.declared.engine.EngineFault.TheVariants.{Limit}
+use Rattle.ideal_laws.specs.Engine.{Elements}
+use Rattle.ideal_laws.specs.Quantities.{IsFirstPassing, IsQuantity, NonePasses, terms_in}
+use Rattle.ideal_laws.specs.Overlaps.{AreLower}
+use Rattle.back_reduce.specs.declared.problem.Problem.{Problem}
+use Rattle.back_reduce.specs.Problems.{row_of, rows_of}
+use Rattle.back_reduce.specs.Rref.{IsRref}
+use Rattle.row_laws.specs.Contested.{IsContestedRow, contested_of, element_on}
+use Rattle.row_laws.specs.Laws.{RowsGiveBasis}
+use Rattle.symbolic_prep.specs.Closed.{ClosedColumns}
+use Rattle.degree_loop.specs.Matrix.{IsMatrix}
+
+pub all_under : {X Y : Type 0} (P : Y → Type 0) (f : X → Y) (xs : List X) → All P (map f xs) → All (λ x. P (f x)) xs
+all_under P f [] h = All-nil (λ x. P (f x))
+all_under P f (x ∷ xs) h = All-cons (λ x. P (f x)) x xs (All-head P (f x) (map f xs) h) (all_under P f xs (All-tail P (f x) (map f xs) h))
+
+map_twice : {X Y Z : Type 0} (f : X → Y) (g : Y → Z) (xs : List X) → map g (map f xs) ≡ map (λ x. g (f x)) xs
+map_twice f g [] = refl
+map_twice f g (x ∷ xs) = ap (λ (zs : List _). g (f x) ∷ zs) (map_twice f g xs)
+
+module _ (p : ℕ) (weights : List ℕ) (relations G : List (List Term)) (d : ℕ) (closed : ClosedColumns) (problem : Problem) (h : IsMatrix p weights relations G d closed problem) where
+  abbrev contested : List (List ℕ)
+  contested = contested_of closed.columns closed.reducers
+
+  pub form_of : (echelon : List (List ℕ)) → IsRref problem.modulus problem.m (rows_of problem) echelon → IsRref p (length contested) (rows_of problem) echelon
+  form_of echelon f = subst (λ (n : ℕ). IsRref p n (rows_of problem) echelon) h.width (subst (λ (n : ℕ). IsRref n problem.m (rows_of problem) echelon) h.modulus f)
+
+  pub basis_of : {X : Type 0} (items : X → List ℕ) (law : RowsGiveBasis) (st : IsSetting p weights relations) (lower : AreLower p weights relations d G) (echelon : List X)
+      → IsRref problem.modulus problem.m (rows_of problem) (map items echelon) → (columns : List (List ℕ)) → columns ≡ contested
+      → (elements : List (List Term)) → elements ≡ map (λ row. element_on columns (items row)) echelon → IsReducedBasis p weights relations d elements
+  basis_of items law st lower echelon f columns are elements is =
+      let own = law p weights relations st d G lower h.rows closed.columns closed.reducers h.are_closed (rows_of problem) h.contested (map items echelon) (form_of (map items echelon) f) in
+      subst (IsReducedBasis p weights relations d)
+      (sym (is ∙ ap (λ (ws : List (List ℕ)). map (λ row. element_on ws (items row)) echelon) are ∙ sym (map_twice items (element_on contested) echelon))) own
+
+-- the problem has as many rows as the degree
+pub count_rows : (p : ℕ) (weights : List ℕ) (relations G : List (List Term)) (d : ℕ) (closed : ClosedColumns) (problem : Problem) → (h : IsMatrix p weights relations G d closed problem) → problem.n ≡ length h.rows
+count_rows p weights relations G d closed problem h =
+    sym (length-range_with_len 0 problem.n) ∙ sym (length-map (range_with_len 0 problem.n) (row_of problem.m problem.cells.items))
+    ∙ AllZip-long (IsContestedRow p closed.columns closed.reducers) h.rows (rows_of problem) h.contested
+
+-- the elements of a reduced basis are monic
+pub basis_monic : (p : ℕ) (weights : List ℕ) (relations : List (List Term)) (d : ℕ) (basis : List (List Term)) → IsReducedBasis p weights relations d basis → All IsMonic basis
+basis_monic p weights relations d basis h = All-from_members IsMonic basis (λ f m. ((h.exactly f).0 m).monic)
+
+-- members of a list with one degree have one degree
+pub one_degree : (deg : List ℕ → ℕ) (xs : List (List ℕ)) → AllPairs (λ v w. deg v ≡ deg w) xs → (v w : List ℕ) → Contains xs v → Contains xs w → deg v ≡ deg w
+one_degree deg [] h v w m n = absurd (Contains-none v m)
+one_degree deg (x ∷ xs) h v w m n = elim (Contains-cases x xs v m) [
+  | inl is ↦ elim (Contains-cases x xs w n) [
+    | inl also ↦ ap deg (sym is ∙ also)
+    | inr later ↦ ap deg (sym is) ∙ All-contains (λ y. deg x ≡ deg y) xs w (AllPairs-first (λ v w. deg v ≡ deg w) x xs h) later
+  ]
+  | inr later ↦ elim (Contains-cases x xs w n) [
+    | inl is ↦ sym (All-contains (λ y. deg x ≡ deg y) xs v (AllPairs-first (λ v w. deg v ≡ deg w) x xs h) later) ∙ ap deg is
+    | inr also ↦ one_degree deg xs (AllPairs-rest (λ v w. deg v ≡ deg w) x xs h) v w later also
+  ]
+]
+
+-- the terms pass their limit, or do not
+module _ (p : ℕ) (weights : List ℕ) (relations : List (List Term)) (below : Elements) (d most count : ℕ) (elements : List (List Term)) (basis : IsReducedBasis p weights relations d elements)
+    (few : most < 2 ^ 32) (is : count ≡ min (min (terms_in below.elements) (2 ^ 64 - 1) + min (terms_in elements) (2 ^ 64 - 1)) (2 ^ 64 - 1)) where
+  pub terms_pass : most < count → (kind : LimitKind) (degree value : ℕ) → {T : Type 0} (r : Result T EngineFault) → r ≡ Err (Limit Terms d count) → r ≡ Err (Limit kind degree value)
+      → (degree ≡ d) × IsFirstPassing (IsQuantity p weights relations below d) ((Terms, most) ∷ []) kind value
+  terms_pass lt kind degree value r own e =
+      let is_kind : kind ≡ Terms = cc e in
+      let is_degree : degree ≡ d = cc e in
+      let is_value : value ≡ count = cc e in
+      (is_degree, inl (terms_in below.elements + terms_in elements, (elements, basis, refl), omega (arith, lt, is, few), is_kind, omega (arith, is_value, is)))
+
+  pub terms_within : count ≤ most → NonePasses (IsQuantity p weights relations below d) ((Terms, most) ∷ [])
+  terms_within le = ((terms_in below.elements + terms_in elements, (elements, basis, refl), omega (arith, le, is, few)), tt)
+
+  pub elements_few : count ≤ most → length elements ≤ terms_in elements → length elements ≤ most
+  elements_few le some = omega (arith, le, is, few, some)

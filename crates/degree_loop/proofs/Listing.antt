@@ -1,0 +1,80 @@
+-- Relations of a degree, terms and elements, item after item.
+use Rattle.std.proofs.Common.{◌≡◌, ◌≢◌, ◌+◌, ◌<◌, ◌≤◌, ◌==◌, ℕ, suc, Bool, true, false, cond, List, [], ◌∷◌, ◌++◌, All, append-nil, drop, get_or, length, length-append, take, refl, sym, ap, ap₂, ◌∙◌, arith, Some, None, subst}
+use Rattle.std.specs.List.{flat_map}
+use Rattle.std.proofs.lemmas.Bool.{eqb-true, false_from_ne_true}
+use Rattle.std.proofs.lemmas.List.{append_assoc, drop_more, take_more}
+use Rattle.std.proofs.lemmas.List.Concat.{flat_map-append}
+use Rattle.std.proofs.lemmas.List.Elements.{All-head, All-tail}
+use Rattle.words.specs.Words.{IsOver, degree_of}
+use Rattle.free_poly.specs.declared.term.Term.{Term}
+use Rattle.free_poly.specs.Terms.{UsesLetters, term_at}
+use Rattle.free_poly.specs.Poly.{IsMonic, lead_of}
+use Rattle.ideal_laws.specs.Engine.{of_degree}
+use Rattle.ideal_laws.specs.Quantities.{terms_in}
+use Rattle.ideal_laws.proofs.Grown.{of_degree-append}
+use Rattle.row_laws.specs.Contested.{element_on}
+
+-- one more polynomial
+pub terms_in-more : (fs : List (List Term)) (k : ℕ) (f : List Term) → k < length fs → f ≡ get_or fs k f → terms_in (take (k + 1) fs) ≡ terms_in (take k fs) + length f
+terms_in-more fs k f within is =
+    ap terms_in (take_more fs k f within)
+    ∙ ap length (flat_map-append (λ g. g) (take k fs) (get_or fs k f ∷ []))
+    ∙ length-append (flat_map (λ g. g) (take k fs)) (flat_map (λ g. g) (get_or fs k f ∷ []))
+    ∙ ap (λ (n : ℕ). terms_in (take k fs) + n) (ap length (append-nil (get_or fs k f)) ∙ ap length (sym is))
+
+-- polynomials other than 0 are no more than their terms
+pub few_elements : (fs : List (List Term)) → All IsMonic fs → length fs ≤ terms_in fs
+few_elements [] h = omega arith
+few_elements ([] ∷ fs) h = absurd (All-head IsMonic [] fs h)
+few_elements ((t ∷ f) ∷ fs) h =
+    let rest = few_elements fs (All-tail IsMonic (t ∷ f) fs h) in
+    omega (arith, rest, length-append f (flat_map (λ g. g) fs))
+
+-- one more relation
+pub of_degree-more : (weights : List ℕ) (d : ℕ) (fs : List (List Term)) (k : ℕ) (f : List Term) (b : Bool) → k < length fs → f ≡ get_or fs k f → of_degree weights d (f ∷ []) ≡ cond b (f ∷ []) []
+    → of_degree weights d (take (k + 1) fs) ≡ of_degree weights d (take k fs) ++ cond b (f ∷ []) []
+of_degree-more weights d fs k f b within is has =
+    ap (of_degree weights d) (take_more fs k f within)
+    ∙ of_degree-append weights d (take k fs) (get_or fs k f ∷ [])
+    ∙ ap (λ (gs : List (List Term)). of_degree weights d (take k fs) ++ gs) (ap (λ (g : List Term). of_degree weights d (g ∷ [])) (sym is) ∙ has)
+
+-- a relation by its leading word
+pub of_degree-lead : (weights : List ℕ) (d : ℕ) (f : List Term) (w : List ℕ) (b : Bool) → Some w ≡ lead_of f → b ≡ (degree_of weights w == d) → of_degree weights d (f ∷ []) ≡ cond b (f ∷ []) []
+of_degree-lead weights d [] w b e is = cc e
+of_degree-lead weights d (t ∷ f) w b e is =
+    let word : w ≡ t.word = cc e in
+    ap (λ (c : Bool). cond c ((t ∷ f) ∷ []) []) (sym (is ∙ ap (λ (v : List ℕ). degree_of weights v == d) word))
+
+pub of_degree-no_lead : (weights : List ℕ) (d : ℕ) (f : List Term) → None ≡ lead_of f → of_degree weights d (f ∷ []) ≡ []
+of_degree-no_lead weights d [] e = refl
+of_degree-no_lead weights d (t ∷ f) e = cc e
+
+length-of_degree : (weights : List ℕ) (d : ℕ) (fs : List (List Term)) → length (of_degree weights d fs) ≤ length fs
+length-of_degree weights d [] = omega arith
+length-of_degree weights d ([] ∷ fs) = let rest = length-of_degree weights d fs in omega (arith, rest)
+length-of_degree weights d ((t ∷ f) ∷ fs) = by_test (degree_of weights t.word == d) (length-of_degree weights d fs)
+  where
+    by_test : (b : Bool) → length (of_degree weights d fs) ≤ length fs → length (cond b ((t ∷ f) ∷ of_degree weights d fs) (of_degree weights d fs)) ≤ suc (length fs)
+    by_test true rest = omega (arith, rest)
+    by_test false rest = omega (arith, rest)
+
+pub count_within : (weights : List ℕ) (d : ℕ) (fs : List (List Term)) (k : ℕ) → length (of_degree weights d (take k fs)) ≤ length (take k fs)
+count_within weights d fs k = length-of_degree weights d (take k fs)
+
+-- the leading word is over the letters
+pub lead_over : (names : ℕ) (f : List Term) (w : List ℕ) → Some w ≡ lead_of f → UsesLetters names f → IsOver names w
+lead_over names [] w e h = cc e
+lead_over names (t ∷ f) w e h = let is : t.word ≡ w = cc e in subst (IsOver names) is (All-head (λ s. IsOver names s.word) t f h)
+
+-- one more column
+pub element_on-more : (xs : List (List ℕ)) (row : List ℕ) (k : ℕ) (terms : List Term) → length row ≡ length xs → k < length row
+    → (terms ++ term_at (get_or xs k []) (get_or row k 0)) ++ element_on (drop (k + 1) xs) (drop (k + 1) row) ≡ terms ++ element_on (drop k xs) (drop k row)
+element_on-more xs row k terms l within =
+    append_assoc terms (term_at (get_or xs k []) (get_or row k 0)) (element_on (drop (k + 1) xs) (drop (k + 1) row))
+    ∙ ap (λ (f : List Term). terms ++ f) (sym (ap₂ element_on (drop_more xs k [] (omega (arith, within, l))) (drop_more row k 0 within)))
+
+pub some_term : (w : List ℕ) (a : ℕ) → a ≢ 0 → term_at w a ≡ record { word = w; coefficient = a } ∷ []
+some_term w a ne = ap (λ (b : Bool). cond b [] (record { word = w; coefficient = a } ∷ [])) (false_from_ne_true (a == 0) (λ e. ne (eqb-true a 0 e)))
+
+pub pushed_term : (terms next : List Term) (word own : List ℕ) (a : ℕ) → a ≢ 0 → next ≡ terms ++ record { word = word; coefficient = a } ∷ [] → word ≡ own → next ≡ terms ++ term_at own a
+pushed_term terms next word own a ne e is = e ∙ ap (λ (w : List ℕ). terms ++ record { word = w; coefficient = a } ∷ []) is ∙ ap (λ (f : List Term). terms ++ f) (sym (some_term own a ne))

@@ -1,0 +1,6 @@
+use Rattle.std.proofs.Common.{◌≡◌, map, take}
+use Rattle.row_laws.specs.Contested.{element_on}
+use Rattle.degree_loop.proofs.elements.elements_on.Given as goal
+
+abbrev pub invariant-loop-row : goal.invariant-loop-row
+invariant-loop-row l = l.elements.items ≡ map (λ row. element_on l.columns row.items) (take l.row-index l.rows)

@@ -1,0 +1,132 @@
+ghost use Rattle.std.specs.Prelude.{◌≡◌, ◌+◌, ◌<◌, ◌≤◌, ◌∷◌, [], ℕ, All, AllPairs, Err, IfOk, OnOk, length, map};
+ghost use Rattle.words.specs.Order.{IsLetterwiseGreater};
+ghost use Rattle.words.specs.Words.{IsOver, degree_of};
+ghost use Rattle.free_poly.specs.Terms.{HasResidues};
+ghost use Rattle.ideal_laws.specs.declared.limits.LimitKind.{LimitKind};
+ghost use Rattle.ideal_laws.specs.declared.limits.LimitKind.TheVariants.{Terms};
+ghost use Rattle.ideal_laws.specs.Basis.{IsReducedBasis};
+ghost use Rattle.ideal_laws.specs.Engine.{IsReducedUpto};
+ghost use Rattle.ideal_laws.specs.Quantities.{IsFirstPassing, IsQuantity, NonePasses};
+ghost use Rattle.back_reduce.specs.Rows.{IsRow};
+ghost use Rattle.row_laws.specs.Contested.{element_on};
+ghost use Rattle.degree_loop.specs.Matrix.{AreColumnWords, IsMatrix};
+
+use crate::terms::{terms_below, terms_of};
+use back_reduce::{PivotRows, reduced};
+use field_table::Field;
+use free_poly::{Poly, PolyFault, Term};
+use ideal_laws::{Basis, EngineFault, LimitKind, Presentation, lower_law, setting_law};
+use row_laws::rows_law;
+use std::alloc::{AllocError, Global};
+use std::thread::Threads;
+use symbolic_prep::Closed;
+use words::{Alphabet, Items, NoMemory, Word};
+
+/// The elements of degree d from the pivots of its matrix, whoever found them: the reduced row echelon form over the
+/// contested columns. The terms of these and of the elements below are asked at last.
+pub fn elements_of<R: Threads + Sync, P: PivotRows>(
+    rt: &R,
+    alloc: Global,
+    field: &Field,
+    presentation: &Presentation,
+    below: &Basis,
+    d: u32,
+    closed: &Closed,
+    pivots: &P,
+    most: u32,
+) -> Result<Items<Poly>, EngineFault>
+    requires next { d ≡ below.now.done + 1 }
+    requires small { d ≤ 64 }
+    requires weights { below.now.weights ≡ presentation.now.alphabet.weights }
+    requires reduced { IsReducedUpto field.now presentation.now.relations below.now }
+    requires residues { All (HasResidues field.now) presentation.now.relations }
+    requires matrix { IsMatrix field.now presentation.now.alphabet.weights presentation.now.relations below.now.elements d closed.now (P.given pivots.now) }
+
+    ensures elements { IfOk result (IsReducedBasis field.now presentation.now.alphabet.weights presentation.now.relations d) }
+    ensures few { IfOk result (λ elements. length elements ≤ most) }
+    ensures within { OnOk result (NonePasses (IsQuantity field.now presentation.now.alphabet.weights presentation.now.relations below.now d) ((Terms, most) ∷ [])) }
+
+    ensures limit { (kind : LimitKind) (degree value : ℕ) → result ≡ Err (EngineFault.Limit kind degree value)
+        → (degree ≡ d) × IsFirstPassing (IsQuantity field.now presentation.now.alphabet.weights presentation.now.relations below.now d) ((Terms, most) ∷ []) kind value }
+{
+    lower_law();
+    rows_law();
+    setting_law(field, presentation);
+    let _done = below.done();
+    let echelon = reduced(rt, alloc, field, pivots)?;
+    let alphabet = &presentation.alphabet;
+    let elements = elements_on(
+        alloc,
+        alphabet,
+        field,
+        closed.contested(),
+        echelon.as_slice(),
+    )?;
+    let count = terms_below(below).saturating_add(terms_of(elements.as_slice()));
+    if count > u64::from(most) {
+        return Err(EngineFault::Limit {
+            kind: LimitKind::Terms,
+            degree: d,
+            value: count,
+        });
+    }
+    Ok(Items::from_vec(elements))
+}
+
+/// The elements with the residues of each row at the columns.
+fn elements_on(
+    alloc: Global,
+    alphabet: &Alphabet,
+    field: &Field,
+    columns: &[Word],
+    rows: &[Vec<u32>],
+) -> Result<Vec<Poly>, NoMemory>
+    requires columns { AreColumnWords alphabet.now.weights columns.now }
+    requires rows { All (λ row. IsRow field.now (length columns.now) row.items) rows.now }
+    ensures { IfOk result (λ elements. elements.items ≡ map (λ row. element_on columns.now row.items) rows.now) }
+{
+    let mut elements = Vec::with_capacity(alloc, rows.len())?;
+    for row in rows {
+        let element = element_of(alloc, alphabet, field, columns, row.as_slice())?;
+        elements.push(element)?;
+    }
+    Ok(elements)
+}
+
+/// The polynomial with these residues at the columns.
+fn element_of(
+    alloc: Global,
+    alphabet: &Alphabet,
+    field: &Field,
+    columns: &[Word],
+    row: &[u32],
+) -> Result<Poly, NoMemory>
+    requires columns { AreColumnWords alphabet.now.weights columns.now }
+    requires row { IsRow field.now (length columns.now) row.now }
+    ensures { IfOk result (λ element. element ≡ element_on columns.now row.now) }
+{
+    let terms = terms_on(alloc, columns, row)?;
+    match Poly::from_terms(alloc, alphabet, field, terms) {
+        Ok(poly) => Ok(poly),
+        Err(PolyFault::NoMemory) => Err(AllocError),
+        Err(PolyFault::MixedDegrees { .. }) => unreachable!(),
+    }
+}
+
+/// The words of the columns with their residues, where these are not 0.
+fn terms_on(alloc: Global, columns: &[Word], row: &[u32]) -> Result<Vec<Term>, NoMemory>
+    requires { length row.now ≡ length columns.now }
+    ensures { IfOk result (λ terms. terms.items ≡ element_on columns.now row.now) }
+{
+    let mut terms = Vec::new(alloc);
+    for (at, coefficient) in row.iter().enumerate() {
+        if *coefficient != 0 {
+            let word = columns[at].copy(alloc)?;
+            terms.push(Term {
+                word,
+                coefficient: *coefficient,
+            })?;
+        }
+    }
+    Ok(terms)
+}

@@ -1,0 +1,18 @@
+//! The matrix engines: a degree by linear algebra over the closure of its rows. Relations and obstructions give the
+//! rows, their closure gives columns and reducers, and the reduced row echelon form of what the rows leave at the
+//! contested columns is the reduced basis. An engine is the way in which it finds the pivots; all else is common.
+#![tactic(auto)]
+
+mod account;
+mod elements;
+mod index;
+mod matrix;
+mod relations;
+mod rows;
+mod sequential;
+mod terms;
+
+pub use account::account_of;
+pub use elements::elements_of;
+pub use matrix::{Matrix, matrix_of};
+pub use sequential::sequential_degree;

@@ -1,0 +1,62 @@
+ghost use Rattle.std.specs.Prelude.{◌≡◌, ◌+◌, ◌≤◌, ℕ, All, Err, IfOk, OnOk};
+ghost use Rattle.free_poly.specs.Terms.{HasResidues};
+ghost use Rattle.ideal_laws.specs.declared.limits.LimitKind.{LimitKind};
+ghost use Rattle.ideal_laws.specs.Engine.{IsReducedUpto};
+ghost use Rattle.ideal_laws.specs.Limits.{AreLimits};
+ghost use Rattle.ideal_laws.specs.Quantities.{IsFirstPassing, IsQuantity, NonePasses};
+ghost use Rattle.degree_loop.specs.Limits.{matrix_limits};
+ghost use Rattle.degree_loop.specs.Matrix.{IsMatrix};
+
+use crate::index::index_of;
+use crate::rows::rows_of_degree;
+use back_reduce::Problem;
+use field_table::Field;
+use ideal_laws::{
+    Basis, EngineFault, Limits, Presentation, lower_law, quantities_law, setting_law,
+};
+use row_store::contested_rows;
+use std::alloc::Global;
+use std::thread::Threads;
+use symbolic_prep::{Closed, close};
+
+/// The closure of the rows of a degree, and what the rows leave at its contested columns.
+#[derive(Debug, Drop)]
+pub struct Matrix {
+    pub closed: Closed,
+    pub problem: Problem,
+}
+
+/// The matrix of degree d over the reduced basis of the degrees below (Faugère 1999). The limits on rows, columns,
+/// entries and cells are asked in this order.
+pub fn matrix_of<R: Threads + Sync>(
+    rt: &R,
+    alloc: Global,
+    field: &Field,
+    presentation: &Presentation,
+    below: &Basis,
+    d: u32,
+    limits: &Limits,
+) -> Result<Matrix, EngineFault>
+    requires next { d ≡ below.now.done + 1 }
+    requires small { d ≤ 64 }
+    requires weights { below.now.weights ≡ presentation.now.alphabet.weights }
+    requires reduced { IsReducedUpto field.now presentation.now.relations below.now }
+    requires residues { All (HasResidues field.now) presentation.now.relations }
+    requires limits { AreLimits limits.now }
+
+    ensures matrix { IfOk result (λ matrix. IsMatrix field.now presentation.now.alphabet.weights presentation.now.relations below.now.elements d matrix.closed matrix.problem) }
+    ensures within { OnOk result (NonePasses (IsQuantity field.now presentation.now.alphabet.weights presentation.now.relations below.now d) (matrix_limits limits.now)) }
+
+    ensures limit { (kind : LimitKind) (degree value : ℕ) → result ≡ Err (EngineFault.Limit kind degree value)
+        → (degree ≡ d) × IsFirstPassing (IsQuantity field.now presentation.now.alphabet.weights presentation.now.relations below.now d) (matrix_limits limits.now) kind value }
+{
+    lower_law();
+    quantities_law();
+    setting_law(field, presentation);
+    let _done = below.done();
+    let rows = rows_of_degree(alloc, field, presentation, below, d, limits.rows)?;
+    let index = index_of(alloc, below)?;
+    let closed = close(alloc, field, below, &index, rows.as_slice(), d, limits)?;
+    let problem = contested_rows(rt, alloc, field, &closed, rows.as_slice(), d, limits)?;
+    Ok(Matrix { closed, problem })
+}

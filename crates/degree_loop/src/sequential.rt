@@ -1,0 +1,64 @@
+ghost use Rattle.std.specs.Prelude.{◌≡◌, ◌+◌, ◌≤◌, [], ℕ, All, Err, IfOk, OnOk, length};
+ghost use Rattle.free_poly.specs.Terms.{HasResidues};
+ghost use Rattle.ideal_laws.specs.declared.limits.LimitKind.{LimitKind};
+ghost use Rattle.ideal_laws.specs.Basis.{IsReducedBasis};
+ghost use Rattle.ideal_laws.specs.Engine.{IsReducedUpto};
+ghost use Rattle.ideal_laws.specs.Limits.{AreLimits};
+ghost use Rattle.ideal_laws.specs.Quantities.{IsFirstPassing, IsQuantity, NonePasses};
+ghost use Rattle.degree_loop.specs.Limits.{engine_limits};
+ghost use Rattle.degree_loop.specs.Matrix.{TellsMatrix};
+
+use crate::account::account_of;
+use crate::elements::elements_of;
+use crate::matrix::{Matrix, matrix_of};
+use back_reduce::eliminate;
+use field_table::Field;
+use ideal_laws::{Basis, DegreeReport, EngineFault, Limits, Presentation};
+use std::alloc::Global;
+use std::thread::Threads;
+use words::Items;
+
+/// The reduced basis of degree d by elimination over its contested columns, in which one thread finds the pivots. The
+/// limits on rows, columns, entries, cells and terms are asked in this order.
+pub fn sequential_degree<R: Threads + Sync>(
+    rt: &R,
+    alloc: Global,
+    field: &Field,
+    presentation: &Presentation,
+    below: &Basis,
+    d: u32,
+    limits: &Limits,
+) -> Result<DegreeReport, EngineFault>
+    requires next { d ≡ below.now.done + 1 }
+    requires small { d ≤ 64 }
+    requires weights { below.now.weights ≡ presentation.now.alphabet.weights }
+    requires reduced { IsReducedUpto field.now presentation.now.relations below.now }
+    requires residues { All (HasResidues field.now) presentation.now.relations }
+    requires limits { AreLimits limits.now }
+
+    ensures elements { IfOk result (λ report. IsReducedBasis field.now presentation.now.alphabet.weights presentation.now.relations d report.elements) }
+    ensures few { IfOk result (λ report. length report.elements ≤ 16777216) }
+    ensures account { IfOk result (λ report. TellsMatrix field.now presentation.now.alphabet.weights presentation.now.relations below.now.elements d report.account × (report.account.calls ≡ [])) }
+    ensures within { OnOk result (NonePasses (IsQuantity field.now presentation.now.alphabet.weights presentation.now.relations below.now d) (engine_limits limits.now)) }
+
+    ensures limit { (kind : LimitKind) (degree value : ℕ) → result ≡ Err (EngineFault.Limit kind degree value)
+        → (degree ≡ d) × IsFirstPassing (IsQuantity field.now presentation.now.alphabet.weights presentation.now.relations below.now d) (engine_limits limits.now) kind value }
+{
+    let matrix = matrix_of(rt, alloc, field, presentation, below, d, limits)?;
+    let Matrix { closed, problem } = matrix;
+    let calls = Items::from_vec(Vec::new(alloc));
+    let account = account_of(alloc, &closed, problem.n, calls)?;
+    let pivots = eliminate(alloc, field, problem)?;
+    let elements = elements_of(
+        rt,
+        alloc,
+        field,
+        presentation,
+        below,
+        d,
+        &closed,
+        &pivots,
+        limits.terms,
+    )?;
+    Ok(DegreeReport { elements, account })
+}
