@@ -2,10 +2,10 @@ ghost use Rattle.std.specs.Prelude.{◌≤◌, All, length};
 ghost use Rattle.free_poly.specs.Terms.{HasResidues};
 
 use crate::presented::{free, with_relation};
-use degree_loop::sequential_degree;
+use degree_loop::{matrix_of, sequential_degree};
 use field_table::{Field, listed_moduli_law};
 use free_poly::Poly;
-use ideal_laws::{Basis, Limits, Presentation, advance};
+use ideal_laws::{Basis, EngineFault, LimitKind, Limits, Presentation, advance, run};
 use plain_engine::PlainEngine;
 use std::alloc::Global;
 use std::process::Abort;
@@ -65,4 +65,43 @@ fn elimination_over_contested_columns_finds_the_same(rt: HostRuntime) -> Result<
     let heavy = free(&rt, alloc, &[2, 1])?;
     let heavy = with_relation(&rt, alloc, &field, heavy, &[(1, "xx"), (100, "yyyy")])?;
     assert_degrees(&rt, alloc, &field, &heavy, &[0, 0, 0, 1, 0, 1])
+}
+
+/// In degree 4 the rows of both obstructions of x^2-y*x leave x*y^2*x-y^3*x at the two contested columns.
+#[test]
+fn a_matrix_has_its_cells_or_too_many(rt: HostRuntime) -> Result<(), Fail> {
+    listed_moduli_law();
+    let alloc = rt.alloc();
+    let field = Field::new(alloc, 101)?;
+    let given = free(&rt, alloc, &[1, 1])?;
+    let given = with_relation(&rt, alloc, &field, given, &[(1, "xx"), (100, "yx")])?;
+    let mut plain = PlainEngine::new(Limits::standard());
+    let basis = run(&rt, alloc, &mut plain, &field, &given, 3)?;
+
+    let mut limits = Limits::standard();
+    limits.cells = 3;
+    let refused = matrix_of(&rt, alloc, &field, &given, &basis, 4, &limits);
+    assert!(rt;
+        matches!(
+            refused,
+            Err(EngineFault::Limit {
+                kind: LimitKind::Cells,
+                degree: 4,
+                value: 4
+            })
+        )
+    );
+
+    limits.cells = 4;
+    let matrix = matrix_of(&rt, alloc, &field, &given, &basis, 4, &limits)?;
+    assert_eq!(rt; (matrix.problem.n, matrix.problem.m), (2, 2));
+    assert_eq!(rt;
+        matrix.problem.cells.as_slice(),
+        [1, 100, 1, 100].as_slice()
+    );
+    let contested = matrix.closed.contested();
+    assert_eq!(rt; contested.len(), 2);
+    assert_eq!(rt; contested[0].letters(), [0, 1, 1, 0].as_slice());
+    assert_eq!(rt; contested[1].letters(), [1, 1, 1, 0].as_slice());
+    Ok(())
 }
