@@ -1,10 +1,10 @@
 -- Polynomials: sums of terms in normal form.
-use Rattle.std.specs.Prelude.{ℕ, ◌≡◌, ◌≢◌, ◌<◌, List, [], ◌∷◌, All, AllPairs, Option, Some, None}
+use Rattle.std.specs.Prelude.{ℕ, ◌≡◌, ◌≢◌, ◌<◌, List, [], ◌∷◌, ◌++◌, All, AllPairs, Option, Some, None}
 use Rattle.std.specs.declared.cmp.Ordering.{Ordering}
 use Rattle.std.specs.declared.cmp.Ordering.TheVariants.{Less, Greater}
 use Rattle.words.specs.Order.{IsLetterwiseGreater, letterwise_cmp}
 use Rattle.free_poly.specs.declared.term.Term.{Term}
-use Rattle.free_poly.specs.Terms.{IsSame, scaled}
+use Rattle.free_poly.specs.Terms.{IsSame, scaled, term_at}
 
 -- words falling letter by letter, which on one degree is the order of words, and no coefficient is 0
 pub record IsPolynomial (terms : List Term) : Type 0 where
@@ -15,6 +15,17 @@ pub record IsPolynomial (terms : List Term) : Type 0 where
 abbrev pub lead_of : List Term → Option (List ℕ)
 lead_of [] = None
 lead_of (t ∷ ts) = Some t.word
+
+-- the same, and the empty word where there is none
+abbrev pub lead_or_none : List Term → List ℕ
+lead_or_none [] = []
+lead_or_none (t ∷ ts) = t.word
+
+-- the element with these residues at the columns
+abbrev pub element_on : List (List ℕ) → List ℕ → List Term
+element_on [] row = []
+element_on (w ∷ ws) [] = []
+element_on (w ∷ ws) (a ∷ row) = term_at w a ++ element_on ws row
 
 -- the order of the first words, where a sum with no word has the smaller
 abbrev pub firsts_cmp : List Term → List Term → Ordering
