@@ -49,6 +49,13 @@ reducers_in [] = []
 reducers_in (None ∷ rs) = reducers_in rs
 reducers_in (Some r ∷ rs) = r ∷ reducers_in rs
 
+-- the columns that have none, in their order
+abbrev pub contested_words : List (List ℕ) → List (Option (List Term)) → List (List ℕ)
+contested_words [] rs = []
+contested_words (w ∷ ws) [] = []
+contested_words (w ∷ ws) (None ∷ rs) = w ∷ contested_words ws rs
+contested_words (w ∷ ws) (Some r ∷ rs) = contested_words ws rs
+
 -- how many columns have none
 abbrev pub contested_in : List (Option (List Term)) → ℕ
 contested_in [] = 0

@@ -1,4 +1,5 @@
 ghost use Rattle.std.specs.Prelude.{◌≡◌, ◌+◌, ◌++◌, ◌≤◌, ◌<◌, ◌↔◌, ℕ, List, All, Err, IfOk, OnErr, OnOk, length};
+ghost use Rattle.std.specs.Thread.{IsSync};
 ghost use Rattle.free_poly.specs.declared.term.Term.{Term};
 ghost use Rattle.free_poly.specs.Terms.{HasResidues};
 ghost use Rattle.ideal_laws.specs.declared.account.Account.{Account};
@@ -74,6 +75,7 @@ pub trait DegreeEngine {
         below: &Basis,
         d: u32,
     ) -> Result<DegreeReport, EngineFault>
+        requires sync { IsSync R.row }
         requires next { d ≡ below.now.done + 1 }
         requires small { d ≤ 64 }
         requires weights { below.now.weights ≡ presentation.now.alphabet.weights }
