@@ -1,5 +1,6 @@
 pub mod Answering
 pub mod Grown
+pub mod Indexing
 pub mod Labels
 pub mod LeadLemmas
 pub mod Paths

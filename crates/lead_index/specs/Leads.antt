@@ -1,6 +1,8 @@
 -- Leading words with their elements, and where they stand in a word.
-use Rattle.std.specs.Prelude.{ℕ, ◌≡◌, ◌≢◌, ◌≤◌, List, [], All, AllPairs, Contains, length}
+use Rattle.std.specs.Prelude.{ℕ, ◌≡◌, ◌≢◌, ◌≤◌, ◌↔◌, List, [], ◌∷◌, ◌++◌, All, AllPairs, Contains, Some, length, slice_get}
 use Rattle.words.specs.Words.{IsFactor, OccursAt}
+use Rattle.free_poly.specs.declared.term.Term.{Term}
+use Rattle.free_poly.specs.Poly.{lead_of}
 use Rattle.lead_index.specs.declared.lead.Lead.{Lead}
 
 -- neither word is a factor of the other
@@ -18,6 +20,15 @@ pub record IsIndex (leads : List Lead) : Type 0 where
   pub some : All (λ l. l.word ≢ []) leads
   pub small : All (λ l. length l.word ≤ 64) leads
   pub apart : AllPairs (λ l m. AreApart l.word m.word) leads
+
+-- the index has exactly the leading words of the elements, each with the place of its element
+abbrev pub IsIndexOf : List (List Term) → List Lead → Type 0
+IsIndexOf G leads = (l : Lead) → Contains leads l ↔ ((g : List Term) × (slice_get G l.element ≡ Some g) × (lead_of g ≡ Some l.word))
+
+-- the index with the leading word of one more element, which 0 has not
+abbrev pub with_lead : List Lead → List Term → ℕ → List Lead
+with_lead leads [] place = leads
+with_lead leads (t ∷ f) place = leads ++ record { word = t.word; element = place } ∷ []
 
 -- the leading word of this element, and of no other one, stands in the word from this place
 pub record Starts (leads : List Lead) (word : List ℕ) (at element : ℕ) : Type 0 where

@@ -2,6 +2,7 @@
 //! another, so at most one stands at each place, and the leftmost is a function of the word.
 #![tactic(auto)]
 
+mod basis_index;
 mod index;
 pub mod laws;
 mod lead;
@@ -9,5 +10,6 @@ mod lead;
 mod tests;
 mod tree;
 
+pub use basis_index::index_of;
 pub use index::{LeadIndex, Place};
 pub use lead::Lead;
