@@ -1,5 +1,5 @@
 -- How many normal words a degree has.
-use Rattle.std.specs.Prelude.{ℕ, ◌≡◌, ◌≢◌, ◌+◌, ◌<◌, ◌≤◌, ◌↔◌, ◌⊎◌, List, [], ◌∷◌, ◌++◌, All, length, slice_index, slice_index_or}
+use Rattle.std.specs.Prelude.{ℕ, ◌≡◌, ◌≢◌, ◌+◌, ◌<◌, ◌≤◌, ◌↔◌, ◌⊎◌, List, [], All, length, slice_index, slice_index_or}
 use Rattle.free_poly.specs.declared.term.Term.{Term}
 use Rattle.ideal_laws.specs.Closure.{IsNormal}
 use Rattle.ideal_laws.specs.Dimension.{IsHilbertCoefficient}
@@ -36,11 +36,6 @@ pub record IsFirstLarge (weights : List ℕ) (G : List (List Term)) (limit bound
 pub record IndexesLeads (G : List (List Term)) (leads : List Lead) : Type 0 where
   pub some : All (λ l. l.word ≢ []) leads
   pub says : (w : List ℕ) → IsFree leads w ↔ IsNormal G w
-
--- the index with the leading word of one more element, which 0 has not
-abbrev pub with_lead : List Lead → List Term → ℕ → List Lead
-with_lead leads [] place = leads
-with_lead leads (t ∷ f) place = leads ++ record { word = t.word; element = place } ∷ []
 
 -- the normal words of the last degrees, all degrees that a letter can leave among them, or none in the beginning
 pub record AreHeld (weights : List ℕ) (leads : List Lead) (held : List WordsOfDegree) : Type 0 where

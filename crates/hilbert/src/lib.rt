@@ -3,7 +3,6 @@
 #![tactic(auto)]
 
 mod held;
-mod index;
 mod laws;
 mod numbers;
 #[cfg(test)]

@@ -7,9 +7,8 @@ ghost use Rattle.ideal_laws.specs.Laws.{IsSetting};
 ghost use Rattle.hilbert.specs.Series.{AreCounts, IndexesLeads, IsFirstLarge};
 
 use crate::held::{hold, words_after};
-use crate::index::index_of;
 use ideal_laws::{Basis, Limits};
-use lead_index::LeadIndex;
+use lead_index::{LeadIndex, index_of};
 use normal_words::NormalFault;
 use std::alloc::{AllocError, Global};
 use words::{Alphabet, Items};
