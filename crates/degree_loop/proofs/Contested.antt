@@ -3,8 +3,7 @@ use Rattle.std.proofs.Common.{◌≡◌, ℕ, List, [], ◌∷◌, Option, None,
 use Rattle.std.specs.List.{AllZip}
 use Rattle.free_poly.specs.declared.term.Term.{Term}
 use Rattle.ideal_laws.specs.Closure.{HasReducer}
-use Rattle.ideal_laws.specs.Quantities.{contested_in}
-use Rattle.symbolic_prep.specs.Closed.{contested_words}
+use Rattle.ideal_laws.specs.Quantities.{contested_in, contested_words}
 
 -- there are as many as columns without a reducer
 pub length-contested : (G : List (List Term)) (columns : List (List ℕ)) (reducers : List (Option (List Term))) → AllZip (HasReducer G) columns reducers

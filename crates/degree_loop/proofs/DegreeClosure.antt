@@ -13,9 +13,8 @@ use Rattle.ideal_laws.specs.Closure.{AreColumns, HasReducer, brought, given}
 use Rattle.ideal_laws.specs.Engine.{Elements}
 use Rattle.ideal_laws.specs.Laws.{IsSetting}
 use Rattle.ideal_laws.specs.Overlaps.{AreLower}
-use Rattle.ideal_laws.specs.Quantities.{AreRows, IsQuantity, words_of}
+use Rattle.ideal_laws.specs.Quantities.{AreRows, IsQuantity, words_of, contested_words}
 use Rattle.symbolic_prep.specs.Closed.{ClosedColumns, IsClosed, IsClosedQuantity}
-use Rattle.row_laws.specs.Contested.{contested_of}
 use Rattle.row_laws.proofs.ClosedColumns.{closure_word, contested_falling, contested_says}
 use Rattle.row_laws.proofs.DegreeRows.{member_word, row_member}
 use Rattle.row_laws.proofs.Reducers.{reducer_inside, reducer_lead, reducer_monic}
@@ -73,16 +72,16 @@ module _ (p : ℕ) (weights : List ℕ) (relations : List (List Term)) (st : IsS
       all_reduce (w ∷ ws) (r ∷ rs) among z = (may_reduce w r (among w (Contains-first w ws)) z.0, all_reduce ws rs (λ v m. among v (Contains-more w ws v m)) z.1)
 
       module _ (reducers : List (Option (List Term))) (have : AllZip (HasReducer G) columns reducers) where
-        contested_has : (w : List ℕ) → Contains (contested_of columns reducers) w → IsOver (length weights) w × (degree_of weights w ≡ d)
+        contested_has : (w : List ℕ) → Contains (contested_words columns reducers) w → IsOver (length weights) w × (degree_of weights w ≡ d)
         contested_has w m = column_says w (contested_says G columns reducers have w m).0
 
-        contested_degree : All (λ w. degree_of weights w ≡ d) (contested_of columns reducers)
-        contested_degree = All-from_members (λ w. degree_of weights w ≡ d) (contested_of columns reducers) (λ w m. (contested_has w m).1)
+        contested_degree : All (λ w. degree_of weights w ≡ d) (contested_words columns reducers)
+        contested_degree = All-from_members (λ w. degree_of weights w ≡ d) (contested_words columns reducers) (λ w m. (contested_has w m).1)
 
-        pub column_words : d ≤ 64 → AreColumnWords weights (contested_of columns reducers)
+        pub column_words : d ≤ 64 → AreColumnWords weights (contested_words columns reducers)
         column_words small = record {
-          letters = All-from_members (IsOver (length weights)) (contested_of columns reducers) (λ w m. (contested_has w m).0);
-          small = All-from_members (λ w. degree_of weights w ≤ 64) (contested_of columns reducers) (λ w m. let e = (contested_has w m).1 in omega (arith, e, small));
+          letters = All-from_members (IsOver (length weights)) (contested_words columns reducers) (λ w m. (contested_has w m).0);
+          small = All-from_members (λ w. degree_of weights w ≤ 64) (contested_words columns reducers) (λ w m. let e = (contested_has w m).1 in omega (arith, e, small));
           one_degree = λ i j x before within. contested_degree i x (omega (arith, before, within)) ∙ sym (contested_degree j x within);
           falling = contested_falling columns reducers are_columns.falling;
         }

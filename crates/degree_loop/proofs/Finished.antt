@@ -7,7 +7,7 @@ use Rattle.std.proofs.lemmas.Slice.Zip.{AllZip-long}
 use Rattle.std.proofs.lemmas.List.Elements.{All-cons, All-contains, All-head, All-nil, All-tail}
 use Rattle.words.proofs.Members.{All-from_members, AllPairs-first, AllPairs-rest, Contains-cases, Contains-none}
 use Rattle.free_poly.specs.declared.term.Term.{Term}
-use Rattle.free_poly.specs.Poly.{IsMonic}
+use Rattle.free_poly.specs.Poly.{IsMonic, element_on}
 use Rattle.ideal_laws.specs.Basis.{IsReducedBasis}
 use Rattle.ideal_laws.specs.Laws.{IsSetting}
 use Rattle.ideal_laws.specs.declared.limits.LimitKind.{LimitKind}
@@ -15,12 +15,12 @@ use Rattle.ideal_laws.specs.declared.limits.LimitKind.TheVariants.{Terms}
 use Rattle.ideal_laws.specs.declared.engine.EngineFault.{EngineFault}
 use Rattle.ideal_laws.specs.declared.engine.EngineFault.TheVariants.{Limit}
 use Rattle.ideal_laws.specs.Engine.{Elements}
-use Rattle.ideal_laws.specs.Quantities.{IsFirstPassing, IsQuantity, NonePasses, terms_in}
+use Rattle.ideal_laws.specs.Quantities.{IsFirstPassing, IsQuantity, NonePasses, terms_in, contested_words}
 use Rattle.ideal_laws.specs.Overlaps.{AreLower}
 use Rattle.back_reduce.specs.declared.problem.Problem.{Problem}
 use Rattle.back_reduce.specs.Problems.{row_of, rows_of}
 use Rattle.back_reduce.specs.Rref.{IsRref}
-use Rattle.row_laws.specs.Contested.{IsContestedRow, contested_of, element_on}
+use Rattle.row_laws.specs.Contested.{IsContestedRow}
 use Rattle.row_laws.specs.Laws.{RowsGiveBasis}
 use Rattle.symbolic_prep.specs.Closed.{ClosedColumns}
 use Rattle.degree_loop.specs.Matrix.{IsMatrix}
@@ -35,7 +35,7 @@ map_twice f g (x ∷ xs) = ap (λ (zs : List _). g (f x) ∷ zs) (map_twice f g 
 
 module _ (p : ℕ) (weights : List ℕ) (relations G : List (List Term)) (d : ℕ) (closed : ClosedColumns) (problem : Problem) (h : IsMatrix p weights relations G d closed problem) where
   abbrev contested : List (List ℕ)
-  contested = contested_of closed.columns closed.reducers
+  contested = contested_words closed.columns closed.reducers
 
   pub form_of : (echelon : List (List ℕ)) → IsRref problem.modulus problem.m (rows_of problem) echelon → IsRref p (length contested) (rows_of problem) echelon
   form_of echelon f = subst (λ (n : ℕ). IsRref p n (rows_of problem) echelon) h.width (subst (λ (n : ℕ). IsRref n problem.m (rows_of problem) echelon) h.modulus f)

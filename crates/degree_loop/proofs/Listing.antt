@@ -8,11 +8,10 @@ use Rattle.std.proofs.lemmas.List.Elements.{All-head, All-tail}
 use Rattle.words.specs.Words.{IsOver, degree_of}
 use Rattle.free_poly.specs.declared.term.Term.{Term}
 use Rattle.free_poly.specs.Terms.{UsesLetters, term_at}
-use Rattle.free_poly.specs.Poly.{IsMonic, lead_of}
+use Rattle.free_poly.specs.Poly.{IsMonic, lead_of, element_on}
 use Rattle.ideal_laws.specs.Engine.{of_degree}
 use Rattle.ideal_laws.specs.Quantities.{terms_in}
 use Rattle.ideal_laws.proofs.Grown.{of_degree-append}
-use Rattle.row_laws.specs.Contested.{element_on}
 
 -- one more polynomial
 pub terms_in-more : (fs : List (List Term)) (k : ℕ) (f : List Term) → k < length fs → f ≡ get_or fs k f → terms_in (take (k + 1) fs) ≡ terms_in (take k fs) + length f

@@ -1,22 +1,21 @@
 -- The matrix of a degree, and what an engine tells of it.
-use Rattle.std.specs.Prelude.{ℕ, ◌≡◌, ◌≤◌, List, [], ◌∷◌, ◌++◌, All, AllPairs, Option, length}
+use Rattle.std.specs.Prelude.{ℕ, ◌≡◌, ◌≤◌, List, All, AllPairs, Option, length}
 use Rattle.words.specs.Order.{IsLetterwiseGreater}
 use Rattle.words.specs.Words.{IsOver, degree_of}
 use Rattle.free_poly.specs.declared.term.Term.{Term}
 use Rattle.ideal_laws.specs.declared.account.Account.{Account}
-use Rattle.ideal_laws.specs.Quantities.{AreClosed}
-use Rattle.lead_index.specs.declared.lead.Lead.{Lead}
+use Rattle.ideal_laws.specs.Quantities.{AreClosed, contested_words}
 use Rattle.symbolic_prep.specs.Closed.{ClosedColumns}
 use Rattle.back_reduce.specs.declared.problem.Problem.{Problem}
 use Rattle.back_reduce.specs.Problems.{rows_of}
-use Rattle.row_laws.specs.Contested.{AreContestedRows, contested_of}
+use Rattle.row_laws.specs.Contested.{AreContestedRows}
 
 -- the rows of the degree are closed, and this is what they leave at the contested columns
 pub record IsMatrix (p : ℕ) (weights : List ℕ) (relations G : List (List Term)) (d : ℕ) (closed : ClosedColumns) (problem : Problem) : Type 0 where
   pub rows : List (List Term)
   pub are_closed : AreClosed p weights relations G d rows closed.columns closed.reducers
   pub modulus : problem.modulus ≡ p
-  pub width : problem.m ≡ length (contested_of closed.columns closed.reducers)
+  pub width : problem.m ≡ length (contested_words closed.columns closed.reducers)
   pub contested : AreContestedRows p closed.columns closed.reducers rows (rows_of problem)
 
 -- the number of the rows of a degree, and its contested columns by falling word
@@ -26,7 +25,7 @@ pub record TellsMatrix (p : ℕ) (weights : List ℕ) (relations G : List (List 
   pub reducers : List (Option (List Term))
   pub are_closed : AreClosed p weights relations G d rows columns reducers
   pub count : account.rows ≡ length rows
-  pub contested : account.columns ≡ contested_of columns reducers
+  pub contested : account.columns ≡ contested_words columns reducers
 
 -- words over the letters, of one degree, which is at most 64, and falling
 pub record AreColumnWords (weights : List ℕ) (columns : List (List ℕ)) : Type 0 where
@@ -34,8 +33,3 @@ pub record AreColumnWords (weights : List ℕ) (columns : List (List ℕ)) : Typ
   pub small : All (λ w. degree_of weights w ≤ 64) columns
   pub one_degree : AllPairs (λ v w. degree_of weights v ≡ degree_of weights w) columns
   pub falling : AllPairs IsLetterwiseGreater columns
-
--- the index with the leading word of one more element, which 0 has not
-abbrev pub with_lead : List Lead → List Term → ℕ → List Lead
-with_lead leads [] place = leads
-with_lead leads (t ∷ f) place = leads ++ record { word = t.word; element = place } ∷ []

@@ -1,5 +1,5 @@
 ghost use Rattle.std.specs.Prelude.{◌≡◌, [], IfOk};
-ghost use Rattle.symbolic_prep.specs.Closed.{contested_words};
+ghost use Rattle.ideal_laws.specs.Quantities.{contested_words};
 
 use ideal_laws::{Account, Call};
 use std::alloc::Global;

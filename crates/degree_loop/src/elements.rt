@@ -8,7 +8,7 @@ ghost use Rattle.ideal_laws.specs.Basis.{IsReducedBasis};
 ghost use Rattle.ideal_laws.specs.Engine.{IsReducedUpto};
 ghost use Rattle.ideal_laws.specs.Quantities.{IsFirstPassing, IsQuantity, NonePasses};
 ghost use Rattle.back_reduce.specs.Rows.{IsRow};
-ghost use Rattle.row_laws.specs.Contested.{element_on};
+ghost use Rattle.free_poly.specs.Poly.{element_on};
 ghost use Rattle.degree_loop.specs.Matrix.{AreColumnWords, IsMatrix};
 
 use crate::terms::{terms_below, terms_of};

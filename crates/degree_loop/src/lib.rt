@@ -5,7 +5,6 @@
 
 mod account;
 mod elements;
-mod index;
 mod matrix;
 mod relations;
 mod rows;

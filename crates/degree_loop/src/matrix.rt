@@ -7,13 +7,13 @@ ghost use Rattle.ideal_laws.specs.Quantities.{IsFirstPassing, IsQuantity, NonePa
 ghost use Rattle.degree_loop.specs.Limits.{matrix_limits};
 ghost use Rattle.degree_loop.specs.Matrix.{IsMatrix};
 
-use crate::index::index_of;
 use crate::rows::rows_of_degree;
 use back_reduce::Problem;
 use field_table::Field;
 use ideal_laws::{
     Basis, EngineFault, Limits, Presentation, lower_law, quantities_law, setting_law,
 };
+use lead_index::index_of;
 use row_store::contested_rows;
 use std::alloc::Global;
 use std::thread::Threads;

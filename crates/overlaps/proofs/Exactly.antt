@@ -8,11 +8,11 @@ use Rattle.words.proofs.Degrees.{Contains-range, range-bounds}
 use Rattle.words.proofs.Members.{Contains-cases, Contains-first, Contains-flat_map, Contains-flat_map_cases, Contains-map, Contains-map_cases, Contains-more, Contains-none}
 use Rattle.words.proofs.Weights.{degree_of-append}
 use Rattle.free_poly.specs.declared.term.Term.{Term}
-use Rattle.free_poly.specs.Poly.{lead_of}
+use Rattle.free_poly.specs.Poly.{lead_of, lead_or_none}
 use Rattle.ideal_laws.specs.Closure.{IsFactorFree, IsObstruction, Overlap}
 use Rattle.ideal_laws.specs.Engine.{Elements}
 use Rattle.ideal_laws.specs.Kept.{IsKept}
-use Rattle.overlaps.specs.Walk.{all_blocks, block, blocks, lead_or_none, lead_word, meets, overlap_at, shared_at}
+use Rattle.overlaps.specs.Walk.{all_blocks, block, blocks, lead_word, meets, overlap_at, shared_at}
 use Rattle.overlaps.proofs.Blocks.{meets-both, meets-says}
 use Rattle.overlaps.proofs.Fronts.{behind_front, front_of}
 use Rattle.overlaps.proofs.Places.{element_kept, lead-is, lead_word-bounds, monic-lead}

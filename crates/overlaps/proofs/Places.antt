@@ -10,12 +10,12 @@ use Rattle.words.proofs.Members.{AllPairs-first, AllPairs-rest}
 use Rattle.words.proofs.Weights.{length-le-degree_of}
 use Rattle.free_poly.specs.declared.term.Term.{Term}
 use Rattle.free_poly.specs.Terms.{UsesLetters}
-use Rattle.free_poly.specs.Poly.{IsMonic, lead_of}
+use Rattle.free_poly.specs.Poly.{IsMonic, lead_of, lead_or_none}
 use Rattle.ideal_laws.specs.Basis.{HasGreaterLead}
 use Rattle.ideal_laws.specs.Engine.{Elements}
 use Rattle.ideal_laws.specs.Kept.{IsKept, IsKeptElement, count_below, count_upto, lead_degree}
 use Rattle.ideal_laws.proofs.Counts.{below-none, below-suc, count_by-all, count_by-append}
-use Rattle.overlaps.specs.Walk.{IsFalling, lead_or_none, lead_word}
+use Rattle.overlaps.specs.Walk.{IsFalling, lead_word}
 
 module _ {X : Type 0} (key : X → ℕ) where
   abbrev Rises : List X → Type 0

@@ -6,7 +6,7 @@ use Rattle.std.proofs.lemmas.List.Elements.{All-map}
 use Rattle.std.proofs.lemmas.Option.{get_or_from_slice_get, slice_get_within}
 use Rattle.words.proofs.Members.{Contains-first, Contains-more}
 use Rattle.free_poly.specs.declared.term.Term.{Term}
-use Rattle.free_poly.specs.Poly.{IsPolynomial}
+use Rattle.free_poly.specs.Poly.{IsPolynomial, lead_or_none}
 use Rattle.free_poly.specs.Terms.{HasNoPrefix, HasResidues, IsSame, product, scaled, total_at}
 use Rattle.free_poly.proofs.Elements.{has_no_prefix_in_degree}
 use Rattle.free_poly.proofs.Products.{HasOneDegree-from, HasResidues-product}
@@ -16,7 +16,7 @@ use Rattle.ideal_laws.specs.Kept.{IsKept, lead_degree}
 use Rattle.ideal_laws.specs.Quantities.{AreRows, IsRowOf}
 use Rattle.overlaps.specs.declared.obstruction.Obstruction.{Obstruction}
 use Rattle.overlaps.specs.Listed.{AreListed, IsOf, IsRowFor, obstruction_of}
-use Rattle.overlaps.specs.Walk.{lead_or_none, lead_word}
+use Rattle.overlaps.specs.Walk.{lead_word}
 use Rattle.overlaps.proofs.Fronts.{behind_front, front_of}
 use Rattle.overlaps.proofs.Places.{element_kept, lead-is}
 

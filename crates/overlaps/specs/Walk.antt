@@ -1,18 +1,14 @@
 -- The overlaps of elements by their left element, the letters before the right one, and the right one.
-use Rattle.std.specs.Prelude.{ℕ, ◌-◌, ◌<◌, ◌≤◌, Bool, ◌&&◌, ◌==◌, List, [], ◌∷◌, length, map, take, drop, slice_index_or, bytes_eq}
+use Rattle.std.specs.Prelude.{ℕ, ◌-◌, ◌<◌, ◌≤◌, Bool, ◌&&◌, ◌==◌, List, [], length, map, take, drop, slice_index_or, bytes_eq}
 use Rattle.std.specs.List.{filter, flat_map, range_with_len}
 use Rattle.std.specs.Ordering.{nat_cmp, ordering_then}
 use Rattle.std.specs.declared.cmp.Ordering.{Ordering}
 use Rattle.words.specs.Order.{IsLetterwiseGreater, letterwise_cmp}
 use Rattle.words.specs.Words.{degree_of}
 use Rattle.free_poly.specs.declared.term.Term.{Term}
+use Rattle.free_poly.specs.Poly.{lead_or_none}
 use Rattle.ideal_laws.specs.Closure.{Overlap}
 use Rattle.overlaps.specs.declared.obstruction.Obstruction.{Obstruction}
-
--- the leading word, and the empty word for 0
-abbrev pub lead_or_none : List Term → List ℕ
-lead_or_none [] = []
-lead_or_none (t ∷ ts) = t.word
 
 -- the leading word of the element at a place
 abbrev pub lead_word : List (List Term) → ℕ → List ℕ

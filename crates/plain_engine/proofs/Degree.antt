@@ -40,7 +40,7 @@ use Rattle.plain_engine.specs.Products.{coefficients, relation_rows, right_rows,
 use Rattle.plain_engine.specs.Table.{IsBuilt, IsLed, IsTable, row_at}
 use Rattle.plain_engine.proofs.Chosen.{element_first}
 use Rattle.plain_engine.proofs.Pivots.{column_led}
-use Rattle.plain_engine.proofs.Rows.{entry_at, entry_at-absent, entry_at-all, entry_at-coefficients, entry_at-column, from_words-same, row_terms-is}
+use Rattle.plain_engine.proofs.Rows.{entry_at, entry_at-absent, entry_at-all, entry_at-coefficients, entry_at-column, from_words-same, element_on-is}
 use Rattle.plain_engine.proofs.Spans.{AreSpanned, HasBuilt, IsTableRow, cleared_from, has_built, vec}
 
 pub nil_or : {X : Type 0} (xs : List X) → (xs ≡ []) ⊎ (xs ≢ [])
@@ -300,7 +300,7 @@ module _ (p : ℕ) (weights : List ℕ) (relations : List (List Term)) (st : IsS
         member = cleared_from p st.modulus ws IsProductV (length ws) table made.sized rows_spanned (row_at table c) row (is_table.leaders c h.within h.led).size h.cleared (rows_spanned c in_table h.led)
 
         from_row : f ≡ from_words ws (entry_at ws row)
-        from_row = h.is ∙ row_terms-is ws row columns_falling h.size
+        from_row = h.is ∙ element_on-is ws row columns_falling h.size
 
         is_element : f ≡ element_from p st.modulus weights relations st d (vec p st.modulus ws row)
         is_element = from_row

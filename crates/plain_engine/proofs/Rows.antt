@@ -10,10 +10,9 @@ use Rattle.words.proofs.Members.{AllPairs-first, AllPairs-rest, Contains-cases, 
 use Rattle.field_table.specs.Residues.{plus_multiple}
 use Rattle.free_poly.specs.declared.term.Term.{Term}
 use Rattle.free_poly.specs.Terms.{term_at, total_at}
-use Rattle.free_poly.specs.Poly.{IsMonic, lead_of}
+use Rattle.free_poly.specs.Poly.{IsMonic, lead_of, element_on}
 use Rattle.free_poly.proofs.FromWords.{from_words}
 use Rattle.free_poly.proofs.Totals.{here, letterwise-apart, not_here}
-use Rattle.plain_engine.specs.Elements.{row_terms}
 use Rattle.plain_engine.specs.Products.{coefficients}
 
 -- what a row has at a word
@@ -98,15 +97,15 @@ from_words-same (x ∷ xs) c e h =
     λ i. cond (first i == 0) (rest i) (record { word = x; coefficient = first i } ∷ rest i)
 
 -- the terms of a row are those with its entries
-pub row_terms-is : (xs : List (List ℕ)) (row : List ℕ) → AllPairs IsLetterwiseGreater xs → length row ≡ length xs → row_terms xs row ≡ from_words xs (entry_at xs row)
-row_terms-is [] row h l = refl
-row_terms-is (x ∷ xs) [] h l = absurd (omega (arith, l))
-row_terms-is (x ∷ xs) (a ∷ row) h l =
+pub element_on-is : (xs : List (List ℕ)) (row : List ℕ) → AllPairs IsLetterwiseGreater xs → length row ≡ length xs → element_on xs row ≡ from_words xs (entry_at xs row)
+element_on-is [] row h l = refl
+element_on-is (x ∷ xs) [] h l = absurd (omega (arith, l))
+element_on-is (x ∷ xs) (a ∷ row) h l =
     let own : entry_at (x ∷ xs) (a ∷ row) x ≡ a = ap (λ (t : Bool). cond t a (entry_at xs row x)) (here x x refl) in
     let later : from_words xs (entry_at xs row) ≡ from_words xs (entry_at (x ∷ xs) (a ∷ row)) =
     from_words-same xs (entry_at xs row) (entry_at (x ∷ xs) (a ∷ row)) (λ y m.
     sym (ap (λ (t : Bool). cond t a (entry_at xs row y)) (not_here x y (letterwise-apart x y (All-contains (IsLetterwiseGreater x) xs y (AllPairs-first IsLetterwiseGreater x xs h) m))))) in
-    by_test (a == 0) (row_terms xs row) ∙ (λ i. cond (sym own i == 0) ((row_terms-is xs row (AllPairs-rest IsLetterwiseGreater x xs h) (omega (arith, l)) ∙ later) i) (record { word = x; coefficient = sym own i } ∷ (row_terms-is xs row (AllPairs-rest IsLetterwiseGreater x xs h) (omega (arith, l)) ∙ later) i))
+    by_test (a == 0) (element_on xs row) ∙ (λ i. cond (sym own i == 0) ((element_on-is xs row (AllPairs-rest IsLetterwiseGreater x xs h) (omega (arith, l)) ∙ later) i) (record { word = x; coefficient = sym own i } ∷ (element_on-is xs row (AllPairs-rest IsLetterwiseGreater x xs h) (omega (arith, l)) ∙ later) i))
   where
     by_test : (t : Bool) (f : List Term) → cond t [] (record { word = x; coefficient = a } ∷ []) ++ f ≡ cond t f (record { word = x; coefficient = a } ∷ f)
     by_test true f = refl
@@ -114,11 +113,11 @@ row_terms-is (x ∷ xs) (a ∷ row) h l =
 
 -- a row that is 0 before a column and 1 there begins with the word of this column
 pub row_first : (xs : List (List ℕ)) (row : List ℕ) (c : ℕ) → length row ≡ length xs → c < length xs → ((k : ℕ) → k < c → get_or row k 0 ≡ 0) → get_or row c 0 ≡ 1
-    → (lead_of (row_terms xs row) ≡ Some (get_or xs c [])) × IsMonic (row_terms xs row)
+    → (lead_of (element_on xs row) ≡ Some (get_or xs c [])) × IsMonic (element_on xs row)
 row_first [] row c l within none one = absurd (omega (arith, within))
 row_first (x ∷ xs) [] c l within none one = absurd (omega (arith, l))
 row_first (x ∷ xs) (a ∷ row) zero l within none one =
-    subst (λ (n : ℕ). (lead_of (term_at x n ++ row_terms xs row) ≡ Some x) × IsMonic (term_at x n ++ row_terms xs row)) (sym one) (refl, refl)
+    subst (λ (n : ℕ). (lead_of (term_at x n ++ element_on xs row) ≡ Some x) × IsMonic (term_at x n ++ element_on xs row)) (sym one) (refl, refl)
 row_first (x ∷ xs) (a ∷ row) (suc c) l within none one =
-    subst (λ (n : ℕ). (lead_of (term_at x n ++ row_terms xs row) ≡ Some (get_or xs c [])) × IsMonic (term_at x n ++ row_terms xs row)) (sym (none zero (omega arith)))
+    subst (λ (n : ℕ). (lead_of (term_at x n ++ element_on xs row) ≡ Some (get_or xs c [])) × IsMonic (term_at x n ++ element_on xs row)) (sym (none zero (omega arith)))
     (row_first xs row c (omega (arith, l)) (omega (arith, within)) (λ k lt. none (suc k) (omega (arith, lt))) one)

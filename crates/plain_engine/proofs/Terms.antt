@@ -10,19 +10,18 @@ use Rattle.words.specs.Words.{OccursAt}
 use Rattle.words.proofs.Members.{AllPairs-first, AllPairs-rest, Contains-cases, Contains-none}
 use Rattle.free_poly.specs.declared.term.Term.{Term}
 use Rattle.free_poly.specs.Terms.{HasResidues, term_at, total_at}
-use Rattle.free_poly.specs.Poly.{IsPolynomial, lead_of}
+use Rattle.free_poly.specs.Poly.{IsPolynomial, lead_of, element_on}
 use Rattle.free_poly.proofs.FromWords.{from_words-all, from_words-polynomial}
 use Rattle.free_poly.proofs.Totals.{AreApart, AreApart-tail, total_at-absent}
 use Rattle.ideal_laws.specs.Closure.{IsNormal}
-use Rattle.plain_engine.specs.Elements.{row_terms}
-use Rattle.plain_engine.proofs.Rows.{entry_at, entry_at-all, row_terms-is}
+use Rattle.plain_engine.proofs.Rows.{entry_at, entry_at-all, element_on-is}
 
 -- one more column
 pub terms_more : (xs : List (List ℕ)) (row : List ℕ) (k : ℕ) (terms : List Term) → length row ≡ length xs → k < length row
-    → (terms ++ term_at (get_or xs k []) (get_or row k 0)) ++ row_terms (drop (k + 1) xs) (drop (k + 1) row) ≡ terms ++ row_terms (drop k xs) (drop k row)
+    → (terms ++ term_at (get_or xs k []) (get_or row k 0)) ++ element_on (drop (k + 1) xs) (drop (k + 1) row) ≡ terms ++ element_on (drop k xs) (drop k row)
 terms_more xs row k terms l within =
-    append_assoc terms (term_at (get_or xs k []) (get_or row k 0)) (row_terms (drop (k + 1) xs) (drop (k + 1) row))
-    ∙ ap (λ (f : List Term). terms ++ f) (sym (ap₂ row_terms (drop_more xs k [] (omega (arith, within, l))) (drop_more row k 0 within)))
+    append_assoc terms (term_at (get_or xs k []) (get_or row k 0)) (element_on (drop (k + 1) xs) (drop (k + 1) row))
+    ∙ ap (λ (f : List Term). terms ++ f) (sym (ap₂ element_on (drop_more xs k [] (omega (arith, within, l))) (drop_more row k 0 within)))
 
 -- a polynomial has residues at all words
 pub total_residue : (p : ℕ) → 0 < p → (f : List Term) → AreApart f → HasResidues p f → (w : List ℕ) → total_at f w < p
@@ -52,15 +51,15 @@ one_degree deg (x ∷ xs) h v w m n = elim (Contains-cases x xs v m) [
 ]
 
 module _ (xs : List (List ℕ)) (row : List ℕ) (falling : AllPairs IsLetterwiseGreater xs) (size : length row ≡ length xs) where
-  pub row_terms-polynomial : IsPolynomial (row_terms xs row)
-  row_terms-polynomial = subst IsPolynomial (sym (row_terms-is xs row falling size)) (from_words-polynomial xs (entry_at xs row) falling)
+  pub element_on-polynomial : IsPolynomial (element_on xs row)
+  element_on-polynomial = subst IsPolynomial (sym (element_on-is xs row falling size)) (from_words-polynomial xs (entry_at xs row) falling)
 
   -- what holds of each term that can be there
-  pub row_terms-all : (P : Term → Type 0) → ((x : List ℕ) → Contains xs x → P (record { word = x; coefficient = entry_at xs row x })) → All P (row_terms xs row)
-  row_terms-all P h = subst (All P) (sym (row_terms-is xs row falling size)) (from_words-all P xs (entry_at xs row) (λ x m ne. h x m))
+  pub element_on-all : (P : Term → Type 0) → ((x : List ℕ) → Contains xs x → P (record { word = x; coefficient = entry_at xs row x })) → All P (element_on xs row)
+  element_on-all P h = subst (All P) (sym (element_on-is xs row falling size)) (from_words-all P xs (entry_at xs row) (λ x m ne. h x m))
 
-  pub row_terms-residues : (p : ℕ) → 0 < p → All (λ r. r < p) row → HasResidues p (row_terms xs row)
-  row_terms-residues p pos h = row_terms-all (λ t. t.coefficient < p) (λ x m. entry_at-all (λ n. n < p) pos xs row h x)
+  pub element_on-residues : (p : ℕ) → 0 < p → All (λ r. r < p) row → HasResidues p (element_on xs row)
+  element_on-residues p pos h = element_on-all (λ t. t.coefficient < p) (λ x m. entry_at-all (λ n. n < p) pos xs row h x)
 
 -- one more element none of whose leading words stands in the word
 pub normal_more : (fs : List (List Term)) (i : ℕ) (e : List Term) (w : List ℕ) → i < length fs → e ≡ get_or fs i e → IsNormal (take i fs) w → ((v : List ℕ) (k : ℕ) → lead_of e ≡ Some v → OccursAt v w k → ⊥) → IsNormal (take (i + 1) fs) w

@@ -1,16 +1,10 @@
 -- Rows as polynomials, and the elements among them.
 use Rattle.std.specs.Prelude.{ℕ, ◌≡◌, ◌+◌, ◌<◌, ◌≤◌, List, [], ◌∷◌, ◌++◌, All, AllPairs, Contains, length, slice_index, slice_index_or}
 use Rattle.free_poly.specs.declared.term.Term.{Term}
-use Rattle.free_poly.specs.Terms.{term_at}
+use Rattle.free_poly.specs.Poly.{element_on}
 use Rattle.ideal_laws.specs.Basis.{HasGreaterLead}
 use Rattle.ideal_laws.specs.Closure.{IsNormal}
 use Rattle.plain_engine.specs.Table.{IsCleared, IsLed, row_at}
-
--- the words of the columns with the entries other than 0
-abbrev pub row_terms : List (List ℕ) → List ℕ → List Term
-row_terms [] row = []
-row_terms (w ∷ ws) [] = []
-row_terms (w ∷ ws) (a ∷ row) = term_at w a ++ row_terms ws row
 
 -- the row that leads at a column with a normal word, cleared at the later columns
 pub record IsElementAt (p : ℕ) (columns table : List (List ℕ)) (G : List (List Term)) (c : ℕ) (f : List Term) : Type 0 where
@@ -23,7 +17,7 @@ pub record IsElementAt (p : ℕ) (columns table : List (List ℕ)) (G : List (Li
   pub cleared : IsCleared p table (row_at table c) row
   pub before : (k : ℕ) → k < c + 1 → slice_index row k ≡ slice_index (row_at table c) k
   pub zero : (k : ℕ) → c < k → k < length columns → IsLed table k → slice_index row k ≡ 0
-  pub is : f ≡ row_terms columns row
+  pub is : f ≡ element_on columns row
 
 -- exactly these for the columns below a bound, by falling leading word
 pub record AreElements (p : ℕ) (columns table : List (List ℕ)) (G elements : List (List Term)) (bound : ℕ) : Type 0 where

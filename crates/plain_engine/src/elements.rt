@@ -2,7 +2,8 @@ ghost use Rattle.std.specs.Prelude.{◌≡◌, ◌+◌, ◌<◌, ◌≤◌, ◌^
 ghost use Rattle.words.specs.Order.{IsLetterwiseGreater};
 ghost use Rattle.words.specs.Words.{IsOver, OccursAt, degree_of};
 ghost use Rattle.ideal_laws.specs.Closure.{IsNormal};
-ghost use Rattle.plain_engine.specs.Elements.{AreElements, row_terms};
+ghost use Rattle.plain_engine.specs.Elements.{AreElements};
+ghost use Rattle.free_poly.specs.Poly.{element_on};
 ghost use Rattle.plain_engine.specs.Table.{IsTable};
 
 use crate::table::clear;
@@ -83,7 +84,7 @@ fn element_of(
     requires falling { AllPairs IsLetterwiseGreater columns.now }
     requires size { length row.now ≡ length columns.now }
     requires residues { All (λ r. r < field.now) row.now }
-    ensures { IfOk result (λ f. f ≡ row_terms columns.now row.now) }
+    ensures { IfOk result (λ f. f ≡ element_on columns.now row.now) }
 {
     let _modulus = field.modulus();
     let terms = terms_of(alloc, columns, row)?;
@@ -97,7 +98,7 @@ fn element_of(
 /// The words of the columns with their coefficients, where these are not 0.
 fn terms_of(alloc: Global, columns: &[Word], row: &[u32]) -> Result<Vec<Term>, NoMemory>
     requires { length row.now ≡ length columns.now }
-    ensures { IfOk result (λ terms. terms.items ≡ row_terms columns.now row.now) }
+    ensures { IfOk result (λ terms. terms.items ≡ element_on columns.now row.now) }
 {
     let mut terms = Vec::new(alloc);
     for (at, coefficient) in row.iter().enumerate() {

@@ -18,10 +18,9 @@ use Rattle.linear_algebra.proofs.Elimination.{cleared, cleared_here}
 use Rattle.ideal_laws.specs.Closure.{HasReducer, IsReducer}
 use Rattle.ideal_laws.specs.Laws.{IsSetting}
 use Rattle.ideal_laws.specs.Overlaps.{AreLower}
-use Rattle.ideal_laws.specs.Quantities.{reducers_in}
+use Rattle.ideal_laws.specs.Quantities.{reducers_in, contested_words}
 use Rattle.ideal_laws.proofs.Vectors.{vector_of-append, vector_of-scaled}
 use Rattle.ideal_laws.proofs.Vectors as vectors
-use Rattle.row_laws.specs.Contested.{contested_of}
 use Rattle.row_laws.proofs.Parts as parts
 use Rattle.row_laws.proofs.Reducers.{reducer_above, reducer_there}
 use Rattle.row_laws.proofs.Spread.{spread}
@@ -73,7 +72,7 @@ module _ (p : ℕ) (weights : List ℕ) (relations : List (List Term)) (st : IsS
     pub entries : N
     pub rest : V
     pub spanned : IsInSpan K (List ℕ) (IsListedReducer rs) rest
-    pub sum : (y : List ℕ) → v y ≡ K.add (spread p st.modulus (contested_of xs rs) entries y) (rest y)
+    pub sum : (y : List ℕ) → v y ≡ K.add (spread p st.modulus (contested_words xs rs) entries y) (rest y)
 
   with_first : Residue p → N → N
   with_first a u zero = a
@@ -125,8 +124,8 @@ module _ (p : ℕ) (weights : List ℕ) (relations : List (List Term)) (st : IsS
     entries = with_first (v x) r.entries;
     rest = r.rest;
     spanned = r.spanned;
-    sum = λ y. sym (ap (λ (n : Residue p). K.add n (r.rest y)) (spread-first x (contested_of xs rs) (v x) r.entries y)
-        ∙ K.add_assoc (cond (bytes_eq x y) (v x) K.zero) (spread p st.modulus (contested_of xs rs) r.entries y) (r.rest y)
+    sum = λ y. sym (ap (λ (n : Residue p). K.add n (r.rest y)) (spread-first x (contested_words xs rs) (v x) r.entries y)
+        ∙ K.add_assoc (cond (bytes_eq x y) (v x) K.zero) (spread p st.modulus (contested_words xs rs) r.entries y) (r.rest y)
         ∙ ap (K.add (cond (bytes_eq x y) (v x) K.zero)) (sym (r.sum y)) ∙ here_and_elsewhere x v y);
   }
 
@@ -150,7 +149,7 @@ module _ (p : ℕ) (weights : List ℕ) (relations : List (List Term)) (st : IsS
     spanned = IsInSpan-add K (List ℕ) (IsListedReducer (Some g ∷ rs)) (λ y. K.mul (v x) (vec g y)) r.rest
         (IsInSpan-scaled K (List ℕ) (IsListedReducer (Some g ∷ rs)) (v x) (vec g) (IsInSpan-one K (List ℕ) (IsListedReducer (Some g ∷ rs)) (vec g) (g, Contains-first g (reducers_in rs), refl)))
         (more_listed g rs r.rest r.spanned);
-    sum = λ y. sym (regained x (vec g) v y) ∙ ap (K.add (K.mul (v x) (vec g y))) (r.sum y) ∙ add_left_comm K (K.mul (v x) (vec g y)) (spread p st.modulus (contested_of xs rs) r.entries y) (r.rest y);
+    sum = λ y. sym (regained x (vec g) v y) ∙ ap (K.add (K.mul (v x) (vec g y))) (r.sum y) ∙ add_left_comm K (K.mul (v x) (vec g y)) (spread p st.modulus (contested_words xs rs) r.entries y) (r.rest y);
   }
 
   pub left_of : (xs : List (List ℕ)) (rs : List (Option (List Term))) → AllZip (HasReducer G) xs rs → AreClosedWords xs → (v : V) → IsOn xs v → IsLeft xs rs v

@@ -11,17 +11,16 @@ use Rattle.free_poly.specs.declared.term.Term.{Term}
 use Rattle.ideal_laws.specs.Closure.{HasReducer, IsInClosure, IsNormal, IsReducer, brought, given}
 use Rattle.ideal_laws.specs.Laws.{IsSetting}
 use Rattle.ideal_laws.specs.Overlaps.{AreLower}
-use Rattle.ideal_laws.specs.Quantities.{AreRows, reducers_in, words_of}
-use Rattle.row_laws.specs.Contested.{contested_of}
+use Rattle.ideal_laws.specs.Quantities.{AreRows, reducers_in, words_of, contested_words}
 use Rattle.row_laws.proofs.DegreeRows.{member_word, row_member}
 use Rattle.row_laws.proofs.Reducers.{reducer_inside}
 
 module _ (G : List (List Term)) where
   -- a contested column is a column with a normal word
-  pub contested_says : (columns : List (List ℕ)) (reducers : List (Option (List Term))) → AllZip (HasReducer G) columns reducers → (w : List ℕ) → Contains (contested_of columns reducers) w → Contains columns w × IsNormal G w
+  pub contested_says : (columns : List (List ℕ)) (reducers : List (Option (List Term))) → AllZip (HasReducer G) columns reducers → (w : List ℕ) → Contains (contested_words columns reducers) w → Contains columns w × IsNormal G w
   contested_says [] reducers z w m = absurd (Contains-none w m)
   contested_says (x ∷ xs) [] z w m = absurd z
-  contested_says (x ∷ xs) (None ∷ rs) z w m = elim (Contains-cases x (contested_of xs rs) w m) [
+  contested_says (x ∷ xs) (None ∷ rs) z w m = elim (Contains-cases x (contested_words xs rs) w m) [
     | inl is ↦ (subst (Contains (x ∷ xs)) is (Contains-first x xs), subst (IsNormal G) is z.0)
     | inr n ↦ let r = contested_says xs rs z.1 w n in (Contains-more x xs w r.0, r.1)
   ]
@@ -38,22 +37,22 @@ module _ (G : List (List Term)) where
     | inr n ↦ let r = reducer_says xs rs z.1 g n in (r.0, Contains-more x xs r.0 r.1, r.2)
   ]
 
-contested_among : (columns : List (List ℕ)) (reducers : List (Option (List Term))) (w : List ℕ) → Contains (contested_of columns reducers) w → Contains columns w
+contested_among : (columns : List (List ℕ)) (reducers : List (Option (List Term))) (w : List ℕ) → Contains (contested_words columns reducers) w → Contains columns w
 contested_among [] reducers w m = absurd (Contains-none w m)
 contested_among (x ∷ xs) [] w m = absurd (Contains-none w m)
-contested_among (x ∷ xs) (None ∷ rs) w m = elim (Contains-cases x (contested_of xs rs) w m) [
+contested_among (x ∷ xs) (None ∷ rs) w m = elim (Contains-cases x (contested_words xs rs) w m) [
   | inl is ↦ subst (Contains (x ∷ xs)) is (Contains-first x xs)
   | inr n ↦ Contains-more x xs w (contested_among xs rs w n)
 ]
 contested_among (x ∷ xs) (Some g ∷ rs) w m = Contains-more x xs w (contested_among xs rs w m)
 
 -- contested columns keep the order of the columns
-pub contested_falling : (columns : List (List ℕ)) (reducers : List (Option (List Term))) → AllPairs IsLetterwiseGreater columns → AllPairs IsLetterwiseGreater (contested_of columns reducers)
+pub contested_falling : (columns : List (List ℕ)) (reducers : List (Option (List Term))) → AllPairs IsLetterwiseGreater columns → AllPairs IsLetterwiseGreater (contested_words columns reducers)
 contested_falling [] reducers h = AllPairs-nil IsLetterwiseGreater
 contested_falling (x ∷ xs) [] h = AllPairs-nil IsLetterwiseGreater
 contested_falling (x ∷ xs) (None ∷ rs) h =
-    AllPairs-cons IsLetterwiseGreater x (contested_of xs rs)
-    (All-from_members (IsLetterwiseGreater x) (contested_of xs rs) (λ y m. All-contains (IsLetterwiseGreater x) xs y (AllPairs-first IsLetterwiseGreater x xs h) (contested_among xs rs y m)))
+    AllPairs-cons IsLetterwiseGreater x (contested_words xs rs)
+    (All-from_members (IsLetterwiseGreater x) (contested_words xs rs) (λ y m. All-contains (IsLetterwiseGreater x) xs y (AllPairs-first IsLetterwiseGreater x xs h) (contested_among xs rs y m)))
     (contested_falling xs rs (AllPairs-rest IsLetterwiseGreater x xs h))
 contested_falling (x ∷ xs) (Some g ∷ rs) h = contested_falling xs rs (AllPairs-rest IsLetterwiseGreater x xs h)
 

@@ -17,12 +17,13 @@ use Rattle.linear_algebra.proofs.ModField.{same_residue}
 use Rattle.ideal_laws.specs.Closure.{IsReducer}
 use Rattle.ideal_laws.specs.Laws.{IsSetting}
 use Rattle.ideal_laws.specs.Overlaps.{AreLower}
-use Rattle.ideal_laws.specs.Quantities.{AreClosed, reducers_in}
+use Rattle.ideal_laws.specs.Quantities.{AreClosed, reducers_in, contested_words}
 use Rattle.ideal_laws.proofs.Neighbours.{vector_of-parts, vector_part}
 use Rattle.ideal_laws.proofs.Vectors.{same_vectors, vector_of-append, vector_of-scaled}
 use Rattle.ideal_laws.proofs.Vectors as vectors
 use Rattle.back_reduce.specs.Rows.{vector}
-use Rattle.row_laws.specs.Contested.{IsContestedRow, contested_of, element_on}
+use Rattle.row_laws.specs.Contested.{IsContestedRow}
+use Rattle.free_poly.specs.Poly.{element_on}
 use Rattle.row_laws.proofs.ClosedColumns.{closure_word, contested_falling, contested_says, reducer_says}
 use Rattle.row_laws.proofs.Spread.{spread, spread-absent, spread-at, spread-element}
 use Rattle.row_laws.proofs.Triangle.{IsReducerOf, zero_from_normal}
@@ -59,7 +60,7 @@ module _ (p : ℕ) (weights : List ℕ) (relations : List (List Term)) (st : IsS
   vec f = vectors.vector_of p st.modulus f
 
   abbrev contested : List (List ℕ)
-  contested = contested_of columns reducers
+  contested = contested_words columns reducers
 
   abbrev IsOwnReducer : V → Type 0
   IsOwnReducer = IsReducerOf p weights relations st d G lower (words_of_degree weights d)

@@ -15,12 +15,12 @@ use Rattle.linear_algebra.proofs.ModField.{same_residue}
 use Rattle.ideal_laws.specs.Ideal.{IsInIdeal}
 use Rattle.ideal_laws.specs.Laws.{IsSetting, Part, part_terms}
 use Rattle.ideal_laws.specs.Overlaps.{AreLower, IsGenerator, reducer, of_relation, obstruction}
-use Rattle.ideal_laws.specs.Quantities.{AreClosed}
+use Rattle.ideal_laws.specs.Quantities.{AreClosed, contested_words}
 use Rattle.ideal_laws.proofs.OverlapSpan.{overlaps_suffice}
 use Rattle.ideal_laws.proofs.Vectors.{IsProductVector, same_vectors, span_from_ideal, vector_of-append, vector_of-scaled}
 use Rattle.ideal_laws.proofs.Vectors as vectors
 use Rattle.back_reduce.specs.Rows.{IsInRowSpan, vector}
-use Rattle.row_laws.specs.Contested.{AreContestedRows, IsContestedRow, contested_of}
+use Rattle.row_laws.specs.Contested.{AreContestedRows, IsContestedRow}
 use Rattle.row_laws.proofs.Beside.{beside_left, beside_right}
 use Rattle.row_laws.proofs.ClosedColumns.{in_degree}
 use Rattle.row_laws.proofs.ContestedRows.{back_less, left, left_spanned, row_sum}
@@ -45,7 +45,7 @@ module _ (p : ℕ) (weights : List ℕ) (relations : List (List Term)) (st : IsS
   vec f = vectors.vector_of p st.modulus f
 
   abbrev contested : List (List ℕ)
-  contested = contested_of columns reducers
+  contested = contested_words columns reducers
 
   abbrev onto : N → V
   onto e = spread p st.modulus contested e

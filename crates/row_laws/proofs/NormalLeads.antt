@@ -18,10 +18,10 @@ use Rattle.ideal_laws.specs.Ideal.{IsInIdeal, IsLeadingWord}
 use Rattle.ideal_laws.specs.Closure.{IsNormal}
 use Rattle.ideal_laws.specs.Laws.{IsSetting}
 use Rattle.ideal_laws.specs.Overlaps.{AreLower}
-use Rattle.ideal_laws.specs.Quantities.{AreClosed}
+use Rattle.ideal_laws.specs.Quantities.{AreClosed, contested_words}
 use Rattle.ideal_laws.proofs.Vectors as vectors
 use Rattle.back_reduce.specs.Rref.{IsRref}
-use Rattle.row_laws.specs.Contested.{AreContestedRows, contested_of}
+use Rattle.row_laws.specs.Contested.{AreContestedRows}
 use Rattle.row_laws.proofs.ClosedColumns.{contested_falling, in_degree}
 use Rattle.row_laws.proofs.ContestedRows.{zero_at_reducible}
 use Rattle.row_laws.proofs.DegreeRows.{term_there}
@@ -33,12 +33,12 @@ use Rattle.row_laws.proofs.Triangle.{zero_from_normal}
 
 module _ (p : ℕ) (weights : List ℕ) (relations : List (List Term)) (st : IsSetting p weights relations) (d : ℕ) (G : List (List Term)) (lower : AreLower p weights relations d G)
     (rows : List (List Term)) (columns : List (List ℕ)) (reducers : List (Option (List Term))) (closed : AreClosed p weights relations G d rows columns reducers)
-    (cells : List (List ℕ)) (are_cells : AreContestedRows p columns reducers rows cells) (echelon : List (List ℕ)) (rref : IsRref p (length (contested_of columns reducers)) cells echelon) where
+    (cells : List (List ℕ)) (are_cells : AreContestedRows p columns reducers rows cells) (echelon : List (List ℕ)) (rref : IsRref p (length (contested_words columns reducers)) cells echelon) where
   abbrev K : Field
   K = vectors.K p st.modulus
 
   abbrev contested : List (List ℕ)
-  contested = contested_of columns reducers
+  contested = contested_words columns reducers
 
   abbrev N : Type 0
   N = ℕ → Residue p

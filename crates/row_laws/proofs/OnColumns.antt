@@ -7,8 +7,7 @@ use Rattle.words.specs.Order.{IsLetterwiseGreater}
 use Rattle.words.proofs.Members.{AllPairs-first, AllPairs-nil, AllPairs-rest}
 use Rattle.free_poly.specs.declared.term.Term.{Term}
 use Rattle.free_poly.specs.Terms.{term_at}
-use Rattle.free_poly.specs.Poly.{IsMonic, IsPolynomial, lead_of}
-use Rattle.row_laws.specs.Contested.{element_on}
+use Rattle.free_poly.specs.Poly.{IsMonic, IsPolynomial, lead_of, element_on}
 
 -- what holds of each term that can be there
 pub element_on-all : (P : Term → Type 0) (xs : List (List ℕ)) (row : List ℕ)

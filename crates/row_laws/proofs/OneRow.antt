@@ -13,9 +13,10 @@ use Rattle.linear_algebra.proofs.ModField.{same_residue}
 use Rattle.ideal_laws.specs.Closure.{brought, given}
 use Rattle.ideal_laws.specs.Laws.{IsSetting, part_terms}
 use Rattle.ideal_laws.specs.Overlaps.{AreLower}
-use Rattle.ideal_laws.specs.Quantities.{AreClosed}
+use Rattle.ideal_laws.specs.Quantities.{AreClosed, contested_words}
 use Rattle.ideal_laws.proofs.Vectors as vectors
-use Rattle.row_laws.specs.Contested.{IsContestedRow, contested_of, element_on}
+use Rattle.row_laws.specs.Contested.{IsContestedRow}
+use Rattle.free_poly.specs.Poly.{element_on}
 use Rattle.row_laws.specs.Laws.{LeavesOneRow}
 use Rattle.row_laws.proofs.Cleared.{AreClosedWords, IsOn, left_of}
 use Rattle.row_laws.proofs.ClosedColumns.{closure_word}
@@ -32,7 +33,7 @@ module _ (p : ℕ) (weights : List ℕ) (relations : List (List Term)) (st : IsS
   vec f = vectors.vector_of p st.modulus f
 
   abbrev contested : List (List ℕ)
-  contested = contested_of columns reducers
+  contested = contested_words columns reducers
 
   abbrev OnColumns : (List ℕ → Residue p) → Type 0
   OnColumns = IsOn p weights relations st d G lower columns

@@ -9,7 +9,7 @@ use Rattle.words.specs.Order.{IsLetterwiseGreater}
 use Rattle.words.proofs.Members.{AllPairs-first, AllPairs-nil, AllPairs-rest, All-from_members, Contains-first, Contains-map, Contains-map_cases, Contains-more}
 use Rattle.words.proofs.Weights.{length-le-degree_of}
 use Rattle.free_poly.specs.declared.term.Term.{Term}
-use Rattle.free_poly.specs.Poly.{IsMonic, IsPolynomial, lead_of}
+use Rattle.free_poly.specs.Poly.{IsMonic, IsPolynomial, lead_of, element_on}
 use Rattle.free_poly.proofs.NormalForms.{same_polynomials}
 use Rattle.free_poly.proofs.Products.{degree_of-round}
 use Rattle.free_poly.proofs.Totals.{letterwise-apart}
@@ -20,14 +20,14 @@ use Rattle.ideal_laws.specs.Basis.{HasGreaterLead, IsReduced, IsReducedBasis, be
 use Rattle.ideal_laws.specs.Closure.{IsNormal}
 use Rattle.ideal_laws.specs.Laws.{IsSetting}
 use Rattle.ideal_laws.specs.Overlaps.{AreLower}
-use Rattle.ideal_laws.specs.Quantities.{AreClosed}
+use Rattle.ideal_laws.specs.Quantities.{AreClosed, contested_words}
 use Rattle.ideal_laws.proofs.Factors.{All-back, All-front, factor_law, factor_trans, shorter}
 use Rattle.ideal_laws.proofs.Leads.{element_form, element_from, element_inside, total_of_element}
 use Rattle.ideal_laws.proofs.OneBasis.{minimal_led, monic-led, some_same}
 use Rattle.ideal_laws.proofs.Vectors as vectors
 use Rattle.back_reduce.specs.Rows.{IsRow}
 use Rattle.back_reduce.specs.Rref.{IsRref}
-use Rattle.row_laws.specs.Contested.{AreContestedRows, contested_of, element_on}
+use Rattle.row_laws.specs.Contested.{AreContestedRows}
 use Rattle.row_laws.specs.Laws.{RowsGiveBasis}
 use Rattle.row_laws.proofs.ClosedColumns.{contested_falling, contested_says}
 use Rattle.row_laws.proofs.DegreeRows.{IsMember, term_there}
@@ -72,9 +72,9 @@ module _ (p : ℕ) (weights : List ℕ) (relations : List (List Term)) (st : IsS
       (record { member = g; inside = subst (λ (n : ℕ). IsInIdeal p weights relations n g) (sym deg_v) low.2.inside; lead = lead })
 
   module _ (rows : List (List Term)) (columns : List (List ℕ)) (reducers : List (Option (List Term))) (closed : AreClosed p weights relations G d rows columns reducers)
-      (cells : List (List ℕ)) (are_cells : AreContestedRows p columns reducers rows cells) (echelon : List (List ℕ)) (rref : IsRref p (length (contested_of columns reducers)) cells echelon) where
+      (cells : List (List ℕ)) (are_cells : AreContestedRows p columns reducers rows cells) (echelon : List (List ℕ)) (rref : IsRref p (length (contested_words columns reducers)) cells echelon) where
     abbrev contested : List (List ℕ)
-    contested = contested_of columns reducers
+    contested = contested_words columns reducers
 
     abbrev m : ℕ
     m = length contested

@@ -18,7 +18,7 @@ use Rattle.linear_algebra.proofs.ModField.{same_residue}
 use Rattle.ideal_laws.proofs.Vectors.{vector_of-append}
 use Rattle.ideal_laws.proofs.Vectors as vectors
 use Rattle.back_reduce.specs.Rows.{IsRow, vector}
-use Rattle.row_laws.specs.Contested.{element_on}
+use Rattle.free_poly.specs.Poly.{element_on}
 
 module _ (p : ℕ) (fm : IsFieldModulus p) where
   abbrev K : Field

@@ -2,28 +2,16 @@
 use Rattle.std.specs.Prelude.{ℕ, ◌-◌, List, [], ◌∷◌, ◌++◌, Contains, Option, None, Some, length}
 use Rattle.std.specs.List.{AllZip}
 use Rattle.free_poly.specs.declared.term.Term.{Term}
-use Rattle.free_poly.specs.Terms.{scaled, term_at}
+use Rattle.free_poly.specs.Poly.{element_on}
+use Rattle.free_poly.specs.Terms.{scaled}
 use Rattle.ideal_laws.specs.Laws.{IsSpanned}
-use Rattle.ideal_laws.specs.Quantities.{reducers_in}
+use Rattle.ideal_laws.specs.Quantities.{contested_words, reducers_in}
 use Rattle.back_reduce.specs.Rows.{IsRow}
-
--- the columns without a reducer, in their order
-abbrev pub contested_of : List (List ℕ) → List (Option (List Term)) → List (List ℕ)
-contested_of [] reducers = []
-contested_of (w ∷ ws) [] = []
-contested_of (w ∷ ws) (None ∷ rs) = w ∷ contested_of ws rs
-contested_of (w ∷ ws) (Some r ∷ rs) = contested_of ws rs
-
--- the element with these residues at the columns
-abbrev pub element_on : List (List ℕ) → List ℕ → List Term
-element_on [] row = []
-element_on (w ∷ ws) [] = []
-element_on (w ∷ ws) (a ∷ row) = term_at w a ++ element_on ws row
 
 -- a residue at each contested column; the row less the element with these is a sum of multiples of reducers
 pub record IsContestedRow (p : ℕ) (columns : List (List ℕ)) (reducers : List (Option (List Term))) (row : List Term) (residues : List ℕ) : Type 0 where
-  pub is_row : IsRow p (length (contested_of columns reducers)) residues
-  pub rest : IsSpanned p (Contains (reducers_in reducers)) (row ++ scaled (p - 1) (element_on (contested_of columns reducers) residues))
+  pub is_row : IsRow p (length (contested_words columns reducers)) residues
+  pub rest : IsSpanned p (Contains (reducers_in reducers)) (row ++ scaled (p - 1) (element_on (contested_words columns reducers) residues))
 
 -- what each row leaves at the contested columns
 abbrev pub AreContestedRows : ℕ → List (List ℕ) → List (Option (List Term)) → List (List Term) → List (List ℕ) → Type 0

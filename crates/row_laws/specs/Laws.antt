@@ -4,9 +4,10 @@ use Rattle.free_poly.specs.declared.term.Term.{Term}
 use Rattle.ideal_laws.specs.Basis.{IsReducedBasis}
 use Rattle.ideal_laws.specs.Laws.{IsOne, IsSetting}
 use Rattle.ideal_laws.specs.Overlaps.{AreLower}
-use Rattle.ideal_laws.specs.Quantities.{AreClosed}
+use Rattle.ideal_laws.specs.Quantities.{AreClosed, contested_words}
 use Rattle.back_reduce.specs.Rref.{IsRref}
-use Rattle.row_laws.specs.Contested.{AreContestedRows, IsContestedRow, contested_of, element_on}
+use Rattle.row_laws.specs.Contested.{AreContestedRows, IsContestedRow}
+use Rattle.free_poly.specs.Poly.{element_on}
 
 -- over the reduced elements of lower degrees, each row of a degree leaves exactly one list of residues at the contested columns
 abbrev pub LeavesOneRow : Type 0
@@ -19,5 +20,5 @@ abbrev pub RowsGiveBasis : Type 0
 RowsGiveBasis = (p : ℕ) (weights : List ℕ) (relations : List (List Term)) → IsSetting p weights relations → (d : ℕ) (G : List (List Term)) → AreLower p weights relations d G
     → (rows : List (List Term)) (columns : List (List ℕ)) (reducers : List (Option (List Term))) → AreClosed p weights relations G d rows columns reducers
     → (cells : List (List ℕ)) → AreContestedRows p columns reducers rows cells
-    → (echelon : List (List ℕ)) → IsRref p (length (contested_of columns reducers)) cells echelon
-    → IsReducedBasis p weights relations d (map (element_on (contested_of columns reducers)) echelon)
+    → (echelon : List (List ℕ)) → IsRref p (length (contested_words columns reducers)) cells echelon
+    → IsReducedBasis p weights relations d (map (element_on (contested_words columns reducers)) echelon)

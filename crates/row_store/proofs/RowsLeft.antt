@@ -14,12 +14,13 @@ use Rattle.linear_algebra.specs.Spans.{IsInSpan}
 use Rattle.linear_algebra.specs.Mod.{Residue}
 use Rattle.linear_algebra.proofs.Algebra.{zero_add, IsInSpan-one, IsInSpan-scaled}
 use Rattle.linear_algebra.proofs.ModField.{same_residue}
-use Rattle.ideal_laws.specs.Quantities.{reducers_in}
+use Rattle.ideal_laws.specs.Quantities.{reducers_in, contested_words}
 use Rattle.ideal_laws.proofs.Vectors as vectors
 use Rattle.back_reduce.specs.Rows.{vector}
 use Rattle.back_reduce.specs.Table.{IsPlusSum}
 use Rattle.back_reduce.proofs.Tables.{none_is_some, same_some}
-use Rattle.row_laws.specs.Contested.{contested_of, element_on, IsContestedRow}
+use Rattle.row_laws.specs.Contested.{IsContestedRow}
+use Rattle.free_poly.specs.Poly.{element_on}
 use Rattle.row_laws.proofs.ContestedRows.{minus, vector_of-less}
 use Rattle.row_laws.proofs.Parts.{has_parts, IsListedReducer}
 use Rattle.row_laws.proofs.Spread.{spread, spread-absent, spread-at, spread-element, spread-linear, spread-member}
@@ -97,7 +98,7 @@ module _ (p : ℕ) (fm : IsFieldModulus p) (columns : List (List ℕ)) (falling 
     row_left f now on h =
         let size : length rs ≡ length columns = zip_length (IsReducerOf columns) rs reducers are ∙ sym (zip_length (MayReduce p columns) columns reducers may) in
         let long : length now ≡ length columns = h.size ∙ length-map columns (λ w. total_at f w) in
-        let contested = contested_of columns reducers in
+        let contested = contested_words columns reducers in
         let element = element_on contested (contested_residues rs now) in
         let s : IsPlusSum p fm (IsReducerVector p fm rs) (dense_of columns f) now = h.sum fm in
         let row : (w : List ℕ) → over (vector p fm (dense_of columns f)) w ≡ vec f w =

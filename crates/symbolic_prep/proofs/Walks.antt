@@ -15,8 +15,8 @@ use Rattle.ideal_laws.specs.Engine.{Elements}
 use Rattle.ideal_laws.specs.Kept.{IsKept}
 use Rattle.ideal_laws.specs.Quantities.{reducers_in, terms_in}
 use Rattle.lead_index.specs.declared.lead.Lead.{Lead}
-use Rattle.lead_index.specs.Leads.{IsIndex}
-use Rattle.symbolic_prep.specs.Closed.{IsClosed, IsIndexOf}
+use Rattle.lead_index.specs.Leads.{IsIndex, IsIndexOf}
+use Rattle.symbolic_prep.specs.Closed.{IsClosed}
 use Rattle.symbolic_prep.specs.Walk.{AreCounted, HasMore, IsMet, count_terms, tail_words}
 use Rattle.symbolic_prep.proofs.Stays.{IsWord, stays}
 use Rattle.symbolic_prep.proofs.Listing.{brought_words, has_columns, tail_brought}

@@ -3,9 +3,9 @@ ghost use Rattle.free_poly.specs.Poly.{IsPolynomial};
 ghost use Rattle.free_poly.specs.Terms.{HasDegree, UsesLetters};
 ghost use Rattle.ideal_laws.specs.declared.limits.LimitKind.{LimitKind};
 ghost use Rattle.ideal_laws.specs.Quantities.{IsFirstPassing, NonePasses, terms_in, words_of};
-ghost use Rattle.lead_index.specs.Leads.{IsIndex};
+ghost use Rattle.lead_index.specs.Leads.{IsIndex, IsIndexOf};
 ghost use Rattle.symbolic_prep.specs.Walk.{IsPassed};
-ghost use Rattle.symbolic_prep.specs.Closed.{IsClosed, IsClosedQuantity, IsIndexOf, closing_limits};
+ghost use Rattle.symbolic_prep.specs.Closed.{IsClosed, IsClosedQuantity, closing_limits};
 
 use crate::closed::Closed;
 use crate::pending::{ColumnFault, words_of_rows};

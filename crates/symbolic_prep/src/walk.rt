@@ -1,11 +1,10 @@
 ghost use Rattle.std.specs.Prelude.{◌≡◌, ◌+◌, ◌<◌, ◌≤◌, List, ℕ, All, IfOk, IsErrOf, IsTrue, drop, length, min};
 ghost use Rattle.std.specs.BTreeSet.{IsOrdered, keys};
 ghost use Rattle.words.specs.Words.{IsOver, degree_of};
-ghost use Rattle.free_poly.specs.Poly.{IsPolynomial};
+ghost use Rattle.free_poly.specs.Poly.{IsPolynomial, lead_or_none};
 ghost use Rattle.ideal_laws.specs.Closure.{AreColumns, HasReducer};
-ghost use Rattle.lead_index.specs.Leads.{IsIndex};
-ghost use Rattle.symbolic_prep.specs.Closed.{IsIndexOf};
-ghost use Rattle.symbolic_prep.specs.Walk.{IsWalked, count_terms, lead_or_none};
+ghost use Rattle.lead_index.specs.Leads.{IsIndex, IsIndexOf};
+ghost use Rattle.symbolic_prep.specs.Walk.{IsWalked, count_terms};
 ghost use Rattle.words.specs.Order.{letterwise_cmp};
 
 use crate::pending::{ColumnFault, push_tail};

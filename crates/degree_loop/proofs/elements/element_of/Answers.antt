@@ -7,7 +7,7 @@ use Rattle.free_poly.specs.declared.term.Term.{Term}
 use Rattle.free_poly.specs.Terms.{HasResidues, IsSame, UsesLetters}
 use Rattle.free_poly.proofs.NormalForms.{same_polynomials}
 use Rattle.free_poly.proofs.Sums.{word_from_total}
-use Rattle.row_laws.specs.Contested.{element_on}
+use Rattle.free_poly.specs.Poly.{element_on}
 use Rattle.row_laws.proofs.OnColumns.{element_on-all, element_on-polynomial, element_on-residues}
 use Rattle.degree_loop.proofs.Finished.{one_degree}
 use Rattle.degree_loop.proofs.elements.element_of.Goals as goal

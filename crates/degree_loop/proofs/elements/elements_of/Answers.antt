@@ -1,11 +1,10 @@
 use Rattle.std.proofs.Common.{◌≡◌, ◌+◌, ◌-◌, ◌^◌, ◌≤◌, ℕ, List, All, Global, Vec, length, map, min, refl, subst, sym, ap, ◌∙◌, arith}
 use Rattle.free_poly.specs.declared.term.Term.{Term}
-use Rattle.ideal_laws.specs.Quantities.{terms_in}
+use Rattle.ideal_laws.specs.Quantities.{terms_in, contested_words}
 use Rattle.ideal_laws.specs.Basis.{IsReducedBasis}
 use Rattle.back_reduce.specs.Rows.{IsRow}
-use Rattle.row_laws.specs.Contested.{contested_of, element_on}
+use Rattle.free_poly.specs.Poly.{element_on}
 use Rattle.degree_loop.specs.Matrix.{AreColumnWords}
-use Rattle.row_store.proofs.ContestedColumns.{contested_words-contested_of}
 use Rattle.degree_loop.proofs.DegreeClosure.{column_words}
 use Rattle.degree_loop.proofs.Finished.{all_under, basis_monic, basis_of, elements_few, form_of, terms_pass, terms_within}
 use Rattle.degree_loop.proofs.Listing.{few_elements}
@@ -20,7 +19,7 @@ elements_on-requires-clause-columns g c =
     let closed = c.args.closed.now in
     let m = c.requires.matrix in
     let lower = c.lower_law.ensures.lower p weights relations c.setting_law.ensures c.args.d below (record { kept = c.done-done.ensures.kept; next = sym c.requires.next; same_weights = c.requires.weights; reduced = c.requires.reduced }) in
-    subst (AreColumnWords weights) (sym (c.contested.ensures ∙ contested_words-contested_of closed.columns closed.reducers))
+    subst (AreColumnWords weights) (sym (c.contested.ensures))
     (column_words p weights relations c.setting_law.ensures c.args.d below.elements lower m.rows m.are_closed.are_rows closed.columns m.are_closed.are_columns closed.reducers m.are_closed.are_reducers c.requires.small)
 
 pub elements_on-requires-clause-rows : goal.elements_on-requires-clause-rows
@@ -31,8 +30,8 @@ elements_on-requires-clause-rows g c =
     let items = λ (v : Vec ℕ Global). v.items in
     let echelon = c.in_ok-echelon.echelon.items in
     let form = form_of p c.args.presentation.now.alphabet.weights c.args.presentation.now.relations c.args.below.now.elements c.args.d closed problem c.requires.matrix (map items echelon) c.in_ok-echelon.ensures in
-    let columns : c.contested.result.now ≡ contested_of closed.columns closed.reducers = c.contested.ensures ∙ contested_words-contested_of closed.columns closed.reducers in
-    let rows : All (λ (v : Vec ℕ Global). IsRow p (length c.contested.result.now) v.items) echelon = subst (λ (ws : List (List ℕ)). All (λ (v : Vec ℕ Global). IsRow p (length ws) v.items) echelon) (sym columns) (all_under (IsRow p (length (contested_of closed.columns closed.reducers))) items echelon form.each) in
+    let columns : c.contested.result.now ≡ contested_words closed.columns closed.reducers = c.contested.ensures in
+    let rows : All (λ (v : Vec ℕ Global). IsRow p (length c.contested.result.now) v.items) echelon = subst (λ (ws : List (List ℕ)). All (λ (v : Vec ℕ Global). IsRow p (length ws) v.items) echelon) (sym columns) (all_under (IsRow p (length (contested_words closed.columns closed.reducers))) items echelon form.each) in
     subst (All (λ (v : Vec ℕ Global). IsRow p (length c.contested.result.now) v.items)) (sym c.as_slice.ensures.value) rows
 
 pub returns-then-count-from-clause-limit : goal.returns-then-count-from-clause-limit
@@ -46,7 +45,7 @@ returns-then-count-from-clause-limit g c = λ kind degree value e.
     let lower = c.lower_law.ensures.lower p weights relations c.setting_law.ensures c.args.d below (record { kept = c.done-done.ensures.kept; next = sym c.requires.next; same_weights = c.requires.weights; reduced = c.requires.reduced }) in
     let elements = c.in_ok-elements.elements.items in
     let items = λ (v : Vec ℕ Global). v.items in
-    let columns : c.contested.result.now ≡ contested_of closed.columns closed.reducers = c.contested.ensures ∙ contested_words-contested_of closed.columns closed.reducers in
+    let columns : c.contested.result.now ≡ contested_words closed.columns closed.reducers = c.contested.ensures in
     let made : elements ≡ map (λ (v : Vec ℕ Global). element_on c.contested.result.now v.items) c.in_ok-echelon.echelon.items =
     c.in_ok-elements.ensures ∙ ap (map (λ (v : Vec ℕ Global). element_on c.contested.result.now v.items)) c.as_slice.ensures.value in
     let basis = basis_of p weights relations below.elements c.args.d closed problem c.requires.matrix items c.rows_law.ensures.basis c.setting_law.ensures lower c.in_ok-echelon.echelon.items c.in_ok-echelon.ensures
@@ -66,7 +65,7 @@ returns-clause-elements g c =
     let lower = c.lower_law.ensures.lower p weights relations c.setting_law.ensures c.args.d below (record { kept = c.done-done.ensures.kept; next = sym c.requires.next; same_weights = c.requires.weights; reduced = c.requires.reduced }) in
     let elements = c.in_ok-elements.elements.items in
     let items = λ (v : Vec ℕ Global). v.items in
-    let columns : c.contested.result.now ≡ contested_of closed.columns closed.reducers = c.contested.ensures ∙ contested_words-contested_of closed.columns closed.reducers in
+    let columns : c.contested.result.now ≡ contested_words closed.columns closed.reducers = c.contested.ensures in
     let made : elements ≡ map (λ (v : Vec ℕ Global). element_on c.contested.result.now v.items) c.in_ok-echelon.echelon.items =
     c.in_ok-elements.ensures ∙ ap (map (λ (v : Vec ℕ Global). element_on c.contested.result.now v.items)) c.as_slice.ensures.value in
     subst (IsReducedBasis p weights relations c.args.d) (sym c.from_vec.ensures)

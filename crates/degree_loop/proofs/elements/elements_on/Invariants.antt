@@ -1,5 +1,5 @@
 use Rattle.std.proofs.Common.{◌≡◌, map, take}
-use Rattle.row_laws.specs.Contested.{element_on}
+use Rattle.free_poly.specs.Poly.{element_on}
 use Rattle.degree_loop.proofs.elements.elements_on.Given as goal
 
 abbrev pub invariant-loop-row : goal.invariant-loop-row

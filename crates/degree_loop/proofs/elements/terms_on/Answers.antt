@@ -2,7 +2,7 @@ use Rattle.std.proofs.Common.{◌+◌, ◌<◌, List, [], ◌++◌, Global, Vec,
 use Rattle.std.proofs.lemmas.List.{get_or_read}
 use Rattle.free_poly.specs.declared.term.Term.{Term}
 use Rattle.free_poly.specs.Terms.{term_at}
-use Rattle.row_laws.specs.Contested.{element_on}
+use Rattle.free_poly.specs.Poly.{element_on}
 use Rattle.degree_loop.proofs.Listing.{element_on-more, pushed_term}
 use Rattle.degree_loop.proofs.elements.terms_on.Goals as goal
 use Rattle.degree_loop.proofs.elements.terms_on.Goals.{then-coefficient-ne0+in_ok-word+in_ok-push, else-coefficient-ne0}

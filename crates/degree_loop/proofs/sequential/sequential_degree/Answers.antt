@@ -4,7 +4,6 @@ use Rattle.ideal_laws.specs.declared.limits.LimitKind.TheVariants.{Terms}
 use Rattle.ideal_laws.specs.Quantities.{IsQuantity}
 use Rattle.degree_loop.specs.Limits.{matrix_limits}
 use Rattle.degree_loop.proofs.Asked.{first_before, first_behind, none_together, one_fault}
-use Rattle.row_store.proofs.ContestedColumns.{contested_words-contested_of}
 use Rattle.degree_loop.proofs.Finished.{count_rows}
 use Rattle.degree_loop.proofs.sequential.sequential_degree.Goals as goal
 
@@ -34,7 +33,7 @@ returns-clause-account g c =
         reducers = matrix.closed.reducers;
         are_closed = h.are_closed;
         count = c.in_ok-account.ensures.rows ∙ count_rows _ _ _ _ _ _ _ h;
-        contested = c.in_ok-account.ensures.columns ∙ contested_words-contested_of matrix.closed.columns matrix.closed.reducers;
+        contested = c.in_ok-account.ensures.columns
       },
       c.in_ok-account.ensures.calls ∙ c.from_vec-calls.ensures ∙ c.new.ensures.items,
     )

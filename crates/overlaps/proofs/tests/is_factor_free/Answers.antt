@@ -1,7 +1,8 @@
 use Rattle.std.proofs.Common.{◌≡◌, ℕ, List, [], ap, arith, subst, sym, ◌∙◌}
 use Rattle.std.proofs.lemmas.Option.{get_or_from_slice_get, slice_get_within}
 use Rattle.words.specs.Words.{IsFactor}
-use Rattle.overlaps.specs.Walk.{lead_or_none, lead_word}
+use Rattle.overlaps.specs.Walk.{lead_word}
+use Rattle.free_poly.specs.Poly.{lead_or_none}
 use Rattle.overlaps.proofs.Places.{lead-is}
 use Rattle.overlaps.proofs.tests.is_factor_free.Goals as goal
 

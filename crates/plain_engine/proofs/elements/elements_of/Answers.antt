@@ -3,7 +3,8 @@ use Rattle.std.proofs.lemmas.Bool.{eqb-true}
 use Rattle.std.proofs.lemmas.List.{get_or_read, take_at}
 use Rattle.free_poly.specs.declared.term.Term.{Term}
 use Rattle.ideal_laws.specs.Closure.{IsNormal}
-use Rattle.plain_engine.specs.Elements.{AreElements, IsElementAt, row_terms}
+use Rattle.plain_engine.specs.Elements.{AreElements, IsElementAt}
+use Rattle.free_poly.specs.Poly.{element_on}
 use Rattle.plain_engine.specs.Table.{IsCleared, IsLed, IsTable, row_at}
 use Rattle.plain_engine.proofs.Chosen.{elements_more, elements_same}
 use Rattle.plain_engine.proofs.Tables.{not_empty, row_read}
@@ -65,7 +66,7 @@ loop-at-preserved c =
       cleared = subst (λ (r : List ℕ). IsCleared p table r left) start c.clear.ensures.cleared;
       before = λ k lt. c.clear.ensures.before k lt ∙ ap (λ (r : List ℕ). get_or r k 0) start;
       zero = λ k from below there. c.clear.ensures.zero k (omega (arith, from)) (omega (arith, below, start_size)) there;
-      is = c.in_ok-element.ensures ∙ ap (row_terms columns) read;
+      is = c.in_ok-element.ensures ∙ ap (element_on columns) read;
     } in
     subst (λ (fs : List (List Term)). AreElements p columns table G fs (at + 1)) (sym c.in_ok-push.ensures.items)
     (elements_more p columns table G c.requires.table c.requires.falling c.loop-at.elements.items at c.in_ok-element.element c.loop-at.invariant own)

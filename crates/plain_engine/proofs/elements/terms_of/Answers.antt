@@ -2,7 +2,7 @@ use Rattle.std.proofs.Common.{◌≡◌, ◌≢◌, ◌+◌, ◌<◌, ◌==◌, 
 use Rattle.std.proofs.lemmas.Bool.{false_from_ne_true, eqb-true}
 use Rattle.free_poly.specs.declared.term.Term.{Term}
 use Rattle.free_poly.specs.Terms.{term_at}
-use Rattle.plain_engine.specs.Elements.{row_terms}
+use Rattle.free_poly.specs.Poly.{element_on}
 use Rattle.plain_engine.proofs.Tables.{row_read}
 use Rattle.plain_engine.proofs.Terms.{terms_more}
 use Rattle.plain_engine.proofs.elements.terms_of.Goals as goal
@@ -21,7 +21,7 @@ loop-at-preserved c =
     let k = c.loop-at.at in
     let terms = c.loop-at.terms.items in
     let within : k < length row = c.loop-at-test.true in
-    let rest = row_terms (drop (k + 1) columns) (drop (k + 1) row) in
+    let rest = element_on (drop (k + 1) columns) (drop (k + 1) row) in
     let items = λ (v : Vec Term Global). v.items in
     let more = terms_more columns row k terms c.requires within ∙ c.loop-at.invariant in
     elim c.if-coefficient-ne0.branch [

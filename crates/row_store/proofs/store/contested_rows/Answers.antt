@@ -2,17 +2,16 @@ use Rattle.std.proofs.Common.{◌≡◌, ◌<◌, ◌≤◌, ℕ, List, All, Opt
 use Rattle.std.specs.List.{flat_map}
 use Rattle.std.proofs.lemmas.Nat.{mul-le}
 use Rattle.free_poly.specs.declared.term.Term.{Term}
-use Rattle.symbolic_prep.specs.Closed.{contested_words}
-use Rattle.row_laws.specs.Contested.{contested_of}
+use Rattle.ideal_laws.specs.Quantities.{contested_words}
 use Rattle.row_store.proofs.Cells.{cells_residues, cells_rows, cells_shape}
-use Rattle.row_store.proofs.ContestedColumns.{contested-few, contested_words-contested_of}
+use Rattle.row_store.proofs.ContestedColumns.{contested-few}
 use Rattle.row_store.proofs.store.contested_rows.Goals as goal
 
 few : (m columns : List (List ℕ)) (reducers : List (Option (List Term))) → m ≡ contested_words columns reducers → length columns ≤ 1048576 → length m ≤ 1048576
 few m columns reducers is h = omega (arith, ap length is, contested-few columns reducers, h)
 
-width : (m columns : List (List ℕ)) (reducers : List (Option (List Term))) → m ≡ contested_words columns reducers → length m ≡ length (contested_of columns reducers)
-width m columns reducers is = ap length (is ∙ contested_words-contested_of columns reducers)
+width : (m columns : List (List ℕ)) (reducers : List (Option (List Term))) → m ≡ contested_words columns reducers → length m ≡ length (contested_words columns reducers)
+width m columns reducers is = ap length (is)
 
 pub overflow_mul-count : goal.overflow_mul-count
 overflow_mul-count g c =
@@ -30,7 +29,7 @@ invariant_of-result g c =
     let columns = c.args.closed.now.columns in
     let reducers = c.args.closed.now.reducers in
     let m = length c.contested-m.result.now in
-    let wide : m ≡ length (contested_of columns reducers) = width c.contested-m.result.now columns reducers c.contested-m.ensures in
+    let wide : m ≡ length (contested_words columns reducers) = width c.contested-m.result.now columns reducers c.contested-m.ensures in
     let joined = c.in_ok-joined.ensures ∙ ap (flat_map (λ v. v.items)) c.as_slice-2.ensures.value in
     record {
       shape = cells_shape (λ v. v.items) p m columns reducers c.args.rows.now c.in_ok-lists.lists.items c.in_ok-lists.ensures wide c.in_ok-joined.field-0.items joined;
@@ -45,7 +44,7 @@ returns-clause-rows g c =
     let columns = c.args.closed.now.columns in
     let reducers = c.args.closed.now.reducers in
     let m = length c.contested-m.result.now in
-    let wide : m ≡ length (contested_of columns reducers) = width c.contested-m.result.now columns reducers c.contested-m.ensures in
+    let wide : m ≡ length (contested_words columns reducers) = width c.contested-m.result.now columns reducers c.contested-m.ensures in
     let joined = c.in_ok-joined.ensures ∙ ap (flat_map (λ v. v.items)) c.as_slice-2.ensures.value in
     record {
       degree = refl;
