@@ -33,3 +33,6 @@ pub mod Replies
 pub mod MetRows
 pub mod MayMeet
 pub mod WordsLeft
+pub mod SortedCalls
+pub mod LegalHistoryReplays
+pub mod LegalHistory

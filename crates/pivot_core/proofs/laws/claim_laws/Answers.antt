@@ -1,4 +1,5 @@
 use Rattle.pivot_core.proofs.Kept.{claimed_pivots}
+use Rattle.pivot_core.proofs.LegalHistory.{one_legal_history}
 use Rattle.pivot_core.proofs.Replies.{calls_follow, looks_find_calls}
 use Rattle.pivot_core.proofs.RunLaws.{held_rows_are_pivots, held_rows_stay}
 use Rattle.pivot_core.proofs.StepCounts.{step_counts}
@@ -15,6 +16,9 @@ returns-clause-held_rows_are_pivots c = held_rows_are_pivots
 
 pub returns-clause-step_counts : goal.returns-clause-step_counts
 returns-clause-step_counts c = step_counts
+
+pub returns-clause-one_legal_history : goal.returns-clause-one_legal_history
+returns-clause-one_legal_history c = one_legal_history
 
 pub returns-clause-looks_find_calls : goal.returns-clause-looks_find_calls
 returns-clause-looks_find_calls c = looks_find_calls
