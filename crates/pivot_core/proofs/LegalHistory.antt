@@ -44,15 +44,23 @@ module _ (problem : Problem) (crew : ℕ) (s : State) (h : ClaimedPivots problem
   abbrev calls : List Call
   calls = merged logs
 
+  -- the log of a seat
+  pub log_at : (i : ℕ) → i < crew → get_or logs i [] ≡ (view_at problem s i).calls
+  log_at i lt = get_or-map (λ (v : Sight). v.calls) s.views i (fresh problem.m i) [] (omega (arith, lt, h.ranges.count))
+
+  pub length-logs : length logs ≡ crew
+  length-logs = length-map s.views (λ (v : Sight). v.calls) ∙ h.ranges.count
+
   -- what each view's calls have, the joined calls have, and so the sorted ones
-  each_call : (P : Call → Type 0) → ((i : ℕ) → i < crew → All P (view_at problem s i).calls) → All P calls
+  pub each_call : (P : Call → Type 0) → ((i : ℕ) → i < crew → All P (view_at problem s i).calls) → All P calls
   each_call P each =
       All-permutation P (joined_calls logs) calls (sorted_calls-moves (joined_calls logs))
       (All-joined_calls P logs (All-map (All P) (λ (v : Sight). v.calls) s.views (all_views problem crew s h.ranges (λ (v : Sight). All P v.calls) each)))
 
   told : All (IsTrueCall problem s) calls
   told = each_call (IsTrueCall problem s)
-      (λ i lt. All-weaker (IsCall problem s i (view_at problem s i).clock) (IsTrueCall problem s) (λ k is. record { own = refl; column = is.column; row = is.row; stamp = omega arith; answered = is.answered })
+      (λ i lt. All-weaker (IsCall problem s i (view_at problem s i).clock) (IsTrueCall problem s)
+      (λ k is. record { own = refl; column = is.column; row = is.row; stamp = omega arith; answered = is.answered })
       (view_at problem s i).calls (h.calls_and_counts.each i lt))
 
   summed : (f : Call → ℕ) → sum_by f calls ≡ sum_by (λ v. sum_by f v.calls) s.views
@@ -79,8 +87,7 @@ module _ (problem : Problem) (crew : ℕ) (s : State) (h : ClaimedPivots problem
       inside : (i : ℕ) → i < crew → All (Contains calls) (view_at problem s i).calls
       inside i lt =
           All-weaker (Contains (joined_calls logs)) (Contains calls) (λ k there. Contains-permutation (joined_calls logs) calls k (sorted_calls-moves (joined_calls logs)) there) (view_at problem s i).calls
-          (subst (All (Contains (joined_calls logs))) (get_or-map (λ (v : Sight). v.calls) s.views i (fresh problem.m i) [] (omega (arith, lt, h.ranges.count)))
-          (joined_calls-contains logs i [] (omega (arith, lt, h.ranges.count, length-map s.views (λ (v : Sight). v.calls)))))
+          (subst (All (Contains (joined_calls logs))) (log_at i lt) (joined_calls-contains logs i [] (omega (arith, lt, length-logs))))
 
 pub one_legal_history : OneLegalHistory
 one_legal_history problem crew setting events = legal_history problem crew (state_after problem crew events) (claimed_pivots problem crew setting events)

@@ -48,9 +48,11 @@ module _ (problem : Problem) (s : State) where
   answer_after-taken : (ks : List Call) (c : ℕ) → All IsTrueCall ks → 0 < sum_by (is_won_at c) ks → answer_after ks c ≡ lost_at c
   answer_after-taken [] c told some = absurd (omega (arith, some))
   answer_after-taken (k ∷ ks) c told some =
-      by_answer (answer_after ks c) (answer_after-taken ks c (All-tail IsTrueCall k ks told)) k.answer (All-head IsTrueCall k ks told).answered (subst (λ (n : ℕ). 0 < n) (sum_by-cons (is_won_at c) k ks) some)
+      by_answer (answer_after ks c) (answer_after-taken ks c (All-tail IsTrueCall k ks told))
+      k.answer (All-head IsTrueCall k ks told).answered (subst (λ (n : ℕ). 0 < n) (sum_by-cons (is_won_at c) k ks) some)
     where
-      by_answer : (rest : Answer) → (0 < sum_by (is_won_at c) ks → rest ≡ lost_at c) → (a : Answer) → IsAnswered problem s k a → 0 < won_part c k a + sum_by (is_won_at c) ks → after_one k a c rest ≡ lost_at c
+      by_answer : (rest : Answer) → (0 < sum_by (is_won_at c) ks → rest ≡ lost_at c) → (a : Answer) → IsAnswered problem s k a
+          → 0 < won_part c k a + sum_by (is_won_at c) ks → after_one k a c rest ≡ lost_at c
       by_answer rest more answer.Won h some = by_bool (λ (x : Answer). x ≡ lost_at c) (k.column == c) _ _
           (λ on. (let at : lost_at k.column ≡ lost_at c = ap lost_at (eqb-true k.column c on) in ap₂ (λ (r n : ℕ). answer.Lost r n) (sym h.1) (sym h.2) ∙ at))
           (λ off. more (omega (arith, some, ap one_if off)))
@@ -62,7 +64,8 @@ module _ (problem : Problem) (s : State) where
     where
       by_answer : (a : Answer) → IsAnswered problem s l a → won_part c l a ≡ 0
       by_answer answer.Won h = by_bool (λ (n : ℕ). n ≡ 0) (l.column == c) _ _
-          (λ on. (let same : stamp_in (claim_at problem s l.column) ≡ stamp_in (claim_at problem s c) = ap (λ (d : ℕ). stamp_in (claim_at problem s d)) (eqb-true l.column c on) in absurd (omega (arith, h.2, same, late))))
+          (λ on. (let same : stamp_in (claim_at problem s l.column) ≡ stamp_in (claim_at problem s c) = ap (λ (d : ℕ). stamp_in (claim_at problem s d)) (eqb-true l.column c on) in
+          absurd (omega (arith, h.2, same, late))))
           (λ off. refl)
       by_answer (answer.Lost row stamp) h = refl
 

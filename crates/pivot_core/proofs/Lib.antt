@@ -36,3 +36,5 @@ pub mod WordsLeft
 pub mod SortedCalls
 pub mod LegalHistoryReplays
 pub mod LegalHistory
+pub mod LegalHistorySeats
+pub mod LegalHistoryMerge

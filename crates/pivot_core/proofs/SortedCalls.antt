@@ -33,13 +33,19 @@ IsNotAfter k l = is_not_after k l ≡ true
 pub not_after_stamp : (k l : Call) → IsNotAfter k l → k.stamp ≤ l.stamp
 not_after_stamp k l h = grind (arith, h)
 
-not_after-trans : (k l j : Call) → IsNotAfter k l → IsNotAfter l j → IsNotAfter k j
+pub not_after_seat : (k l : Call) → IsNotAfter k l → l.stamp ≤ k.stamp → k.seat ≤ l.seat
+not_after_seat k l h le = grind (arith, h, le)
+
+pub not_after-same_seat : (k l : Call) → k.seat ≡ l.seat → k.stamp ≤ l.stamp → IsNotAfter k l
+not_after-same_seat k l same le = grind (arith, same, le)
+
+pub not_after-trans : (k l j : Call) → IsNotAfter k l → IsNotAfter l j → IsNotAfter k j
 not_after-trans k l j h g = grind (arith, h, g)
 
-not_after-total : (k l : Call) → is_not_after k l ≡ false → IsNotAfter l k
+pub not_after-total : (k l : Call) → is_not_after k l ≡ false → IsNotAfter l k
 not_after-total k l h = grind (arith, h)
 
-insert_call-in_order : (k : Call) (ls : List Call) → AllPairs IsNotAfter ls → AllPairs IsNotAfter (insert_call k ls)
+pub insert_call-in_order : (k : Call) (ls : List Call) → AllPairs IsNotAfter ls → AllPairs IsNotAfter (insert_call k ls)
 insert_call-in_order k [] h = λ i j d lt within. absurd (omega (arith, lt, within))
 insert_call-in_order k (l ∷ ls) h = by_answer (insert_call-in_order k ls tail) (is_not_after k l) refl
   where
@@ -76,4 +82,5 @@ joined_calls-contains [] = All-nil (All (Contains []))
 joined_calls-contains (log ∷ logs) =
     let Here : Call → Type 0 = Contains (joined_calls (log ∷ logs)) in
     All-cons (All Here) log logs (All-weaker (Contains log) Here (λ k h. Contains-append_left log (joined_calls logs) k h) log (All-contains_itself log))
-    (All-weaker (All (Contains (joined_calls logs))) (All Here) (λ l h. All-weaker (Contains (joined_calls logs)) Here (λ k g. Contains-append_right log (joined_calls logs) k g) l h) logs (joined_calls-contains logs))
+    (All-weaker (All (Contains (joined_calls logs))) (All Here)
+    (λ l h. All-weaker (Contains (joined_calls logs)) Here (λ k g. Contains-append_right log (joined_calls logs) k g) l h) logs (joined_calls-contains logs))

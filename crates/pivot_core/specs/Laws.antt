@@ -1,6 +1,6 @@
 -- The laws of the machine of claims.
-use Rattle.std.specs.Prelude.{ℕ, ◌≡◌, ◌≢◌, ◌+◌, ◌*◌, ◌<◌, ◌≤◌, List, [], ◌∷◌, ◌++◌, All, AllPairs, Contains, Some, length, map, min}
-use Rattle.std.specs.List.{sum_by}
+use Rattle.std.specs.Prelude.{ℕ, ◌≡◌, ◌≢◌, ◌⊎◌, ◌+◌, ◌*◌, ◌<◌, ◌≤◌, ◌==◌, List, [], ◌∷◌, ◌++◌, All, AllPairs, Contains, Some, length, map, min}
+use Rattle.std.specs.List.{filter, sum_by}
 use Rattle.field_table.specs.Residues.{IsFieldModulus}
 use Rattle.ideal_laws.specs.declared.account.Answer.{Answer}
 use Rattle.ideal_laws.specs.declared.account.Answer.TheVariants as answer
@@ -53,6 +53,19 @@ pub record IsLegalHistory (problem : Problem) (crew : ℕ) (s : State) : Type 0 
 
 abbrev pub OneLegalHistory : Type 0
 OneLegalHistory = (problem : Problem) (crew : ℕ) → IsSetting problem crew → (events : List Event) → IsLegalHistory problem crew (state_after problem crew events)
+
+-- the calls of one seat
+abbrev pub calls_of : ℕ → List Call → List Call
+calls_of seat calls = filter (λ k. k.seat == seat) calls
+
+-- the history has the calls of each seat as the seat has made them, and no others, by rising (stamp, seat)
+pub record IsMergeOfLogs (problem : Problem) (crew : ℕ) (s : State) : Type 0 where
+  pub logs : (i : ℕ) → i < crew → calls_of i (merged (logs_of s)) ≡ (view_at problem s i).calls
+  pub seats : All (λ k. k.seat < crew) (merged (logs_of s))
+  pub order : AllPairs (λ k l. (k.stamp < l.stamp) ⊎ ((k.stamp ≡ l.stamp) × (k.seat < l.seat))) (merged (logs_of s))
+
+abbrev pub HistoryMergesLogs : Type 0
+HistoryMergesLogs = (problem : Problem) (crew : ℕ) → IsSetting problem crew → (events : List Event) → IsMergeOfLogs problem crew (state_after problem crew events)
 
 -- what a look finds at a column on which this call was made
 abbrev pub left_by : Call → Answer → Reply
