@@ -38,3 +38,6 @@ pub mod LegalHistoryReplays
 pub mod LegalHistory
 pub mod LegalHistorySeats
 pub mod LegalHistoryMerge
+pub mod StableSorts
+pub mod CallSorts
+pub mod Histories

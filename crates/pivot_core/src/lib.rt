@@ -5,6 +5,9 @@
 #![tactic(auto)]
 
 mod event;
+mod history;
+#[cfg(test)]
+mod history_tests;
 mod laws;
 mod lists;
 mod met;
@@ -13,6 +16,7 @@ mod sight;
 mod view;
 
 pub use event::{Event, Kind, Reply};
+pub use history::{History, merge, replays};
 pub use laws::claim_laws;
 pub use next::{comes_next, word_met};
 pub use sight::Sight;
