@@ -19,7 +19,6 @@ use Rattle.pivot_core.specs.Calls.{call_count, steps_of_row}
 use Rattle.pivot_core.specs.Claimed.{ClaimedPivots}
 use Rattle.pivot_core.specs.Laws.{IsSetting}
 use Rattle.pivot_core.specs.Meets.{IsMetClaim, IsMetWord, MayMeet}
-use Rattle.pivot_core.proofs.ClaimWords.{few_rows}
 use Rattle.std.proofs.Math.Nat.{mul-add, mul_assoc, mul_comm}
 use Rattle.pivot_core.proofs.Counts.{all_views, call_count-few}
 use Rattle.pivot_core.proofs.HeldRows.{held_row-at, values-from}
@@ -65,13 +64,13 @@ module _ (problem : Problem) (crew : ℕ) (setting : IsSetting problem crew) (s 
       let residue = All-get_or (λ a. a < problem.modulus) _ at 0 (omega (arith, row_is.size, numbers.3)) row_is.residues in
       subst (λ (k : ℕ). k < problem.modulus) (held_row-at problem s column at numbers.3 ∙ values-from problem s column at read.0 numbers.2 ∙ ap (λ (r : ℕ). word_at problem s (row_word r at)) read.1) residue
 
-  met_word : (f : Phase) → v.phase ≡ f → problem.n < 2 ^ 32 → IsMetWord problem f (word_at problem s (spot_of f))
-  met_word phase.Fresh is small = omega (arith, counter_few, small)
-  met_word (phase.Looking row column) is small = met_claim column (subst (IsPhase problem.m problem.n) is (h.ranges.views i lt).numbers).1
-  met_word (phase.Putting row column at) is small = tt
-  met_word (phase.Claiming row column) is small = met_claim column (subst (IsPhase problem.m problem.n) is (h.ranges.views i lt).numbers).1
-  met_word (phase.Reading row column holder at) is small = read_word row column holder at is
-  met_word phase.Ended is small = tt
+  met_word : (f : Phase) → v.phase ≡ f → IsMetWord problem f (word_at problem s (spot_of f))
+  met_word phase.Fresh is = tt
+  met_word (phase.Looking row column) is = met_claim column (subst (IsPhase problem.m problem.n) is (h.ranges.views i lt).numbers).1
+  met_word (phase.Putting row column at) is = tt
+  met_word (phase.Claiming row column) is = met_claim column (subst (IsPhase problem.m problem.n) is (h.ranges.views i lt).numbers).1
+  met_word (phase.Reading row column holder at) is = read_word row column holder at is
+  met_word phase.Ended is = tt
 
   -- the current row has residues in every phase
   current_residues : (f : Phase) → v.phase ≡ f → All (λ a. a < problem.modulus) v.current
@@ -107,16 +106,8 @@ module _ (problem : Problem) (crew : ℕ) (setting : IsSetting problem crew) (s 
   drawn_few : v.drawn ≤ sum_by (λ (z : Sight). z.drawn) s.views
   drawn_few = get_or-le-sum_by (λ (z : Sight). z.drawn) s.views i (fresh problem.m i) (omega (arith, lt, h.ranges.count))
 
-  by_few : (column : ℕ) → column < problem.m → v.drawn < 2 ^ 32 - 1
-  by_few column within = omega (arith, drawn_few, h.counter_sum.few, few_rows problem column within)
-
-  drawn_small : (f : Phase) → v.phase ≡ f → f ≢ phase.Ended → problem.n < 2 ^ 32 → word_at problem s (spot_of f) < problem.n → v.drawn < 2 ^ 32 - 1
-  drawn_small phase.Fresh is next rows some = omega (arith, some, rows, drawn_few, h.counter_sum.counts)
-  drawn_small (phase.Looking row column) is next rows some = let numbers : IsPhase problem.m problem.n (phase.Looking row column) = subst (IsPhase problem.m problem.n) is (h.ranges.views i lt).numbers in by_few column numbers.1
-  drawn_small (phase.Putting row column at) is next rows some = let numbers : IsPhase problem.m problem.n (phase.Putting row column at) = subst (IsPhase problem.m problem.n) is (h.ranges.views i lt).numbers in by_few at numbers.2
-  drawn_small (phase.Claiming row column) is next rows some = let numbers : IsPhase problem.m problem.n (phase.Claiming row column) = subst (IsPhase problem.m problem.n) is (h.ranges.views i lt).numbers in by_few column numbers.1
-  drawn_small (phase.Reading row column holder at) is next rows some = let numbers : IsPhase problem.m problem.n (phase.Reading row column holder at) = subst (IsPhase problem.m problem.n) is (h.ranges.views i lt).numbers in by_few at numbers.3
-  drawn_small phase.Ended is next rows some = absurd (next refl)
+  drawn_small : v.phase ≡ phase.Fresh → problem.n < 2 ^ 32 → word_at problem s (spot_of v.phase) < problem.n → v.drawn < 2 ^ 32 - 1
+  drawn_small is rows some = omega (arith, some, ap (λ (f : Phase). word_at problem s (spot_of f)) is, rows, drawn_few, h.counter_sum.counts)
 
   -- the steps of all rows are few
   steps_small : problem.n < 2 ^ 32 → problem.m < 2 ^ 32 → v.steps < 2 ^ 64 - 1
@@ -132,14 +123,18 @@ module _ (problem : Problem) (crew : ℕ) (setting : IsSetting problem crew) (s 
       let cells : n * m * m ≤ 67108864 * 4294967296 = mul-le (n * m) m 67108864 4294967296 problem.few (omega (arith, columns)) in
       omega (arith, own, most, split, again, square, three, cells, problem.few, rows)
 
+  -- the counter does not wrap
+  pub counter_small : v.phase ≡ phase.Fresh → problem.n < 2 ^ 32 → word_at problem s (spot_of v.phase) < 2 ^ 64 - 1
+  counter_small is rows = omega (arith, counter_few, ap (λ (f : Phase). word_at problem s (spot_of f)) is, rows)
+
   pub may_meet : problem.n < 2 ^ 32 → problem.m < 2 ^ 32 → v.phase ≢ phase.Ended → MayMeet problem v (word_at problem s (spot_of v.phase))
   may_meet rows columns next = record {
     next = next;
     sight = h.ranges.views i lt;
     current = current_residues v.phase refl;
     seen = seen_residues v.phase refl;
-    word = met_word v.phase refl rows;
+    word = met_word v.phase refl;
     steps = steps_small rows columns;
     clock = omega (arith, h.calls_and_counts.clocks i lt, calls_few);
-    drawn = drawn_small v.phase refl next rows;
+    drawn = λ is. drawn_small is rows;
   }

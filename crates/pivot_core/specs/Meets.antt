@@ -15,7 +15,7 @@ pub record IsMetClaim (n word : ℕ) : Type 0 where
 
 -- a word that a step of this phase may meet
 abbrev pub IsMetWord : Problem → Phase → ℕ → Type 0
-IsMetWord problem phase.Fresh old = old < 2 ^ 64 - 1
+IsMetWord problem phase.Fresh old = Unit {0}
 IsMetWord problem (phase.Looking row column) old = IsMetClaim problem.n old
 IsMetWord problem (phase.Putting row column at) old = Unit {0}
 IsMetWord problem (phase.Claiming row column) old = IsMetClaim problem.n old
@@ -40,7 +40,7 @@ pub record MayMeet (problem : Problem) (v : Sight) (old : ℕ) : Type 0 where
   pub word : IsMetWord problem v.phase old
   pub steps : v.steps < 2 ^ 64 - 1
   pub clock : v.clock < 2 ^ 32 - 1
-  pub drawn : old < problem.n → v.drawn < 2 ^ 32 - 1
+  pub drawn : v.phase ≡ phase.Fresh → old < problem.n → v.drawn < 2 ^ 32 - 1
 
 -- the next step of v on this word leaves the word x
 pub record LeavesWord (problem : Problem) (v : Sight) (old x : ℕ) : Type 0 where

@@ -6,6 +6,7 @@ ghost use Rattle.pivot_core.specs.Words.{row_in, stamp_in};
 
 use back_reduce::Problem;
 use field_table::Field;
+use lane_kernel::axpy_lanes;
 
 /// The first column at which a row is not 0.
 pub(crate) fn lead(row: &[u32]) -> Option<usize>
@@ -19,14 +20,15 @@ pub(crate) fn lead(row: &[u32]) -> Option<usize>
     None
 }
 
-pub(crate) fn scale(field: &Field, a: u32, row: &mut [u32])
+/// Writes a multiple of a row over another.
+pub(crate) fn scale(field: &Field, a: u32, row: &[u32], multiple: &mut [u32])
     requires factor { a < field.now }
-    requires residues { All (λ r. r < field.now) row.old }
-    ensures { row.new ≡ map (λ r. product_of field.now a r) row.old }
+    requires residues { All (λ r. r < field.now) row.now }
+    requires length { length multiple.old ≡ length row.now }
+    ensures { multiple.new ≡ map (λ r. product_of field.now a r) row.now }
 {
-    for entry in row.iter_mut() {
-        *entry = field.mul(a, *entry);
-    }
+    clear(multiple);
+    axpy_lanes(field, multiple, a, row);
 }
 
 /// Writes a row of the problem over another.

@@ -12,6 +12,8 @@ use crate::view::{Phase, View};
 use back_reduce::Problem;
 use field_table::Field;
 use ideal_laws::{Answer, Call};
+use lane_kernel::axpy_lanes;
+use std::mem;
 
 impl View {
     /// Goes on with the row that stands in `current`, made monic, or gives it up where it is 0.
@@ -24,17 +26,21 @@ impl View {
         ensures capacity { vec_capacity self.new.calls ≡ vec_capacity self.old.calls }
     {
         let _columns = problem.m;
-        clear(self.seen.as_mut_slice());
         match lead(self.current.as_slice()) {
             Some(column) => {
                 let a = field.inv(self.current[column]);
-                scale(field, a, self.current.as_mut_slice());
+                scale(field, a, self.current.as_slice(), self.seen.as_mut_slice());
+                mem::swap(&mut self.current, &mut self.seen);
+                clear(self.seen.as_mut_slice());
                 self.phase = Phase::Looking {
                     row,
                     column: column as u32,
                 };
             }
-            None => self.phase = Phase::Fresh,
+            None => {
+                clear(self.seen.as_mut_slice());
+                self.phase = Phase::Fresh;
+            }
         }
     }
 
@@ -194,7 +200,7 @@ impl View {
             return Reply::Got(word);
         }
         let minus = field.neg(1);
-        field.axpy(self.current.as_mut_slice(), minus, self.seen.as_slice());
+        axpy_lanes(field, self.current.as_mut_slice(), minus, self.seen.as_slice());
         self.settle(field, problem, row);
         Reply::Got(word)
     }

@@ -1,4 +1,4 @@
-ghost use Rattle.std.specs.Prelude.{◌≡◌, ◌≢◌, ◌<◌, ◌≤◌};
+ghost use Rattle.std.specs.Prelude.{◌≡◌, ◌≢◌, ◌-◌, ◌^◌, ◌<◌, ◌≤◌};
 ghost use Rattle.pivot_core.specs.declared.view.Phase.TheVariants as phase;
 ghost use Rattle.pivot_core.specs.Meets.{LeavesWord, MayMeet};
 ghost use Rattle.pivot_core.specs.Phases.{IsPhase};
@@ -59,6 +59,7 @@ impl View {
     /// The word that the next step of the view leaves in place of the one that it meets.
     pub fn word_left(&self, problem: &Problem, old: u64) -> u64
         requires may { MayMeet problem.now (sight_of self.now) old }
+        requires count { self.now.phase ≡ phase.Fresh → old < 2 ^ 64 - 1 }
         ensures { LeavesWord problem.now (sight_of self.now) old result }
     {
         let _rows = problem.n;

@@ -27,12 +27,12 @@ returns-clause-met c =
     let v : Sight = sight_of c.args.self.now in
     let old : ℕ = c.args.old in
     let seen : List ℕ = set v.seen c.args.at old in
-    let lost : c.axpy.new.y ≡ difference problem.modulus v.current seen =
-    c.axpy.ensures.sums ∙ ap (λ (y : List ℕ). plus_multiple c.args.field.now c.neg-minus.result y c.as_slice.result.now) c.as_mut_slice.ensures.value
+    let lost : c.axpy_lanes.new.y ≡ difference problem.modulus v.current seen =
+    c.axpy_lanes.ensures.sums ∙ ap (λ (y : List ℕ). plus_multiple c.args.field.now c.neg-minus.result y c.as_slice.result.now) c.as_mut_slice.ensures.value
     ∙ ap (λ (h : List ℕ). plus_multiple c.args.field.now c.neg-minus.result v.current h) c.as_slice.ensures.value
     ∙ ap (λ (k : ℕ). plus_multiple c.args.field.now k v.current seen) c.neg-minus.ensures
     ∙ ap (λ (p : ℕ). difference p v.current seen) c.requires.field in
-    let row = with_items_is c.args.self.now.current c.axpy.new.y (omega (arith, c.axpy.auto.y, c.as_mut_slice.ensures.len)) ∙ lost in
+    let row = with_items_is c.args.self.now.current c.axpy_lanes.new.y (omega (arith, c.axpy_lanes.auto.y, c.as_mut_slice.ensures.len)) ∙ lost in
     let now : sight_of c.settle.new.self ≡ settle problem (seen_one problem v old c.args.at) (difference problem.modulus v.current seen) c.args.row =
     c.settle.ensures.settled ∙ ap (λ (y : List ℕ). settle problem (seen_one problem v old c.args.at) y c.args.row) row in
     subst (λ (w : Sight). IsMet problem v old w (reply.Got old)) (sym now) (meets_last_read problem v old c.args.row c.args.column c.args.holder c.args.at c.requires.phase (omega (arith, c.if-at-m.false)))
