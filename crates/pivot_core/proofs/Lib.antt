@@ -41,3 +41,4 @@ pub mod LegalHistoryMerge
 pub mod StableSorts
 pub mod CallSorts
 pub mod Histories
+pub mod Ended

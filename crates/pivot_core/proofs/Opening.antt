@@ -38,7 +38,7 @@ module _ (problem : Problem) (crew : ℕ) where
   opens_idle i r lt h = subst (λ (v : Sight). HasRow v.phase r) (opens_fresh i lt) h
 
   -- a sum over fresh views of what is 0 at each
-  none_summed : (f : Sight → ℕ) (a n : ℕ) → ((i : ℕ) → f (fresh problem.m i) ≡ 0) → sum_by f (map (fresh problem.m) (range_with_len a n)) ≡ 0
+  pub none_summed : (f : Sight → ℕ) (a n : ℕ) → ((i : ℕ) → f (fresh problem.m i) ≡ 0) → sum_by f (map (fresh problem.m) (range_with_len a n)) ≡ 0
   none_summed f a zero h = refl
   none_summed f a (suc n) h = sum_by-cons f (fresh problem.m a) (map (fresh problem.m) (range_with_len (a + 1) n)) ∙ ap₂ ◌+◌ (h a) (none_summed f (a + 1) n h)
 

@@ -9,3 +9,5 @@ pub mod Claimed
 pub mod History
 pub mod Laws
 pub mod Meets
+pub mod Cores
+pub mod CoreFields

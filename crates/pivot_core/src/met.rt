@@ -200,7 +200,12 @@ impl View {
             return Reply::Got(word);
         }
         let minus = field.neg(1);
-        axpy_lanes(field, self.current.as_mut_slice(), minus, self.seen.as_slice());
+        axpy_lanes(
+            field,
+            self.current.as_mut_slice(),
+            minus,
+            self.seen.as_slice(),
+        );
         self.settle(field, problem, row);
         Reply::Got(word)
     }
