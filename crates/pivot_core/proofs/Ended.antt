@@ -1,5 +1,5 @@
 -- Views that have ended, and their number.
-use Rattle.std.proofs.Common.{◌≡◌, ◌+◌, ◌<◌, ◌≤◌, ℕ, zero, suc, List, [], ◌∷◌, length, get_or, refl, ap, arith}
+use Rattle.std.proofs.Common.{◌≡◌, ◌≢◌, ◌+◌, ◌<◌, ◌≤◌, ℕ, zero, suc, List, [], ◌∷◌, length, get_or, refl, ap, arith}
 use Rattle.std.specs.List.{sum_by}
 use Rattle.std.proofs.lemmas.List.Sums.{sum_by-cons}
 use Rattle.back_reduce.specs.declared.problem.Problem.{Problem}
@@ -22,6 +22,14 @@ at_most_one (phase.Claiming row column) = omega arith
 at_most_one (phase.Reading row column holder at) = omega arith
 at_most_one phase.Ended = omega arith
 
+pub none_ended : (f : Phase) → f ≢ phase.Ended → is_ended f ≡ 0
+none_ended phase.Fresh other = refl
+none_ended (phase.Looking row column) other = refl
+none_ended (phase.Putting row column at) other = refl
+none_ended (phase.Claiming row column) other = refl
+none_ended (phase.Reading row column holder at) other = refl
+none_ended phase.Ended other = absurd (other refl)
+
 ended_by : (f : Phase) → is_ended f ≡ 1 → f ≡ phase.Ended
 ended_by phase.Fresh e = absurd (omega (arith, e))
 ended_by (phase.Looking row column) e = absurd (omega (arith, e))
@@ -30,7 +38,7 @@ ended_by (phase.Claiming row column) e = absurd (omega (arith, e))
 ended_by (phase.Reading row column holder at) e = absurd (omega (arith, e))
 ended_by phase.Ended e = refl
 
-at_most_all : (vs : List Sight) → sum_by one_ended vs ≤ length vs
+pub at_most_all : (vs : List Sight) → sum_by one_ended vs ≤ length vs
 at_most_all [] = omega arith
 at_most_all (v ∷ vs) = omega (arith, sum_by-cons one_ended v vs, at_most_all vs, at_most_one v.phase)
 

@@ -42,3 +42,6 @@ pub mod StableSorts
 pub mod CallSorts
 pub mod Histories
 pub mod Ended
+pub mod EventsMade
+pub mod CallRoom
+pub mod CoreSteps

@@ -1,11 +1,18 @@
-ghost use Rattle.std.specs.Prelude.{◌≡◌, ◌≢◌, ◌↔◌, ◌<◌, ◌≤◌, All, IfOk, IsTrue, length, map, min};
+ghost use Rattle.std.specs.Prelude.{◌≡◌, ◌≢◌, ◌-◌, ◌^◌, ◌↔◌, ◌<◌, ◌≤◌, All, IfOk, IfSome, IsNone, IsTrue, None, Some, length, map, min};
 ghost use Rattle.std.specs.List.{range_with_len};
 ghost use Rattle.std.specs.Vec.{vec_capacity};
-ghost use Rattle.pivot_core.specs.Runs.{HasEnded, opening, view_at};
+ghost use Rattle.pivot_core.specs.declared.view.Phase.TheVariants as phase;
+ghost use Rattle.pivot_core.specs.Cores.{IsMade, met_at, met_in};
+ghost use Rattle.pivot_core.specs.Meets.{IsClaiming, MayMeet};
+ghost use Rattle.pivot_core.specs.Phases.{is_ended};
+ghost use Rattle.pivot_core.specs.Runs.{HasEnded, after_event, opening, step_at, view_at};
+ghost use Rattle.pivot_core.specs.Steps.{Stepped};
 ghost use Rattle.pivot_core.specs.Views.{fresh, sight_of};
 
 use crate::NoMemory;
-use crate::view::View;
+use crate::event::{Event, Reply};
+use crate::next::{comes_next, word_met};
+use crate::view::{Phase, View};
 use back_reduce::Problem;
 use field_table::Field;
 use ideal_laws::Call;
@@ -72,12 +79,62 @@ impl Core {
         &self.views[seat as usize]
     }
 
+    /// Makes the step of the event, where it is the next of a seat that is there.
+    pub fn step(&mut self, event: Event) -> Option<Reply>
+        ensures state { self.new.state ≡ after_event self.old.problem self.old.state event }
+        ensures problem { self.new.problem ≡ self.old.problem }
+        ensures crew { self.new.crew ≡ self.old.crew }
+        ensures reply { IfSome result (λ r. (t : Stepped) × (step_at self.old.problem self.old.state event ≡ Some t) × (t.reply ≡ r)) }
+        ensures none { IsNone result ↔ (step_at self.old.problem self.old.state event ≡ None) }
+    {
+        let seat = event.seat as usize;
+        if seat >= self.views.len() {
+            return None;
+        }
+        if !comes_next(event.kind, self.views[seat].phase) {
+            return None;
+        }
+        let _sizes = (self.problem.n, self.problem.m);
+        let words = self.words.as_mut_slice();
+        let reply = make_step(&self.field, &self.problem, words, &mut self.views[seat]);
+        self.going -= ended(self.views[seat].phase);
+        Some(reply)
+    }
+
     /// Whether every view has ended.
     pub fn ended(&self) -> bool
         ensures { IsTrue result ↔ HasEnded self.now.problem self.now.state }
     {
         self.going == 0
     }
+}
+
+/// 1 for a phase in which a view has ended.
+fn ended(phase: Phase) -> u32
+    ensures { result ≡ is_ended phase }
+{
+    match phase {
+        Phase::Ended => 1,
+        _ => 0,
+    }
+}
+
+/// Makes the next step of a view, on the word that it meets.
+fn make_step(field: &Field, problem: &Problem, words: &mut [u64], view: &mut View) -> Reply
+    requires field { field.now ≡ problem.now.modulus }
+    requires within { met_at problem.now view.old.phase < length words.old }
+    requires may { MayMeet problem.now (sight_of view.old) (met_in problem.now words.old view.old.phase) }
+    requires count { view.old.phase ≡ phase.Fresh → met_in problem.now words.old view.old.phase < 2 ^ 64 - 1 }
+    requires room { IsClaiming view.old.phase → length view.old.calls.items < vec_capacity view.old.calls }
+    ensures made { IsMade problem.now words.old (sight_of view.old) words.new (sight_of view.new) result }
+    ensures capacity { vec_capacity view.old.calls ≤ vec_capacity view.new.calls }
+{
+    let at = word_met(problem, view.phase);
+    let old = words[at];
+    let word = view.word_left(problem, old);
+    let reply = view.met(field, problem, old);
+    words[at] = word;
+    reply
 }
 
 /// The views of all seats of a crew, by their numbers, before their first steps.
