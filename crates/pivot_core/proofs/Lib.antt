@@ -45,3 +45,4 @@ pub mod Ended
 pub mod EventsMade
 pub mod CallRoom
 pub mod CoreSteps
+pub mod Found

@@ -11,3 +11,4 @@ pub mod Laws
 pub mod Meets
 pub mod Cores
 pub mod CoreFields
+pub mod Finished

@@ -13,6 +13,7 @@ mod lists;
 mod machine;
 mod met;
 mod next;
+mod pivots;
 mod sight;
 mod view;
 
@@ -21,6 +22,7 @@ pub use history::{History, merge, replays};
 pub use laws::claim_laws;
 pub use machine::Core;
 pub use next::{comes_next, word_met};
+pub use pivots::CorePivots;
 pub use sight::Sight;
 pub use view::{Phase, View};
 

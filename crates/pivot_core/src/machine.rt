@@ -3,15 +3,18 @@ ghost use Rattle.std.specs.List.{range_with_len};
 ghost use Rattle.std.specs.Vec.{vec_capacity};
 ghost use Rattle.pivot_core.specs.declared.view.Phase.TheVariants as phase;
 ghost use Rattle.pivot_core.specs.Cores.{IsMade, met_at, met_in};
+ghost use Rattle.pivot_core.specs.Finished.{found_holders, found_values};
+ghost use Rattle.pivot_core.specs.Laws.{logs_of};
 ghost use Rattle.pivot_core.specs.Meets.{IsClaiming, MayMeet};
 ghost use Rattle.pivot_core.specs.Phases.{is_ended};
-ghost use Rattle.pivot_core.specs.Runs.{HasEnded, after_event, opening, step_at, view_at};
+ghost use Rattle.pivot_core.specs.Runs.{HasEnded, after_event, holders, opening, step_at, values, view_at};
 ghost use Rattle.pivot_core.specs.Steps.{Stepped};
 ghost use Rattle.pivot_core.specs.Views.{fresh, sight_of};
 
 use crate::NoMemory;
 use crate::event::{Event, Reply};
 use crate::next::{comes_next, word_met};
+use crate::pivots::{CorePivots, calls_of};
 use crate::view::{Phase, View};
 use back_reduce::Problem;
 use field_table::Field;
@@ -106,6 +109,24 @@ impl Core {
         ensures { IsTrue result ↔ HasEnded self.now.problem self.now.state }
     {
         self.going == 0
+    }
+
+    /// The pivots that the seats have found, with their calls. It takes no memory.
+    pub fn finish(self) -> CorePivots
+        requires { HasEnded self.problem self.state }
+        ensures problem { result.problem ≡ self.problem }
+        ensures holders { found_holders result ≡ holders self.problem self.state }
+        ensures values { found_values result ≡ values self.problem self.state }
+        ensures logs { result.logs ≡ logs_of self.state }
+    {
+        let problem = self.problem;
+        let words = self.words;
+        let logs = calls_of(self.views, self.logs);
+        CorePivots {
+            problem,
+            words,
+            logs,
+        }
     }
 }
 

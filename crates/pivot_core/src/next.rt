@@ -24,7 +24,7 @@ pub fn comes_next(kind: Kind, phase: Phase) -> bool
     }
 }
 
-fn row_word_at(problem: &Problem, row: u32, at: u32) -> usize
+pub(crate) fn row_word_at(problem: &Problem, row: u32, at: u32) -> usize
     requires row { row < problem.now.n }
     requires at { at < problem.now.m }
     ensures { result ≡ index_of problem.now.m (row_word row at) }
