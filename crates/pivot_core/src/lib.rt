@@ -15,6 +15,8 @@ mod met;
 mod next;
 mod pivots;
 mod sight;
+#[cfg(test)]
+mod tests;
 mod view;
 
 pub use event::{Event, Kind, Reply};
