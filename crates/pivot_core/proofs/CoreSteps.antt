@@ -1,8 +1,9 @@
 -- The machine before and after the step of an event.
-use Rattle.std.proofs.Common.{◌≡◌, ◌≢◌, ◌+◌, ◌-◌, ◌<◌, ◌≤◌, ◌^◌, ◌++◌, ◌∷◌, [], ℕ, true, List, Some, length, map, min, set, get_or, sym, ap, ◌∙◌, arith, subst}
+use Rattle.std.proofs.Common.{All, ◌≡◌, ◌≢◌, ◌+◌, ◌-◌, ◌<◌, ◌≤◌, ◌^◌, ◌++◌, ◌∷◌, [], ℕ, true, List, Vec, Global, Some, length, map, min, set, get_or, sym, ap, ◌∙◌, arith, subst}
 use Rattle.std.specs.List.{sum_by}
 use Rattle.std.specs.Vec.{vec_capacity}
 use Rattle.std.proofs.lemmas.List.{get_or-map, get_or_read, get_or-set_same, length-map, length-set, map-set}
+use Rattle.std.proofs.lemmas.List.Elements.{All-set}
 use Rattle.std.proofs.lemmas.List.Sums.{sum_by-set}
 use Rattle.back_reduce.specs.declared.problem.Problem.{Problem}
 use Rattle.pivot_core.specs.declared.machine.Core.TheInside.{Inside}
@@ -18,9 +19,10 @@ use Rattle.pivot_core.specs.Steps.{Stepped, is_next, met, spot_of}
 use Rattle.pivot_core.specs.Runs.{State, after_event, opening, state_after, step_at, view_at, word_at}
 use Rattle.pivot_core.specs.Phases.{IsPhase, is_ended}
 use Rattle.pivot_core.specs.Claimed.{ClaimedPivots}
+use Rattle.pivot_core.specs.Laws.{IsSetting}
 use Rattle.pivot_core.specs.Meets.{IsClaiming, MayMeet}
 use Rattle.pivot_core.specs.CoreFields.{IsRun}
-use Rattle.pivot_core.specs.Cores.{IsMade, met_at, met_in, state_of}
+use Rattle.pivot_core.specs.Cores.{IsMade, MayStep, met_at, met_in, state_of}
 use Rattle.pivot_core.proofs.CallRoom.{room_for_call}
 use Rattle.pivot_core.proofs.Ended.{at_most_all, none_ended, one_ended}
 use Rattle.pivot_core.proofs.EventsMade.{makes, makes_state}
@@ -79,27 +81,30 @@ module _ (core : Inside) (e : Event) (v : View) (turn : IsTurn core e v) where
   goes_on : v.phase ≢ phase.Ended
   goes_on ended = none_after_end e.kind (ap (is_next e.kind) (sym ended) ∙ turn.next)
 
-  pub met_within : met_at problem v.phase < length words
+  met_within : met_at problem v.phase < length words
   met_within =
       let numbers : IsPhase problem.m problem.n v.phase = subst (λ (z : Sight). IsPhase problem.m problem.n z.phase) own (rule.ranges.views e.seat there).numbers in
       omega (arith, rule.ranges.words, spot_within problem.m problem.n (spot_of v.phase) (meets_spot problem.m problem.n v.phase numbers))
 
-  pub met_may : problem.n < 2 ^ 32 → problem.m < 2 ^ 32 → MayMeet problem (sight_of v) (met_in problem words v.phase)
+  met_may : problem.n < 2 ^ 32 → problem.m < 2 ^ 32 → MayMeet problem (sight_of v) (met_in problem words v.phase)
   met_may rows columns = subst (λ (z : Sight). MayMeet problem z (word_at problem s (spot_of z.phase))) own
       (may_meet problem (length views) turn.run.setting s rule e.seat there rows columns (λ ended. goes_on (ap (λ (z : Sight). z.phase) (sym own) ∙ ended)))
 
-  pub met_count : problem.n < 2 ^ 32 → v.phase ≡ phase.Fresh → met_in problem words v.phase < 2 ^ 64 - 1
+  met_count : problem.n < 2 ^ 32 → v.phase ≡ phase.Fresh → met_in problem words v.phase < 2 ^ 64 - 1
   met_count rows = subst (λ (z : Sight). z.phase ≡ phase.Fresh → word_at problem s (spot_of z.phase) < 2 ^ 64 - 1) own (λ f. counter_small problem (length views) turn.run.setting s rule e.seat there f rows)
 
   -- the view has room for all its calls
-  pub own_room : min problem.n problem.m ≤ vec_capacity v.calls
+  own_room : min problem.n problem.m ≤ vec_capacity v.calls
   own_room = subst (λ (z : View). min problem.n problem.m ≤ vec_capacity z.calls) (sym turn.is) (turn.run.room e.seat v there)
 
-  pub met_room : IsClaiming v.phase → length v.calls.items < vec_capacity v.calls
+  met_room : IsClaiming v.phase → length v.calls.items < vec_capacity v.calls
   met_room claims =
       let few : length v.calls.items < min problem.n problem.m =
       subst (λ (z : Sight). IsClaiming z.phase → length z.calls < min problem.n problem.m) own (room_for_call problem (length views) turn.run.setting s rule e.seat there) claims in
       omega (arith, few, own_room)
+
+  pub may_step : problem.n < 2 ^ 32 → problem.m < 2 ^ 32 → MayStep problem words v
+  may_step rows columns = record { within = met_within; may = met_may rows columns; count = met_count rows; room = met_room }
 
   -- as many views go on as before, or one less where the view after the step has ended
   pub count_after : (w found : View) (k : ℕ) → found ≡ get_or (set views e.seat w) e.seat found → k ≡ is_ended found.phase
@@ -138,7 +143,22 @@ module _ (core : Inside) (e : Event) (v : View) (turn : IsTurn core e v) where
         λ i. record { words = (made.leaves ∙ at) i; views = map-set sight_of views e.seat w i } in
         moved ∙ sym (makes_state problem s e t seated own_next own_gives)
 
-    pub reached_made : state_of after (set views e.seat w) ≡ state_after problem (length (set views e.seat w)) (turn.run.events ++ e ∷ [])
-    reached_made =
-        state_made ∙ ap (λ (z : State). after_event problem z e) turn.run.reached ∙ sym (after_events-append problem (opening problem (length views)) turn.run.events (e ∷ []))
-        ∙ ap (λ (k : ℕ). state_after problem k (turn.run.events ++ e ∷ [])) (sym (length-set views e.seat w))
+    -- and so a run goes on
+    pub run_made : (kept : Vec ℕ Global) (seen : Vec View Global) (found : View) (k : ℕ) → kept.items ≡ after → seen.items ≡ set views e.seat w
+        → found ≡ get_or (set views e.seat w) e.seat found → k ≡ is_ended found.phase → vec_capacity v.calls ≤ vec_capacity w.calls
+        → IsRun (record core { words = kept; views = seen; going = core.going - k })
+    run_made kept seen found k kept_is seen_is there_is counts wide =
+        let size : length seen.items ≡ length views = ap length seen_is ∙ length-set views e.seat w in
+        let same : state_of kept.items seen.items ≡ state_of after (set views e.seat w) = λ i. state_of (kept_is i) (seen_is i) in
+        record {
+          setting = subst (IsSetting problem) (sym size) turn.run.setting;
+          same = turn.run.same;
+          events = turn.run.events ++ e ∷ [];
+          reached = same ∙ state_made ∙ ap (λ (z : State). after_event problem z e) turn.run.reached ∙ sym (after_events-append problem (opening problem (length views)) turn.run.events (e ∷ []))
+              ∙ ap (λ (n : ℕ). state_after problem n (turn.run.events ++ e ∷ [])) (sym size);
+          ended = subst (λ (zs : List View). core.going - k + sum_by one_ended (map sight_of zs) ≡ length zs) (sym seen_is) (count_after w found k there_is counts).1;
+          room = subst (All (λ (z : View). min problem.n problem.m ≤ vec_capacity z.calls)) (sym seen_is)
+              (All-set (λ (z : View). min problem.n problem.m ≤ vec_capacity z.calls) views e.seat w (omega (arith, own_room, wide)) turn.run.room);
+          no_logs = turn.run.no_logs;
+          room_for_logs = omega (arith, turn.run.room_for_logs, size);
+        }

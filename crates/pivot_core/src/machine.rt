@@ -1,11 +1,9 @@
-ghost use Rattle.std.specs.Prelude.{◌≡◌, ◌≢◌, ◌-◌, ◌^◌, ◌↔◌, ◌<◌, ◌≤◌, All, IfOk, IfSome, IsNone, IsTrue, None, Some, length, map, min};
+ghost use Rattle.std.specs.Prelude.{◌≡◌, ◌↔◌, ◌<◌, ◌≤◌, All, IfOk, IfSome, IsNone, IsTrue, None, Some, length, map, min};
 ghost use Rattle.std.specs.List.{range_with_len};
 ghost use Rattle.std.specs.Vec.{vec_capacity};
-ghost use Rattle.pivot_core.specs.declared.view.Phase.TheVariants as phase;
-ghost use Rattle.pivot_core.specs.Cores.{IsMade, met_at, met_in};
+ghost use Rattle.pivot_core.specs.Cores.{IsMade, MayStep};
 ghost use Rattle.pivot_core.specs.Finished.{found_holders, found_values};
 ghost use Rattle.pivot_core.specs.Laws.{logs_of};
-ghost use Rattle.pivot_core.specs.Meets.{IsClaiming, MayMeet};
 ghost use Rattle.pivot_core.specs.Phases.{is_ended};
 ghost use Rattle.pivot_core.specs.Runs.{HasEnded, after_event, holders, opening, step_at, values, view_at};
 ghost use Rattle.pivot_core.specs.Steps.{Stepped};
@@ -100,7 +98,7 @@ impl Core {
         let _sizes = (self.problem.n, self.problem.m);
         let words = self.words.as_mut_slice();
         let reply = make_step(&self.field, &self.problem, words, &mut self.views[seat]);
-        self.going -= ended(self.views[seat].phase);
+        self.going -= ended_count(self.views[seat].phase);
         Some(reply)
     }
 
@@ -131,7 +129,7 @@ impl Core {
 }
 
 /// 1 for a phase in which a view has ended.
-fn ended(phase: Phase) -> u32
+fn ended_count(phase: Phase) -> u32
     ensures { result ≡ is_ended phase }
 {
     match phase {
@@ -143,10 +141,7 @@ fn ended(phase: Phase) -> u32
 /// Makes the next step of a view, on the word that it meets.
 fn make_step(field: &Field, problem: &Problem, words: &mut [u64], view: &mut View) -> Reply
     requires field { field.now ≡ problem.now.modulus }
-    requires within { met_at problem.now view.old.phase < length words.old }
-    requires may { MayMeet problem.now (sight_of view.old) (met_in problem.now words.old view.old.phase) }
-    requires count { view.old.phase ≡ phase.Fresh → met_in problem.now words.old view.old.phase < 2 ^ 64 - 1 }
-    requires room { IsClaiming view.old.phase → length view.old.calls.items < vec_capacity view.old.calls }
+    requires may { MayStep problem.now words.old view.old }
     ensures made { IsMade problem.now words.old (sight_of view.old) words.new (sight_of view.new) result }
     ensures capacity { vec_capacity view.old.calls ≤ vec_capacity view.new.calls }
 {
