@@ -44,5 +44,6 @@ pub mod Histories
 pub mod Ended
 pub mod EventsMade
 pub mod CallRoom
+pub mod CoreTurns
 pub mod CoreSteps
 pub mod Found

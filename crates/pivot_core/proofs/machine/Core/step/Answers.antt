@@ -8,7 +8,8 @@ use Rattle.pivot_core.specs.Cores.{IsMade, Machine, MayStep, state_of}
 use Rattle.pivot_core.specs.Runs.{after_event, step_at}
 use Rattle.pivot_core.specs.Steps.{Stepped}
 use Rattle.pivot_core.specs.Views.{sight_of}
-use Rattle.pivot_core.proofs.CoreSteps.{IsTurn, count_after, may_step, run_made, state_made, step_made, turn_by}
+use Rattle.pivot_core.proofs.CoreSteps.{count_after, run_made, state_made, step_made}
+use Rattle.pivot_core.proofs.CoreTurns.{IsTurn, may_step, turn_by}
 use Rattle.pivot_core.proofs.machine.Core.step.Goals as goal
 
 -- what the step of v made of the words
