@@ -39,7 +39,7 @@ pub mod LegalHistory
 pub mod LegalHistorySeats
 pub mod LegalHistoryMerge
 pub mod StableSorts
-pub mod CallSorts
+pub mod StableCalls
 pub mod Histories
 pub mod Ended
 pub mod EventsMade

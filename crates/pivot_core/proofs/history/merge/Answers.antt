@@ -2,7 +2,7 @@ use Rattle.std.proofs.Common.{◌<◌, length, map, ap, ◌∙◌, arith, rules}
 use Rattle.std.proofs.lemmas.List.{get_or-map, length-map, take_all}
 use Rattle.std.proofs.lemmas.List.Sorted.{answers_always}
 use Rattle.pivot_core.specs.History.{joined_calls, sorted_calls}
-use Rattle.pivot_core.proofs.CallSorts.{rank, sorted_calls-from_sort}
+use Rattle.pivot_core.proofs.StableCalls.{rank, sorted_calls-from_sort}
 use Rattle.pivot_core.proofs.Histories.{joined_calls-more}
 use Rattle.pivot_core.proofs.history.merge.Goals as goal
 
