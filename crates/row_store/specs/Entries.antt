@@ -61,11 +61,15 @@ pub record IsReducerVector (p : ℕ) (modulus : IsFieldModulus p) (reducers : Li
   pub there : reducer_at reducers column ≡ Some reducer
   pub is : (c : ℕ) → v c ≡ of p modulus.two_or_more modulus.has_inverse (residue_at reducer.entries.items c)
 
+-- the row is 0 at each reducible column
+abbrev pub IsZeroAtReducible : List (Option Reducer) → List ℕ → Type 0
+IsZeroAtReducible reducers row = (c : ℕ) (reducer : Reducer) → c < length row → reducer_at reducers c ≡ Some reducer → slice_index row c ≡ 0
+
 -- the row now is 0 at each reducible column, and is the row and a sum of multiples of reducers
 pub record IsClearedRow (p : ℕ) (reducers : List (Option Reducer)) (row now : List ℕ) : Type 0 where
   pub size : length now ≡ length row
   pub residues : All (λ a. a < p) now
-  pub cleared : (c : ℕ) (reducer : Reducer) → c < length row → reducer_at reducers c ≡ Some reducer → slice_index now c ≡ 0
+  pub cleared : IsZeroAtReducible reducers now
   pub sum : (modulus : IsFieldModulus p) → IsPlusSum p modulus (IsReducerVector p modulus reducers) row now
 
 -- the entries at the columns without a reducer

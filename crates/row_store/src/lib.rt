@@ -3,6 +3,7 @@
 //! wait for each other. Reducers have few terms, so they are kept as lists of columns with residues.
 #![tactic(auto)]
 
+mod buffer;
 mod entries;
 mod rows;
 mod store;

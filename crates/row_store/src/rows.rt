@@ -1,10 +1,11 @@
-ghost use Rattle.std.specs.Prelude.{◌≡◌, ◌<◌, ℕ, All, AllPairs, Contains, IfOk, length, map, slice_index, slice_index_or, []};
+ghost use Rattle.std.specs.Prelude.{◌≡◌, ◌<◌, ℕ, All, AllPairs, Contains, IfOk, OnOk, length, map, slice_index, slice_index_or, []};
 ghost use Rattle.std.specs.List.{AllZip};
 ghost use Rattle.words.specs.Order.{IsLetterwiseGreater, letterwise_cmp};
 ghost use Rattle.free_poly.specs.Terms.{HasResidues, total_at};
 ghost use Rattle.row_store.specs.Contested.{IsOnColumns};
-ghost use Rattle.row_store.specs.Entries.{AreColumnLists, AreEntries, IsClearedRow, IsEntryOf, contested_residues, dense_of, residue_at};
+ghost use Rattle.row_store.specs.Entries.{AreColumnLists, AreEntries, IsClearedRow, IsEntryOf, IsZeroAtReducible, contested_residues, dense_of, residue_at};
 
+use crate::buffer::Buffer;
 use crate::entries::{Entry, Reducer, add_entries};
 use field_table::{Field, NoMemory};
 use free_poly::Poly;
@@ -28,13 +29,18 @@ pub(crate) fn column_of(columns: &[Word], word: &[u8]) -> usize
     }
 }
 
-/// A row over all columns.
-pub(crate) fn dense_row(alloc: Global, columns: &[Word], row: &Poly) -> Result<Vec<u32>, NoMemory>
+/// A row over all columns, in what the buffer holds.
+pub(crate) fn dense_row(
+    alloc: Global,
+    columns: &[Word],
+    buffer: &mut Buffer,
+    row: &Poly,
+) -> Result<Vec<u32>, NoMemory>
     requires falling { AllPairs IsLetterwiseGreater columns.now }
     requires on_columns { IsOnColumns columns.now row.now }
     ensures { IfOk result (λ dense. dense.items ≡ dense_of columns.now row.now) }
 {
-    let mut dense = vec![in alloc; 0u32; columns.len()]?;
+    let mut dense = buffer.take(alloc, columns.len())?;
     for term in row.terms() {
         let at = column_of(columns, term.word.letters());
         dense[at] = term.coefficient;
@@ -86,19 +92,22 @@ pub(crate) fn clear_reducible(field: &Field, reducers: &[Option<Reducer>], row: 
     }
 }
 
-/// The entries at the columns without a reducer.
-pub(crate) fn contested_entries(
+/// The entries at the columns without a reducer, where the row is 0 afterwards.
+pub(crate) fn take_contested(
     alloc: Global,
     reducers: &[Option<Reducer>],
-    row: &[u32],
+    row: &mut [u32],
 ) -> Result<Vec<u32>, NoMemory>
-    requires { length row.now ≡ length reducers.now }
-    ensures { IfOk result (λ residues. residues.items ≡ contested_residues reducers.now row.now) }
+    requires size { length row.old ≡ length reducers.now }
+    requires cleared { IsZeroAtReducible reducers.now row.old }
+    ensures residues { IfOk result (λ residues. residues.items ≡ contested_residues reducers.now row.old) }
+    ensures zeros { OnOk result (All (λ a. a ≡ 0) row.new) }
 {
     let mut residues = Vec::new(alloc);
     for (at, reducer) in reducers.iter().enumerate() {
         if reducer.is_none() {
             residues.push(row[at])?;
+            row[at] = 0;
         }
     }
     Ok(residues)

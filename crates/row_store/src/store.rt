@@ -10,8 +10,9 @@ ghost use Rattle.row_store.specs.Contested.{IsCellQuantity, IsContestedProblem, 
 ghost use Rattle.row_laws.specs.Contested.{IsContestedRow};
 ghost use Rattle.row_store.specs.Entries.{IsReducerOf, IsRowAmong};
 
+use crate::buffer::Buffer;
 use crate::entries::Reducer;
-use crate::rows::{clear_reducible, contested_entries, dense_row, entries_of};
+use crate::rows::{clear_reducible, dense_row, entries_of, take_contested};
 use back_reduce::Problem;
 use field_table::{Field, NoMemory};
 use free_poly::Poly;
@@ -104,7 +105,7 @@ fn reducer_of(
     }
 }
 
-/// What each row leaves at the contested columns.
+/// What each row leaves at the contested columns. Each part of the rows has a buffer.
 fn reduced_rows<R: Threads + Sync>(
     rt: &R,
     alloc: Global,
@@ -118,11 +119,12 @@ fn reduced_rows<R: Threads + Sync>(
 {
     rows.par_iter()
         .with_min_len(1)
-        .map(
-            move |row: &Poly| -> Result<Vec<u32>, NoMemory>
+        .map_init(
+            move || Buffer::new(alloc),
+            move |buffer: &mut Buffer, row: &Poly| -> Result<Vec<u32>, NoMemory>
                 requires { IsRowAmong field.now closed.now reducers.now row.now }
                 ensures { IfOk result (λ residues. IsContestedRow field.entry.now closed.entry.now.columns closed.entry.now.reducers row.now residues.items) }
-            { reduced_row(alloc, field, closed, reducers, row) },
+            { reduced_row(alloc, field, closed, reducers, buffer, row) },
         )
         .collect::<Result<Vec<Vec<u32>>, NoMemory>>(rt, alloc)?
 }
@@ -133,6 +135,7 @@ fn reduced_row(
     field: &Field,
     closed: &Closed,
     reducers: &[Option<Reducer>],
+    buffer: &mut Buffer,
     row: &Poly,
 ) -> Result<Vec<u32>, NoMemory>
     requires { IsRowAmong field.now closed.now reducers.now row.now }
@@ -140,9 +143,11 @@ fn reduced_row(
 {
     let _modulus = field.modulus();
     let _terms = row.terms();
-    let mut dense = dense_row(alloc, closed.columns(), row)?;
+    let mut dense = dense_row(alloc, closed.columns(), buffer, row)?;
     clear_reducible(field, reducers, dense.as_mut_slice());
-    contested_entries(alloc, reducers, dense.as_slice())
+    let residues = take_contested(alloc, reducers, dense.as_mut_slice())?;
+    buffer.put(dense);
+    Ok(residues)
 }
 
 /// The rows, one after another.

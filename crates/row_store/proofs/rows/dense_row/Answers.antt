@@ -20,4 +20,4 @@ loop-term-preserved c =
     ∙ dense_more columns items i at t c.requires.falling form (omega arith) c.term-item.is c.column_of-at.ensures.within (c.column_of-at.ensures.word ∙ c.letters.ensures)
 
 pub loop-term-init : goal.loop-term-init
-loop-term-init c = c.in_ok-dense.ensures.items_if_clones_equal (λ y e. e) ∙ dense_none c.args.columns.now (length c.args.columns.now) refl
+loop-term-init c = c.in_ok-dense.ensures ∙ dense_none c.args.columns.now (length c.args.columns.now) refl

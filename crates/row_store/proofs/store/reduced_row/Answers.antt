@@ -1,11 +1,10 @@
 use Rattle.std.proofs.Common.{◌≡◌, ◌<◌, ℕ, List, All, length, sym, ap, ◌∙◌, arith, subst}
 use Rattle.std.proofs.lemmas.List.{length-map}
-use Rattle.std.proofs.lemmas.Result.{IfOk-weaker}
 use Rattle.free_poly.specs.Poly.{IsPolynomial}
 use Rattle.free_poly.specs.Terms.{total_at}
 use Rattle.row_laws.specs.Contested.{IsContestedRow}
 use Rattle.row_store.specs.Contested.{IsOnColumns, MayReduce}
-use Rattle.row_store.specs.Entries.{contested_residues, dense_of, AreColumnLists, IsClearedRow, IsReducerOf}
+use Rattle.row_store.specs.Entries.{dense_of, AreColumnLists, IsClearedRow, IsReducerOf}
 use Rattle.row_store.proofs.ColumnLists.{column_lists}
 use Rattle.row_store.proofs.Dense.{dense-residues, written, zip_length}
 use Rattle.row_store.proofs.RowsLeft.{row_left}
@@ -28,12 +27,12 @@ clear_reducible-requires-clause-reducers c =
     subst (λ (n : ℕ). AreColumnLists c.args.field.now n c.args.reducers.now) (sym long)
     (column_lists columns c.requires.reducing.falling c.args.field.now c.args.reducers.now c.args.closed.now.reducers c.requires.reducing.reducers c.requires.entries)
 
-pub contested_entries-requires : goal.contested_entries-requires
-contested_entries-requires c =
+pub take_contested-requires-clause-size : goal.take_contested-requires-clause-size
+take_contested-requires-clause-size c =
     let closed = c.args.closed.now in
     let row : length c.as_mut_slice.result.now ≡ length closed.columns =
     ap length (c.as_mut_slice.ensures.value ∙ c.in_ok-dense.ensures) ∙ length-map c.columns.result.now (λ w. total_at c.args.row.now w) ∙ ap length c.columns.ensures in
-    c.as_slice.ensures.len ∙ sym c.as_mut_slice.ensures.len ∙ row ∙ zip_length (MayReduce c.args.field.now closed.columns) closed.columns closed.reducers c.requires.reducing.reducers
+    c.as_mut_slice-2.ensures.len ∙ sym c.as_mut_slice.ensures.len ∙ row ∙ zip_length (MayReduce c.args.field.now closed.columns) closed.columns closed.reducers c.requires.reducing.reducers
     ∙ sym (zip_length (IsReducerOf closed.columns) c.args.reducers.now closed.reducers c.requires.entries)
 
 pub returns : goal.returns
@@ -41,12 +40,12 @@ returns c =
     let p = c.args.field.now in
     let closed = c.args.closed.now in
     let rs = c.args.reducers.now in
+    let row = c.as_mut_slice-2.result.now in
     let dense : c.as_mut_slice.result.now ≡ dense_of closed.columns c.args.row.now =
     c.as_mut_slice.ensures.value ∙ c.in_ok-dense.ensures ∙ ap (λ (columns : List (List ℕ)). dense_of columns c.args.row.now) c.columns.ensures in
-    let now : c.as_slice.result.now ≡ c.clear_reducible.new.row =
-    c.as_slice.ensures.value ∙ written c.in_ok-dense.dense.len c.in_ok-dense.dense.items c.clear_reducible.new.row (c.clear_reducible.ensures.size ∙ ap length c.as_mut_slice.ensures.value) (ap length (sym c.as_mut_slice.ensures.value) ∙ c.as_mut_slice.ensures.len) in
-    let cleared : IsClearedRow p rs (dense_of closed.columns c.args.row.now) c.as_slice.result.now =
-    subst (IsClearedRow p rs (dense_of closed.columns c.args.row.now)) (sym now) (subst (λ (row : List ℕ). IsClearedRow p rs row c.clear_reducible.new.row) dense c.clear_reducible.ensures) in
-    let left = row_left p c.modulus-modulus.ensures.field closed.columns c.requires.reducing.falling closed.reducers rs c.requires.reducing.reducers c.requires.entries c.args.row.now c.as_slice.result.now c.requires.on_columns cleared in
-    IfOk-weaker c.contested_entries.result (λ v. v.items ≡ contested_residues rs c.as_slice.result.now) (λ v. IsContestedRow p closed.columns closed.reducers c.args.row.now v.items)
-    (λ v is. subst (IsContestedRow p closed.columns closed.reducers c.args.row.now) (sym is) left) c.contested_entries.ensures
+    let now : row ≡ c.clear_reducible.new.row =
+    c.as_mut_slice-2.ensures.value ∙ written c.in_ok-dense.dense.len c.in_ok-dense.dense.items c.clear_reducible.new.row (c.clear_reducible.ensures.size ∙ ap length c.as_mut_slice.ensures.value) (ap length (sym c.as_mut_slice.ensures.value) ∙ c.as_mut_slice.ensures.len) in
+    let cleared : IsClearedRow p rs (dense_of closed.columns c.args.row.now) row =
+    subst (IsClearedRow p rs (dense_of closed.columns c.args.row.now)) (sym now) (subst (λ (start : List ℕ). IsClearedRow p rs start c.clear_reducible.new.row) dense c.clear_reducible.ensures) in
+    subst (IsContestedRow p closed.columns closed.reducers c.args.row.now) (sym c.in_ok-residues.ensures.residues)
+    (row_left p c.modulus-modulus.ensures.field closed.columns c.requires.reducing.falling closed.reducers rs c.requires.reducing.reducers c.requires.entries c.args.row.now row c.requires.on_columns cleared)
