@@ -92,10 +92,11 @@ pub(crate) fn clear_reducible(field: &Field, reducers: &[Option<Reducer>], row: 
     }
 }
 
-/// The entries at the columns without a reducer, where the row is 0 afterwards.
+/// The entries at the columns without a reducer, where the row is 0 afterwards. There is room for m from the start.
 pub(crate) fn take_contested(
     alloc: Global,
     reducers: &[Option<Reducer>],
+    m: usize,
     row: &mut [u32],
 ) -> Result<Vec<u32>, NoMemory>
     requires size { length row.old ≡ length reducers.now }
@@ -103,7 +104,7 @@ pub(crate) fn take_contested(
     ensures residues { IfOk result (λ residues. residues.items ≡ contested_residues reducers.now row.old) }
     ensures zeros { OnOk result (All (λ a. a ≡ 0) row.new) }
 {
-    let mut residues = Vec::new(alloc);
+    let mut residues = Vec::with_capacity(alloc, m)?;
     for (at, reducer) in reducers.iter().enumerate() {
         if reducer.is_none() {
             residues.push(row[at])?;

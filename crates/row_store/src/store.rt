@@ -145,7 +145,8 @@ fn reduced_row(
     let _terms = row.terms();
     let mut dense = dense_row(alloc, closed.columns(), buffer, row)?;
     clear_reducible(field, reducers, dense.as_mut_slice());
-    let residues = take_contested(alloc, reducers, dense.as_mut_slice())?;
+    let m = closed.contested().len();
+    let residues = take_contested(alloc, reducers, m, dense.as_mut_slice())?;
     buffer.put(dense);
     Ok(residues)
 }
