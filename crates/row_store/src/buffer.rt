@@ -22,8 +22,9 @@ impl Buffer {
     pub(crate) fn take(&mut self, alloc: Global, n: usize) -> Result<Vec<u32>, NoMemory>
         ensures { IfOk result (λ dense. dense.items ≡ replicate n 0) }
     {
-        if self.dense.len() == n {
-            return Ok(mem::replace(&mut self.dense, Vec::new(alloc)));
+        let dense = mem::replace(&mut self.dense, Vec::new(alloc));
+        if dense.len() == n {
+            return Ok(dense);
         }
         Ok(vec![in alloc; 0u32; n]?)
     }
