@@ -8,10 +8,12 @@ mod elements;
 mod matrix;
 mod relations;
 mod rows;
+mod seq_engine;
 mod sequential;
 mod terms;
 
 pub use account::account_of;
 pub use elements::elements_of;
 pub use matrix::{Matrix, matrix_of};
+pub use seq_engine::SeqEngine;
 pub use sequential::sequential_degree;

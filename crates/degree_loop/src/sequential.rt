@@ -5,8 +5,8 @@ ghost use Rattle.ideal_laws.specs.Basis.{IsReducedBasis};
 ghost use Rattle.ideal_laws.specs.Engine.{IsReducedUpto};
 ghost use Rattle.ideal_laws.specs.Limits.{AreLimits};
 ghost use Rattle.ideal_laws.specs.Quantities.{IsFirstPassing, IsQuantity, NonePasses};
+ghost use Rattle.degree_loop.specs.Accounts.{IsSeqAccount};
 ghost use Rattle.degree_loop.specs.Limits.{engine_limits};
-ghost use Rattle.degree_loop.specs.Matrix.{TellsMatrix};
 
 use crate::account::account_of;
 use crate::elements::elements_of;
@@ -38,7 +38,7 @@ pub fn sequential_degree<R: Threads + Sync>(
 
     ensures elements { IfOk result (λ report. IsReducedBasis field.now presentation.now.alphabet.weights presentation.now.relations d report.elements) }
     ensures few { IfOk result (λ report. length report.elements ≤ 16777216) }
-    ensures account { IfOk result (λ report. TellsMatrix field.now presentation.now.alphabet.weights presentation.now.relations below.now.elements d report.account × (report.account.calls ≡ [])) }
+    ensures account { IfOk result (λ report. IsSeqAccount field.now presentation.now.alphabet.weights presentation.now.relations below.now.elements d report.account) }
     ensures within { OnOk result (NonePasses (IsQuantity field.now presentation.now.alphabet.weights presentation.now.relations below.now d) (engine_limits limits.now)) }
 
     ensures limit { (kind : LimitKind) (degree value : ℕ) → result ≡ Err (EngineFault.Limit kind degree value)

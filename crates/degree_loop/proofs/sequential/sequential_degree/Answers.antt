@@ -33,7 +33,7 @@ returns-clause-account g c =
         reducers = matrix.closed.reducers;
         are_closed = h.are_closed;
         count = c.in_ok-account.ensures.rows ∙ count_rows _ _ _ _ _ _ _ h;
-        contested = c.in_ok-account.ensures.columns
+        contested = c.in_ok-account.ensures.columns;
       },
       c.in_ok-account.ensures.calls ∙ c.from_vec-calls.ensures ∙ c.new.ensures.items,
     )

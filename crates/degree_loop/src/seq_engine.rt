@@ -1,0 +1,45 @@
+ghost use Rattle.std.specs.Prelude.{◌≡◌};
+ghost use Rattle.ideal_laws.specs.Limits.{AreLimits};
+
+use crate::sequential::sequential_degree;
+use field_table::Field;
+use ideal_laws::{Basis, DegreeEngine, DegreeReport, EngineFault, Limits, Presentation};
+use std::alloc::Global;
+use std::thread::Threads;
+
+/// The matrix engine whose pivots one thread finds by elimination. It makes no calls.
+#[derive(Debug, Drop)]
+pub struct SeqEngine {
+    pub limits: Limits,
+    pub ghost are_limits: { AreLimits limits },
+}
+
+impl SeqEngine {
+    pub fn new(limits: Limits) -> SeqEngine
+        requires { AreLimits limits }
+        ensures { result.limits ≡ limits }
+    {
+        SeqEngine { limits }
+    }
+}
+
+impl DegreeEngine for SeqEngine {
+    ghost use Rattle.degree_loop.specs.Accounts.{IsSeqAccount};
+    ghost use Rattle.degree_loop.specs.Limits.{engine_limits};
+
+    ghost kinds = { λ engine. engine_limits engine.limits };
+
+    ghost may_account = { λ _ p given below d account. IsSeqAccount p given.alphabet.weights given.relations below.elements d account };
+
+    fn degree<R: Threads + Sync>(
+        &mut self,
+        rt: &R,
+        alloc: Global,
+        field: &Field,
+        presentation: &Presentation,
+        below: &Basis,
+        d: u32,
+    ) -> Result<DegreeReport, EngineFault> {
+        sequential_degree(rt, alloc, field, presentation, below, d, &self.limits)
+    }
+}
