@@ -4,3 +4,5 @@ pub mod DegreeClosure
 pub mod Listing
 pub mod Finished
 pub mod MatrixLimits
+pub mod Going
+pub mod ScheduledRuns

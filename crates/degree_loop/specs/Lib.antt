@@ -1,3 +1,4 @@
 pub mod Accounts
 pub mod Limits
 pub mod Matrix
+pub mod Schedule

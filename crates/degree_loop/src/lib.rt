@@ -8,6 +8,7 @@ mod elements;
 mod matrix;
 mod relations;
 mod rows;
+mod schedule;
 mod seq_engine;
 mod sequential;
 mod terms;
