@@ -6,3 +6,4 @@ pub mod Finished
 pub mod MatrixLimits
 pub mod Going
 pub mod ScheduledRuns
+pub mod CoreAccounts

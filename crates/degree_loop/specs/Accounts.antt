@@ -1,9 +1,37 @@
 -- What the account of a degree tells, engine by engine.
-use Rattle.std.specs.Prelude.{ℕ, ◌≡◌, List, []}
+use Rattle.std.specs.Prelude.{ℕ, ◌≡◌, List, [], max, min}
 use Rattle.free_poly.specs.declared.term.Term.{Term}
 use Rattle.ideal_laws.specs.declared.account.Account.{Account}
-use Rattle.degree_loop.specs.Matrix.{TellsMatrix}
+use Rattle.ideal_laws.specs.Quantities.{contested_words}
+use Rattle.symbolic_prep.specs.Closed.{ClosedColumns}
+use Rattle.back_reduce.specs.declared.problem.Problem.{Problem}
+use Rattle.pivot_core.specs.declared.event.Event.{Event}
+use Rattle.pivot_core.specs.History.{merged}
+use Rattle.pivot_core.specs.Laws.{logs_of}
+use Rattle.pivot_core.specs.Runs.{HasEnded, opening, state_after}
+use Rattle.degree_loop.specs.Matrix.{IsMatrix, TellsMatrix}
+use Rattle.degree_loop.specs.Schedule.{IsScheduled}
 
 -- that of the sequential engine: the matrix of the degree, and no calls
 abbrev pub IsSeqAccount : ℕ → List ℕ → List (List Term) → List (List Term) → ℕ → Account → Type 0
 IsSeqAccount p weights relations G d account = TellsMatrix p weights relations G d account × (account.calls ≡ [])
+
+-- the crew of a degree of n rows: the lesser of the workers and n, but at least 1
+abbrev pub crew_of : ℕ → ℕ → ℕ
+crew_of workers n = max 1 (min workers n)
+
+-- the matrix of the degree, and all calls of an ended run of the machine of claims on it, by rising stamp and then by rising seat
+pub record IsRunAccount (workers p : ℕ) (weights : List ℕ) (relations G : List (List Term)) (d : ℕ) (account : Account) : Type 0 where
+  pub closed : ClosedColumns
+  pub problem : Problem
+  pub matrix : IsMatrix p weights relations G d closed problem
+  pub count : account.rows ≡ problem.n
+  pub contested : account.columns ≡ contested_words closed.columns closed.reducers
+  pub events : List Event
+  pub ended : HasEnded problem (state_after problem (crew_of workers problem.n) events)
+  pub calls : account.calls ≡ merged (logs_of (state_after problem (crew_of workers problem.n) events))
+
+-- that of the engine of the one-thread machine: the generator that begins with the schedule has chosen the events
+pub record IsCoreAccount (workers schedule p : ℕ) (weights : List ℕ) (relations G : List (List Term)) (d : ℕ) (account : Account) : Type 0 where
+  pub run : IsRunAccount workers p weights relations G d account
+  pub scheduled : IsScheduled run.problem (opening run.problem (crew_of workers run.problem.n)) schedule run.events

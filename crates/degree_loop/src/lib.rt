@@ -4,6 +4,7 @@
 #![tactic(auto)]
 
 mod account;
+mod core_engine;
 mod elements;
 mod matrix;
 mod relations;
@@ -14,6 +15,7 @@ mod sequential;
 mod terms;
 
 pub use account::account_of;
+pub use core_engine::CoreEngine;
 pub use elements::elements_of;
 pub use matrix::{Matrix, matrix_of};
 pub use seq_engine::SeqEngine;

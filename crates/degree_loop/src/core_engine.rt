@@ -1,0 +1,99 @@
+ghost use Rattle.std.specs.Prelude.{◌≡◌, ◌≤◌, IfOk};
+ghost use Rattle.ideal_laws.specs.Limits.{AreLimits};
+ghost use Rattle.pivot_core.specs.History.{merged};
+ghost use Rattle.degree_loop.specs.Accounts.{crew_of};
+
+use crate::account::account_of;
+use crate::elements::elements_of;
+use crate::matrix::{Matrix, matrix_of};
+use crate::schedule::scheduled_pivots;
+use field_table::Field;
+use ideal_laws::{Basis, Call, DegreeEngine, DegreeReport, EngineFault, Limits, Presentation};
+use pivot_core::{CorePivots, merge};
+use std::alloc::Global;
+use std::thread::Threads;
+use words::{Items, NoMemory};
+
+/// The matrix engine whose pivots the machine of claims finds on one thread, where a generator chooses the seat of each
+/// step. In each degree it begins with `schedule`.
+#[derive(Debug, Drop)]
+pub struct CoreEngine {
+    pub limits: Limits,
+    pub workers: u32,
+    pub schedule: u32,
+    pub ghost are_limits: { AreLimits limits },
+    pub ghost some: { 1 ≤ workers },
+    pub ghost few: { workers ≤ 64 },
+}
+
+impl CoreEngine {
+    pub fn new(limits: Limits, workers: u32, schedule: u32) -> CoreEngine
+        requires limits { AreLimits limits }
+        requires some { 1 ≤ workers }
+        requires few { workers ≤ 64 }
+        ensures limits { result.limits ≡ limits }
+        ensures workers { result.workers ≡ workers }
+        ensures schedule { result.schedule ≡ schedule }
+    {
+        CoreEngine {
+            limits,
+            workers,
+            schedule,
+        }
+    }
+}
+
+impl DegreeEngine for CoreEngine {
+    ghost use Rattle.degree_loop.specs.Accounts.{IsCoreAccount};
+    ghost use Rattle.degree_loop.specs.Limits.{engine_limits};
+
+    ghost kinds = { λ engine. engine_limits engine.limits };
+
+    ghost may_account = { λ engine p given below d account. IsCoreAccount engine.workers engine.schedule p given.alphabet.weights given.relations below.elements d account };
+
+    fn degree<R: Threads + Sync>(
+        &mut self,
+        rt: &R,
+        alloc: Global,
+        field: &Field,
+        presentation: &Presentation,
+        below: &Basis,
+        d: u32,
+    ) -> Result<DegreeReport, EngineFault> {
+        let matrix = matrix_of(rt, alloc, field, presentation, below, d, &self.limits)?;
+        let Matrix { closed, problem } = matrix;
+        let rows = problem.n;
+        let crew = crew(self.workers, rows);
+        let pivots = scheduled_pivots(alloc, field, problem, crew, self.schedule)?;
+        let calls = calls_of(alloc, &pivots)?;
+        let account = account_of(alloc, &closed, rows, calls)?;
+        let elements = elements_of(
+            rt,
+            alloc,
+            field,
+            presentation,
+            below,
+            d,
+            &closed,
+            &pivots,
+            self.limits.terms,
+        )?;
+        Ok(DegreeReport { elements, account })
+    }
+}
+
+/// The crew of a degree of so many rows.
+fn crew(workers: u32, rows: u32) -> u32
+    ensures { result ≡ crew_of workers rows }
+{
+    workers.min(rows).max(1)
+}
+
+/// All calls, by rising stamp and then by rising seat.
+fn calls_of(alloc: Global, pivots: &CorePivots) -> Result<Items<Call>, NoMemory>
+    ensures { IfOk result (λ calls. calls ≡ merged pivots.now.logs) }
+{
+    let history = merge(alloc, pivots.logs())?;
+    let calls = Vec::from_slice(alloc, history.calls())?;
+    Ok(Items::from_vec(calls))
+}
