@@ -7,3 +7,7 @@ pub mod MatrixLimits
 pub mod Going
 pub mod ScheduledRuns
 pub mod CoreAccounts
+pub mod LeadingColumns
+pub mod PivotLeads
+pub mod WonCalls
+pub mod ClaimHistories

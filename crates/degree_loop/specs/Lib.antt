@@ -1,4 +1,5 @@
 pub mod Accounts
+pub mod ClaimHistory
 pub mod Limits
 pub mod Matrix
 pub mod Schedule

@@ -6,6 +6,7 @@
 mod account;
 mod core_engine;
 mod elements;
+mod laws;
 mod matrix;
 mod relations;
 mod rows;
@@ -17,6 +18,7 @@ mod terms;
 pub use account::account_of;
 pub use core_engine::CoreEngine;
 pub use elements::elements_of;
+pub use laws::claim_history_law;
 pub use matrix::{Matrix, matrix_of};
 pub use seq_engine::SeqEngine;
 pub use sequential::sequential_degree;
