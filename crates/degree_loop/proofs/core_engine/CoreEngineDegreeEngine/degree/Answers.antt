@@ -1,27 +1,22 @@
-use Rattle.std.proofs.Common.{[], ◌∷◌, Err, sym, ap, ◌∙◌}
-use Rattle.std.proofs.lemmas.Result.{err_from_is_err_and}
+use Rattle.std.proofs.Common.{[], ◌∷◌, refl, ◌∙◌}
 use Rattle.ideal_laws.specs.declared.limits.LimitKind.TheVariants.{Terms}
 use Rattle.ideal_laws.specs.Quantities.{IsQuantity}
 use Rattle.degree_loop.specs.Limits.{matrix_limits}
-use Rattle.degree_loop.proofs.Asked.{first_before, first_behind, one_fault}
+use Rattle.degree_loop.proofs.Asked.{handed_behind, handed_first}
 use Rattle.degree_loop.proofs.CoreAccounts.{core_account}
 use Rattle.degree_loop.proofs.core_engine.CoreEngineDegreeEngine.degree.Goals as goal
 
 pub returns-in_err-matrix-clause-limit : goal.returns-in_err-matrix-clause-limit
-returns-in_err-matrix-clause-limit g c = λ kind degree value e.
+returns-in_err-matrix-clause-limit g c =
     let Q = IsQuantity c.args.field.now c.args.presentation.now.alphabet.weights c.args.presentation.now.relations c.args.below.now c.args.d in
     let limits = c.args.self.now.limits in
-    let p = err_from_is_err_and c.from_residual.result c.from_residual.ensures.1 in
-    let h = c.in_err-matrix.ensures.limit kind degree value (ap Err (sym p.2 ∙ one_fault c.from_residual.result _ _ p.1 e)) in
-    (h.0, first_before Q (matrix_limits limits) ((Terms, limits.terms) ∷ []) kind value h.1)
+    handed_first Q c.args.d (matrix_limits limits) ((Terms, limits.terms) ∷ []) _ _ refl c.from_residual.result c.from_residual.ensures.1 c.in_err-matrix.ensures.limit
 
 pub returns-in_err-elements-clause-limit : goal.returns-in_err-elements-clause-limit
-returns-in_err-elements-clause-limit g c = λ kind degree value e.
+returns-in_err-elements-clause-limit g c =
     let Q = IsQuantity c.args.field.now c.args.presentation.now.alphabet.weights c.args.presentation.now.relations c.args.below.now c.args.d in
     let limits = c.args.self.now.limits in
-    let p = err_from_is_err_and c.from_residual-in_err-elements.result c.from_residual-in_err-elements.ensures.1 in
-    let h = c.in_err-elements.ensures.limit kind degree value (ap Err (sym p.2 ∙ one_fault c.from_residual-in_err-elements.result _ _ p.1 e)) in
-    (h.0, first_behind Q (matrix_limits limits) ((Terms, limits.terms) ∷ []) kind value c.in_ok-matrix.ensures.within h.1)
+    handed_behind Q c.args.d (matrix_limits limits) ((Terms, limits.terms) ∷ []) _ _ refl c.from_residual-in_err-elements.result c.from_residual-in_err-elements.ensures.1 c.in_ok-matrix.ensures.within c.in_err-elements.ensures.limit
 
 pub returns-clause-account : goal.returns-clause-account
 returns-clause-account g c =
