@@ -5,6 +5,7 @@ pub mod Listing
 pub mod Finished
 pub mod MatrixLimits
 pub mod Going
+pub mod Schedules
 pub mod ScheduledRuns
 pub mod CoreAccounts
 pub mod LeadingColumns

@@ -7,7 +7,7 @@ use Rattle.pivot_core.specs.Finished.{Finished}
 use Rattle.pivot_core.specs.Laws.{logs_of}
 use Rattle.pivot_core.specs.Phases.{is_ended}
 use Rattle.pivot_core.specs.Steps.{is_next}
-use Rattle.pivot_core.specs.Runs.{HasEnded, State, after_event, opening, state_after, view_at}
+use Rattle.pivot_core.specs.Runs.{HasEnded, State, after_event, after_events, opening, state_after, view_at}
 
 -- the number after s
 abbrev pub next_number : ℕ → ℕ
@@ -34,3 +34,7 @@ pub record IsScheduledRun (problem : Problem) (crew number : ℕ) (f : Finished)
   pub events : List Event
   pub scheduled : IsScheduled problem (opening problem crew) number events
   pub logs : f.logs ≡ logs_of (state_after problem crew events)
+
+-- a schedule leads to one state
+abbrev pub LeadsToOneState : Type 0
+LeadsToOneState = (problem : Problem) (s : State) (number : ℕ) (events others : List Event) → IsScheduled problem s number events → IsScheduled problem s number others → after_events problem s events ≡ after_events problem s others

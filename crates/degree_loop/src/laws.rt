@@ -1,4 +1,5 @@
 ghost use Rattle.degree_loop.specs.ClaimHistory.{RunAccountsTell};
+ghost use Rattle.degree_loop.specs.Schedule.{LeadsToOneState};
 
 use back_reduce::echelon_law;
 use pivot_core::claim_laws;
@@ -13,3 +14,8 @@ pub fn claim_history_law()
     echelon_law();
     rows_law();
 }
+
+/// The generator leaves no choice: all events that it chooses from a state on lead to one state.
+pub fn schedule_law()
+    ensures { LeadsToOneState }
+{}

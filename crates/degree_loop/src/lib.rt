@@ -18,7 +18,7 @@ mod terms;
 pub use account::account_of;
 pub use core_engine::CoreEngine;
 pub use elements::elements_of;
-pub use laws::claim_history_law;
+pub use laws::{claim_history_law, schedule_law};
 pub use matrix::{Matrix, matrix_of};
 pub use seq_engine::SeqEngine;
 pub use sequential::sequential_degree;
