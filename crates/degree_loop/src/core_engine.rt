@@ -65,7 +65,7 @@ impl DegreeEngine for CoreEngine {
         let rows = problem.n;
         let crew = crew(self.workers, rows);
         let pivots = scheduled_pivots(alloc, field, problem, crew, self.schedule)?;
-        let calls = calls_of(alloc, &pivots)?;
+        let calls = merged_calls(alloc, &pivots)?;
         let account = account_of(alloc, &closed, rows, calls)?;
         let elements = elements_of(
             rt,
@@ -90,7 +90,7 @@ fn crew(workers: u32, rows: u32) -> u32
 }
 
 /// All calls, by rising stamp and then by rising seat.
-fn calls_of(alloc: Global, pivots: &CorePivots) -> Result<Items<Call>, NoMemory>
+fn merged_calls(alloc: Global, pivots: &CorePivots) -> Result<Items<Call>, NoMemory>
     ensures { IfOk result (λ calls. calls ≡ merged pivots.now.logs) }
 {
     let history = merge(alloc, pivots.logs())?;
