@@ -12,7 +12,6 @@ use Rattle.ideal_laws.specs.Laws.{IsSetting}
 use Rattle.relation_reader.specs.declared.fault.InputFault.{InputFault}
 use Rattle.relation_reader.specs.Meaning.{FirstFault, HasOneReading, Reads, reading, refused}
 use Rattle.command_words.specs.declared.job.Command.TheVariants.{Gb}
-use Rattle.command_words.specs.declared.job.EngineKind.TheVariants.{Plain}
 use Rattle.command_words.specs.declared.job.Job.{Job}
 use Rattle.command_words.specs.declared.job.UsageFault.{UsageFault}
 use Rattle.command_words.specs.JobOf.{HasOneAnswer, IsJob, IsUsageFault}
@@ -23,7 +22,7 @@ use Rattle.bergman_cli.specs.declared.status.Status.{Status}
 use Rattle.bergman_cli.specs.declared.status.Status.TheVariants.{Done, Usage, Input, Limit, Unbuilt, ReadFault, WriteFault, NoMemory}
 use Rattle.bergman_cli.specs.Gains.{HasPrinted, HasPrintedPart, HasPrintedSome}
 use Rattle.bergman_cli.specs.Progress.{IsReach, IsStoppedBy, Reach, Task, whole}
-use Rattle.bergman_cli.specs.Run.{Completes, HasPrintedUpto, IsEnd, IsInput, IsJobEnd, IsOtherCommand, IsOtherEngine, IsPlainJob, IsRefusedInput, IsTaskEnd, OfPlainJob, OfReading, RefusesText, StopsThere, task_of_job}
+use Rattle.bergman_cli.specs.Run.{Completes, HasPrintedUpto, IsBuilt, IsBuiltJob, IsEnd, IsInput, IsJobEnd, IsOtherCommand, IsUnbuiltEngine, IsRefusedInput, IsTaskEnd, OfBuiltJob, OfReading, RefusesText, StopsThere, task_of_job}
 use Rattle.bergman_cli.specs.Status.{PrintsNothing, ReadsNothing}
 use Rattle.bergman_cli.proofs.Jobs.{listed, listed_some, no_fault, one_fault, one_job}
 use Rattle.bergman_cli.proofs.Reaches.{one_stop, whole_is_not_stopped}
@@ -88,7 +87,7 @@ module _ (job : Job) (left now : Option (List ℕ)) (b a : ℕ) (held more : Opt
   job_too_long (inr h) = absurd h.holds
 
 -- a status of a job is one of the run
-pub end_of_job : (words : List (List ℕ)) (left now : Option (List ℕ)) (b a : ℕ) (held more : Option (List ℕ)) (room : Option ℕ) (before after : ℕ) (status : Status) (job : Job) → IsPlainJob words job
+pub end_of_job : (words : List (List ℕ)) (left now : Option (List ℕ)) (b a : ℕ) (held more : Option (List ℕ)) (room : Option ℕ) (before after : ℕ) (status : Status) (job : Job) → IsBuiltJob words job
     → IsJobEnd job left now b a held more room before after status → IsEnd words left now b a held more room before after status
 end_of_job words left now b a held more room before after Done job is h = (job, is, h)
 end_of_job words left now b a held more room before after (Usage fault) job is h = absurd (job_reads job left now b a held more room before after (Usage fault) h tt)
@@ -135,25 +134,25 @@ module _ (words : List (List ℕ)) (left now : Option (List ℕ)) (b a : ℕ) (h
   JobEnds job = IsJobEnd job left now b a held more room before after
 
   module _ (status : Status) (end : End status) where
-    pub end_done : status ≡ Done → OfPlainJob words (λ job. OfReading job left now (λ task. HasPrinted task whole held more))
+    pub end_done : status ≡ Done → OfBuiltJob words (λ job. OfReading job left now (λ task. HasPrinted task whole held more))
     end_done is = let e = subst End is end in (e.0, e.1, job_done e.0 left now b a held more room before after e.2)
 
-    pub end_read : status ≡ ReadFault → OfPlainJob words (λ _. Rose b a)
+    pub end_read : status ≡ ReadFault → OfBuiltJob words (λ _. Rose b a)
     end_read is = let e = subst End is end in (e.0, e.1, job_read_fault e.0 left now b a held more room before after e.2)
 
-    pub end_text : (fault : InputFault) → status ≡ Input (Text fault) → OfPlainJob words (λ job. IsRefusedInput job left now fault)
+    pub end_text : (fault : InputFault) → status ≡ Input (Text fault) → OfBuiltJob words (λ job. IsRefusedInput job left now fault)
     end_text fault is = let e = subst End is end in (e.0, e.1, job_text e.0 left now b a held more room before after fault e.2)
 
-    pub end_limit : (kind : LimitKind) (d value : ℕ) → status ≡ Limit kind d value → OfPlainJob words (λ job. OfReading job left now (λ task. HasPrintedUpto task held more (λ reach. IsStoppedBy reach kind d value)))
+    pub end_limit : (kind : LimitKind) (d value : ℕ) → status ≡ Limit kind d value → OfBuiltJob words (λ job. OfReading job left now (λ task. HasPrintedUpto task held more (λ reach. IsStoppedBy reach kind d value)))
     end_limit kind d value is = let e = subst End is end in (e.0, e.1, job_limit e.0 left now b a held more room before after kind d value e.2)
 
     pub end_write : status ≡ WriteFault → Rose before after
     end_write is = let e = subst End is end in job_write e.0 left now b a held more room before after e.2
 
-    pub end_part : status ≡ WriteFault → OfPlainJob words (λ job. OfReading job left now (λ task. HasPrintedPart task held more room))
+    pub end_part : status ≡ WriteFault → OfBuiltJob words (λ job. OfReading job left now (λ task. HasPrintedPart task held more room))
     end_part is = let e = subst End is end in (e.0, e.1, job_part e.0 left now b a held more room before after e.2)
 
-    pub end_memory : status ≡ NoMemory → Appends held more [] ⊎ OfPlainJob words (λ job. OfReading job left now (λ task. HasPrintedSome task held more))
+    pub end_memory : status ≡ NoMemory → Appends held more [] ⊎ OfBuiltJob words (λ job. OfReading job left now (λ task. HasPrintedSome task held more))
     end_memory is =
         let e = subst End is end in
         elim (job_memory e.0 left now b a held more room before after e.2) [
@@ -177,9 +176,9 @@ module _ (words : List (List ℕ)) (left now : Option (List ℕ)) (b a : ℕ) (h
     pub usage_exactly : (fault : UsageFault) (status : Status) → End status → (status ≡ Usage fault) ↔ IsUsageFault words fault
     usage_exactly fault status end = (λ is. subst End is end, λ h. usage_only fault status h end)
 
-    other_job : (j k : Job) → IsJob words j → IsPlainJob words k → (j.command ≢ Gb) ⊎ (j.engine ≢ Plain) → ⊥
+    other_job : (j k : Job) → IsJob words j → IsBuiltJob words k → (j.command ≢ Gb) ⊎ (IsBuilt j.engine → ⊥) → ⊥
     other_job j k h is (inl other) = other (ap (λ (job : Job). job.command) (one_job words one j k h is.is_job) ∙ is.command)
-    other_job j k h is (inr other) = other (ap (λ (job : Job). job.engine) (one_job words one j k h is.is_job) ∙ is.engine)
+    other_job j k h is (inr other) = other (subst (λ (job : Job). IsBuilt job.engine) (sym (one_job words one j k h is.is_job)) is.engine)
 
     command_only : (status : Status) → IsOtherCommand words → End status → status ≡ Unbuilt parts.Command
     command_only (Unbuilt parts.Command) h end = refl
@@ -195,7 +194,7 @@ module _ (words : List (List ℕ)) (left now : Option (List ℕ)) (b a : ℕ) (h
     pub command_exactly : (status : Status) → End status → (status ≡ Unbuilt parts.Command) ↔ IsOtherCommand words
     command_exactly status end = (λ is. subst End is end, λ h. command_only status h end)
 
-    engine_only : (status : Status) → IsOtherEngine words → End status → status ≡ Unbuilt parts.Engine
+    engine_only : (status : Status) → IsUnbuiltEngine words → End status → status ≡ Unbuilt parts.Engine
     engine_only (Unbuilt parts.Engine) h end = refl
     engine_only (Unbuilt parts.Command) h end = absurd (end.2 (ap (λ (job : Job). job.command) (one_job words one end.0 h.0 end.1 h.1) ∙ h.2))
     engine_only (Usage fault) h end = absurd (no_fault words one h.0 fault h.1 end)
@@ -206,14 +205,14 @@ module _ (words : List (List ℕ)) (left now : Option (List ℕ)) (b a : ℕ) (h
     engine_only WriteFault h end = absurd (other_job h.0 end.0 h.1 end.1 (inr h.3))
     engine_only NoMemory h end = absurd (other_job h.0 end.0 h.1 end.1 (inr h.3))
 
-    pub engine_exactly : (status : Status) → End status → (status ≡ Unbuilt parts.Engine) ↔ IsOtherEngine words
+    pub engine_exactly : (status : Status) → End status → (status ≡ Unbuilt parts.Engine) ↔ IsUnbuiltEngine words
     engine_exactly status end = (λ is. subst End is end, λ h. engine_only status h end)
 
     -- a run of this job
-    same_job : (job : Job) (status : Status) → IsPlainJob words job → OfPlainJob words (λ own. JobEnds own status) → JobEnds job status
+    same_job : (job : Job) (status : Status) → IsBuiltJob words job → OfBuiltJob words (λ own. JobEnds own status) → JobEnds job status
     same_job job status is h = subst (λ (j : Job). JobEnds j status) (one_job words one h.0 job h.1.is_job is.is_job) h.2
 
-    module _ (law : HasOneReading) (job : Job) (text : List ℕ) (is : IsPlainJob words job) (told : left ≡ Some text) (short : length text ≤ 1048576) (read : Rose b a → ⊥) where
+    module _ (law : HasOneReading) (job : Job) (text : List ℕ) (is : IsBuiltJob words job) (told : left ≡ Some text) (short : length text ≤ 1048576) (read : Rose b a → ⊥) where
       some : 0 < job.modulus
       some = listed_some job.modulus (listed words job is.is_job is.command)
 

@@ -8,10 +8,12 @@ use Rattle.ideal_laws.specs.declared.limits.LimitKind.{LimitKind}
 use Rattle.ideal_laws.specs.declared.limits.LimitKind.TheVariants.{PlainWords}
 use Rattle.ideal_laws.specs.Laws.{IsSetting}
 use Rattle.ideal_laws.specs.Limits.{standard_limits}
+use Rattle.degree_loop.specs.Limits.{engine_limits}
 use Rattle.relation_reader.specs.declared.fault.InputFault.{InputFault}
 use Rattle.relation_reader.specs.Meaning.{FirstFault, Reads}
 use Rattle.command_words.specs.declared.job.Command.TheVariants.{Gb}
-use Rattle.command_words.specs.declared.job.EngineKind.TheVariants.{Plain}
+use Rattle.command_words.specs.declared.job.EngineKind.{EngineKind}
+use Rattle.command_words.specs.declared.job.EngineKind.TheVariants.{Race, Core, Seq, Plain}
 use Rattle.command_words.specs.declared.job.Job.{Job}
 use Rattle.command_words.specs.declared.job.Show.{Show}
 use Rattle.command_words.specs.declared.job.Show.TheVariants.{Basis, Series, Both}
@@ -35,36 +37,50 @@ shows_series Basis = false
 shows_series Series = true
 shows_series Both = true
 
--- the task of a job on a text with these letters and relations, with the limit of the plain engine
+-- an engine that is built
+abbrev pub IsBuilt : EngineKind → Type 0
+IsBuilt Race = ⊥
+IsBuilt Core = ⊥
+IsBuilt Seq = Unit {0}
+IsBuilt Plain = Unit {0}
+
+-- the limits that an engine asks, in their order
+abbrev pub limits_of : EngineKind → List (LimitKind × ℕ)
+limits_of Race = engine_limits standard_limits
+limits_of Core = engine_limits standard_limits
+limits_of Seq = engine_limits standard_limits
+limits_of Plain = (PlainWords, standard_limits.plain_words) ∷ []
+
+-- the task of a job on a text with these letters and relations
 abbrev pub task_of_job : Job → Letters → List (List Term) → Task
 task_of_job job letters relations = record {
   modulus = job.modulus;
   letters = letters;
   relations = relations;
-  limits = (PlainWords, standard_limits.plain_words) ∷ [];
+  limits = limits_of job.engine;
   normal_words = standard_limits.normal_words;
   bound = job.bound;
   shows_basis = shows_basis job.show;
   shows_series = shows_series job.show;
 }
 
--- the words are a job with the command `gb` and the plain engine
-pub record IsPlainJob (words : List (List ℕ)) (job : Job) : Type 0 where
+-- the words are a job with the command `gb` and an engine that is built
+pub record IsBuiltJob (words : List (List ℕ)) (job : Job) : Type 0 where
   pub is_job : IsJob words job
   pub command : job.command ≡ Gb
-  pub engine : job.engine ≡ Plain
+  pub engine : IsBuilt job.engine
 
 -- the words are such a job, of which something holds
-abbrev pub OfPlainJob : List (List ℕ) → (Job → Type 0) → Type 0
-OfPlainJob words Holds = (job : Job) × IsPlainJob words job × Holds job
+abbrev pub OfBuiltJob : List (List ℕ) → (Job → Type 0) → Type 0
+OfBuiltJob words Holds = (job : Job) × IsBuiltJob words job × Holds job
 
 -- the words are a job with another command
 abbrev pub IsOtherCommand : List (List ℕ) → Type 0
 IsOtherCommand words = (job : Job) × IsJob words job × (job.command ≢ Gb)
 
--- the words are a job with the command `gb` and another engine
-abbrev pub IsOtherEngine : List (List ℕ) → Type 0
-IsOtherEngine words = (job : Job) × IsJob words job × (job.command ≡ Gb) × (job.engine ≢ Plain)
+-- the words are a job with the command `gb` and an engine that is not built
+abbrev pub IsUnbuiltEngine : List (List ℕ) → Type 0
+IsUnbuiltEngine words = (job : Job) × IsJob words job × (job.command ≡ Gb) × (IsBuilt job.engine → ⊥)
 
 -- this is the text: all that the source had left, at most 1,048,576 bytes
 pub record IsInput (left now : Option (List ℕ)) (text : List ℕ) : Type 0 where
@@ -124,24 +140,24 @@ IsJobEnd job left now b a held more room before after status =
 abbrev pub IsEnd : List (List ℕ) → Option (List ℕ) → Option (List ℕ) → ℕ → ℕ → Option (List ℕ) → Option (List ℕ) → Option ℕ → ℕ → ℕ → Status → Type 0
 IsEnd words left now b a held more room before after (Usage fault) = IsUsageFault words fault
 IsEnd words left now b a held more room before after (Unbuilt parts.Command) = IsOtherCommand words
-IsEnd words left now b a held more room before after (Unbuilt parts.Engine) = IsOtherEngine words
-IsEnd words left now b a held more room before after status = OfPlainJob words (λ job. IsJobEnd job left now b a held more room before after status)
+IsEnd words left now b a held more room before after (Unbuilt parts.Engine) = IsUnbuiltEngine words
+IsEnd words left now b a held more room before after status = OfBuiltJob words (λ job. IsJobEnd job left now b a held more room before after status)
 
 -- where the bytes are told and have a reading, no limit is passed, and no read or write failed, a run ends with its text or for want of memory
 abbrev pub Completes : List (List ℕ) → Option (List ℕ) → ℕ → ℕ → ℕ → ℕ → Status → Type 0
 Completes words left b a before after status =
-    (job : Job) (text : List ℕ) (letters : Letters) (relations : List (List Term)) → IsPlainJob words job → left ≡ Some text → length text ≤ 1048576 → Reads text job.modulus letters relations
+    (job : Job) (text : List ℕ) (letters : Letters) (relations : List (List Term)) → IsBuiltJob words job → left ≡ Some text → length text ≤ 1048576 → Reads text job.modulus letters relations
     → IsReach (task_of_job job letters relations) whole → (Rose b a → ⊥) → (Rose before after → ⊥) → (status ≡ Done) ⊎ (status ≡ NoMemory)
 
 -- where the bytes are told and have a first fault, and no read failed, a run ends with this fault or for want of memory
 abbrev pub RefusesText : List (List ℕ) → Option (List ℕ) → ℕ → ℕ → Status → Type 0
 RefusesText words left b a status =
-    (job : Job) (text : List ℕ) (fault : InputFault) → IsPlainJob words job → left ≡ Some text → length text ≤ 1048576 → FirstFault text job.modulus fault → (Rose b a → ⊥)
+    (job : Job) (text : List ℕ) (fault : InputFault) → IsBuiltJob words job → left ≡ Some text → length text ≤ 1048576 → FirstFault text job.modulus fault → (Rose b a → ⊥)
     → (status ≡ Input (Text fault)) ⊎ (status ≡ NoMemory)
 
 -- where the bytes are told and have a reading, a limit stops the task, and no read failed, a run ends with this limit, with a failed write or for want of memory
 abbrev pub StopsThere : List (List ℕ) → Option (List ℕ) → ℕ → ℕ → Status → Type 0
 StopsThere words left b a status =
-    (job : Job) (text : List ℕ) (letters : Letters) (relations : List (List Term)) (reach : Reach) (kind : LimitKind) (d value : ℕ) → IsPlainJob words job → left ≡ Some text → length text ≤ 1048576
+    (job : Job) (text : List ℕ) (letters : Letters) (relations : List (List Term)) (reach : Reach) (kind : LimitKind) (d value : ℕ) → IsBuiltJob words job → left ≡ Some text → length text ≤ 1048576
     → Reads text job.modulus letters relations → IsReach (task_of_job job letters relations) reach → IsStoppedBy reach kind d value → (Rose b a → ⊥)
     → (status ≡ Limit kind d value) ⊎ ((status ≡ WriteFault) ⊎ (status ≡ NoMemory))

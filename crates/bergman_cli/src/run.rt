@@ -1,4 +1,4 @@
-ghost use Rattle.std.specs.Prelude.{◌≡◌, ◌≢◌, ◌↔◌, ◌⊎◌, ◌<◌, ◌≤◌, ◌^◌, ℕ, List, [], All, IfErr, IfOk, MatchResult, map, string_bytes};
+ghost use Rattle.std.specs.Prelude.{◌≡◌, ◌↔◌, ◌⊎◌, ◌<◌, ◌≤◌, ◌^◌, ℕ, List, [], All, IfErr, IfOk, MatchResult, map, string_bytes};
 ghost use Rattle.std.specs.Io.KnownBytes.{Appends};
 ghost use Rattle.field_table.specs.Residues.{IsFieldModulus};
 ghost use Rattle.free_poly.specs.Terms.{HasResidues};
@@ -12,7 +12,7 @@ ghost use Rattle.command_words.specs.JobOf.{IsJob, IsUsageFault};
 ghost use Rattle.bergman_cli.specs.Gains.{GainsSome, HasPrinted, HasPrintedPart, HasPrintedSome};
 ghost use Rattle.bergman_cli.specs.Lines.{fault_line};
 ghost use Rattle.bergman_cli.specs.Progress.{IsStoppedBy, whole};
-ghost use Rattle.bergman_cli.specs.Run.{Completes, HasPrintedUpto, IsEnd, IsInputEnd, IsJobEnd, IsOtherCommand, IsOtherEngine, IsRefusedInput, IsTaken, IsTaskEnd, OfPlainJob, OfReading, ReadsInput, RefusesText, StopsThere, shows_basis, shows_series, task_of_job};
+ghost use Rattle.bergman_cli.specs.Run.{Completes, HasPrintedUpto, IsEnd, IsInputEnd, IsJobEnd, IsOtherCommand, IsUnbuiltEngine, IsRefusedInput, IsTaken, IsTaskEnd, OfBuiltJob, OfReading, ReadsInput, RefusesText, StopsThere, limits_of, shows_basis, shows_series, task_of_job};
 ghost use Rattle.bergman_cli.specs.Status.{PrintsNothing, ReadsNothing};
 
 use crate::lines::fault_line;
@@ -20,8 +20,9 @@ use crate::print::{Asked, PrintFault, print_job};
 use crate::status::{InputProblem, Part, Status};
 use bg_io::{Gate, ReadAllFault, Sink, Source, read_all, write_all};
 use command_words::{Command, EngineKind, Job, Show, read_words, words_law};
+use degree_loop::SeqEngine;
 use field_table::{Field, listed_moduli_law};
-use ideal_laws::{Limits, Presentation, setting_law};
+use ideal_laws::{DegreeEngine, Limits, Presentation, setting_law};
 use plain_engine::PlainEngine;
 use relation_reader::{ReaderFault, read, reading_laws};
 use std::alloc::Global;
@@ -41,24 +42,24 @@ pub fn bergman<R: Threads + Sync, S: Source, K: Sink, E: Sink, G: Gate>(
     err: &mut E,
     gate: &G,
 ) -> Status
-    ensures done { result ≡ Status.Done → OfPlainJob (map string_bytes words.now) (λ job. OfReading job (S.left source.old) (S.left source.new) (λ task. HasPrinted task whole (K.held out.old) (K.held out.new))) }
+    ensures done { result ≡ Status.Done → OfBuiltJob (map string_bytes words.now) (λ job. OfReading job (S.left source.old) (S.left source.new) (λ task. HasPrinted task whole (K.held out.old) (K.held out.new))) }
 
     // Each other status comes only for its cause, and of what words and source decide exactly there.
     ensures usage { (fault : UsageFault) → (result ≡ Status.Usage fault) ↔ IsUsageFault (map string_bytes words.now) fault }
     ensures command { (result ≡ Status.Unbuilt Part.Command) ↔ IsOtherCommand (map string_bytes words.now) }
-    ensures engine { (result ≡ Status.Unbuilt Part.Engine) ↔ IsOtherEngine (map string_bytes words.now) }
+    ensures engine { (result ≡ Status.Unbuilt Part.Engine) ↔ IsUnbuiltEngine (map string_bytes words.now) }
     ensures unread { ReadsNothing result → source.new ≡ source.old }
-    ensures read { result ≡ Status.ReadFault → OfPlainJob (map string_bytes words.now) (λ _. Rose (S.faults source.old) (S.faults source.new)) }
+    ensures read { result ≡ Status.ReadFault → OfBuiltJob (map string_bytes words.now) (λ _. Rose (S.faults source.old) (S.faults source.new)) }
     ensures taken { IsTaken (S.left source.old) (S.left source.new) result }
     ensures text { (fault : InputFault) → result ≡ Status.Input (InputProblem.Text fault)
-        → OfPlainJob (map string_bytes words.now) (λ job. IsRefusedInput job (S.left source.old) (S.left source.new) fault) }
+        → OfBuiltJob (map string_bytes words.now) (λ job. IsRefusedInput job (S.left source.old) (S.left source.new) fault) }
     ensures limit { (kind : LimitKind) (d value : ℕ) → result ≡ Status.Limit kind d value
-        → OfPlainJob (map string_bytes words.now) (λ job. OfReading job (S.left source.old) (S.left source.new) (λ task. HasPrintedUpto task (K.held out.old) (K.held out.new) (λ reach. IsStoppedBy reach kind d value))) }
+        → OfBuiltJob (map string_bytes words.now) (λ job. OfReading job (S.left source.old) (S.left source.new) (λ task. HasPrintedUpto task (K.held out.old) (K.held out.new) (λ reach. IsStoppedBy reach kind d value))) }
     ensures write { result ≡ Status.WriteFault → Rose (K.faults out.old) (K.faults out.new) }
     ensures part { result ≡ Status.WriteFault
-        → OfPlainJob (map string_bytes words.now) (λ job. OfReading job (S.left source.old) (S.left source.new) (λ task. HasPrintedPart task (K.held out.old) (K.held out.new) (K.room out.old))) }
+        → OfBuiltJob (map string_bytes words.now) (λ job. OfReading job (S.left source.old) (S.left source.new) (λ task. HasPrintedPart task (K.held out.old) (K.held out.new) (K.room out.old))) }
     ensures memory { result ≡ Status.NoMemory → Appends (K.held out.old) (K.held out.new) []
-        ⊎ OfPlainJob (map string_bytes words.now) (λ job. OfReading job (S.left source.old) (S.left source.new) (λ task. HasPrintedSome task (K.held out.old) (K.held out.new))) }
+        ⊎ OfBuiltJob (map string_bytes words.now) (λ job. OfReading job (S.left source.old) (S.left source.new) (λ task. HasPrintedSome task (K.held out.old) (K.held out.new))) }
     ensures nothing { PrintsNothing result → out.new ≡ out.old }
 
     // The line of the status is told, and a fault of it changes no status.
@@ -107,21 +108,30 @@ fn run_words<R: Threads + Sync, S: Source, K: Sink>(
             part: Part::Command,
         };
     }
-    if job.engine != EngineKind::Plain {
-        return Status::Unbuilt { part: Part::Engine };
-    }
     listed_moduli_law();
-    run_job(rt, alloc, &job, source, out)
+    match job.engine {
+        EngineKind::Plain => {
+            let mut engine = PlainEngine::new(Limits::standard());
+            run_job(rt, alloc, &job, &mut engine, source, out)
+        }
+        EngineKind::Seq => {
+            let mut engine = SeqEngine::new(Limits::standard());
+            run_job(rt, alloc, &job, &mut engine, source, out)
+        }
+        EngineKind::Race | EngineKind::Core => Status::Unbuilt { part: Part::Engine },
+    }
 }
 
-/// Runs a job with the command `gb` and the plain engine.
-fn run_job<R: Threads + Sync, S: Source, K: Sink>(
+/// Runs a job with the command `gb` by the engine that it names.
+fn run_job<R: Threads + Sync, E: DegreeEngine, S: Source, K: Sink>(
     rt: &R,
     alloc: Global,
     job: &Job,
+    engine: &mut E,
     source: &mut S,
     out: &mut K,
 ) -> Status
+    requires limits { E.kinds engine.old ≡ limits_of job.now.engine }
     requires modulus { IsFieldModulus job.now.modulus }
     requires small { job.now.modulus < 2 ^ 31 }
     requires bound { job.now.bound ≤ 64 }
@@ -138,7 +148,7 @@ fn run_job<R: Threads + Sync, S: Source, K: Sink>(
         Err(status) => return status,
     };
     setting_law(&field, &given);
-    print_input(rt, alloc, job, &field, &given, out)
+    print_input(rt, alloc, job, engine, &field, &given, out)
 }
 
 /// The letters and relations that the source has, or the status that stands in their place.
@@ -165,23 +175,24 @@ fn read_input<S: Source>(
 }
 
 /// Prints what the job asks of these letters and relations.
-fn print_input<R: Threads + Sync, K: Sink>(
+fn print_input<R: Threads + Sync, E: DegreeEngine, K: Sink>(
     rt: &R,
     alloc: Global,
     job: &Job,
+    engine: &mut E,
     field: &Field,
     given: &Presentation,
     out: &mut K,
 ) -> Status
+    requires limits { E.kinds engine.old ≡ limits_of job.now.engine }
     requires modulus { field.now ≡ job.now.modulus }
     requires bound { job.now.bound ≤ 64 }
     requires residues { All (HasResidues field.now) given.now.relations }
 
     ensures end { IsTaskEnd (task_of_job job.now given.now.alphabet given.now.relations) (K.held out.old) (K.held out.new) (K.room out.old) (K.faults out.old) (K.faults out.new) result }
 {
-    let mut engine = PlainEngine::new(Limits::standard());
     let asked = asked_of(job);
-    match print_job(rt, alloc, &mut engine, field, given, asked, out) {
+    match print_job(rt, alloc, engine, field, given, asked, out) {
         Ok(()) => Status::Done,
         Err(
             PrintFault::Limit {

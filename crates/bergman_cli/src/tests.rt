@@ -16,6 +16,9 @@ const COMMUTING_ANSWER: &str = "% 2\nx*y-y*x\n% series\n0 1\n1 2\n2 3\n3 4\n";
 
 const SQUARE: &str = "vars x,y; x^2-y*x;";
 
+const SQUARE_ANSWER: &str =
+    "% 2\nx^2-y*x\n% 3\nx*y*x-y^2*x\n% 4\nx*y^2*x-y^3*x\n% series\n0 1\n1 2\n2 3\n3 4\n4 5\n";
+
 const EXTERIOR: &str =
     "% the exterior algebra on three letters\nvars x, y, z;\nx^2, y^2, z^2,\nx*y + y*x, x*z + z*x, y*z + z*y;\n";
 
@@ -113,11 +116,9 @@ fn algebras_print_their_bases_and_series(rt: HostRuntime) -> Result<(), Fail> {
             "vars x,y; x*y+y*x;",
             "% 2\nx*y+y*x\n% series\n0 1\n1 2\n2 3\n",
         ),
-        (
-            "gb mod=101 deg=4",
-            SQUARE,
-            "% 2\nx^2-y*x\n% 3\nx*y*x-y^2*x\n% 4\nx*y^2*x-y^3*x\n% series\n0 1\n1 2\n2 3\n3 4\n4 5\n",
-        ),
+        ("gb mod=101 deg=4", SQUARE, SQUARE_ANSWER),
+        ("gb mod=101 deg=4 engine=seq", SQUARE, SQUARE_ANSWER),
+        ("gb mod=101 deg=4 engine=plain", SQUARE, SQUARE_ANSWER),
         ("gb mod=101 deg=1", SQUARE, "% series\n0 1\n1 2\n"),
         (
             "gb mod=101 deg=2",
@@ -360,7 +361,7 @@ fn a_limit_stands_behind_the_lines_of_the_degrees_below(rt: HostRuntime) -> Resu
     let told = "bergman: limit: plain words 6561 in degree 8\n";
     for (line, output) in [
         ("gb mod=101 deg=8 engine=plain", "% 2\nx*y-y*x\n"),
-        ("gb mod=101 deg=9 show=series", ""),
+        ("gb mod=101 deg=9 show=series engine=plain", ""),
     ] {
         expect_run(&rt, line, text, NONE, limit, output, told)?;
     }

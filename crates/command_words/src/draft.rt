@@ -101,11 +101,11 @@ impl Draft {
     }
 
     fn engine(&self) -> EngineKind
-        ensures { result ≡ engine_in (kept self.now.values Key.Engine) EngineKind.Plain }
+        ensures { result ≡ engine_in (kept self.now.values Key.Engine) EngineKind.Seq }
     {
         match self.value_of(Key::Engine) {
             Some(Value::Kind(engine)) => engine,
-            _ => EngineKind::Plain,
+            _ => EngineKind::Seq,
         }
     }
 

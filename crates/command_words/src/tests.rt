@@ -26,7 +26,7 @@ const SHORT: Job = Job {
     workers: 1,
     show: Show::Both,
     trace: false,
-    engine: EngineKind::Plain,
+    engine: EngineKind::Seq,
     schedule: 0,
     number: 0,
     letters: 0,
@@ -128,6 +128,7 @@ fn each_command_has_its_keys(rt: HostRuntime) -> Result<(), Fail> {
                 command: Command::Chains,
                 modulus: 65521,
                 bound: 1,
+                engine: EngineKind::Plain,
                 list: true,
                 ..SHORT
             },
