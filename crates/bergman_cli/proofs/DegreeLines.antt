@@ -1,5 +1,5 @@
 -- The lines of a degree are those of the elements that stand together in a basis.
-use Rattle.std.proofs.Common.{◌≡◌, ◌≢◌, ◌+◌, ◌-◌, ◌<◌, ◌≤◌, ℕ, Bool, true, false, List, [], ◌∷◌, ◌++◌, length, get_or, take, drop, refl, sym, ap, ◌∙◌, inr, arith, subst, All, Result, Ok, Err, IfErr}
+use Rattle.std.proofs.Common.{not, ◌≡◌, ◌≢◌, ◌+◌, ◌-◌, ◌<◌, ◌≤◌, ℕ, Bool, true, false, List, [], ◌∷◌, ◌++◌, length, get_or, take, drop, refl, sym, ap, ◌∙◌, inr, arith, subst, All, Result, Ok, Err, IfErr}
 use Rattle.std.specs.List.{flat_map, slice_range}
 use Rattle.std.specs.declared.option.Option.{Option}
 use Rattle.std.proofs.Math.Seq.{drop-cons, take-add}
@@ -28,6 +28,14 @@ use Rattle.bergman_cli.proofs.Gaining.{all_behind, unwritten_before, unwritten_b
 pub if_err : {T E : Type 0} (r : Result T E) (a x : E) (P : E → Type 0) → r ≡ Err a → a ≡ x → P x → IfErr r P
 if_err (Ok v) a x P e s h = tt
 if_err (Err y) a x P e s h = let is : y ≡ a = cc e in subst P (sym (is ∙ s)) h
+
+pub is_shown : (shows : Bool) → not shows ≡ false → shows ≡ true
+is_shown true e = refl
+is_shown false e = cc e
+
+pub is_hidden : (shows : Bool) → not shows ≡ true → shows ≡ false
+is_hidden true e = cc e
+is_hidden false e = refl
 
 -- what is said of a limit by its parts
 pub limit_moved : (P : LimitKind → ℕ → Type 0) (k l : LimitKind) (v w : ℕ) → k ≡ l → v ≡ w → P l w → P k v
@@ -114,11 +122,11 @@ module _ (p : ℕ) (letters : Letters) (relations : List (List Term)) (limits : 
   pub hidden_next : (shows : Bool) (h k : Option (List ℕ)) (r s : Option ℕ) (f g : ℕ) → shows ≡ false → GainsAll h k r s f g [] → OfNext p letters relations limits old shows (GainsAll h k r s f g)
   hidden_next shows h k r s f g is w = (added, is_next, subst (λ (b : Bool). GainsAll h k r s f g (lines_of b letters.names p (old.done + 1) added)) (sym is) w)
 
-  pub undone_shown : (shows : Bool) (h k : Option (List ℕ)) (r : Option ℕ) (f g : ℕ) (fault : PrintFault) → shows ≡ true → IsUnwritten h k r f g (degree_text letters.names p new.done added) fault
-      → IsNextUndone p letters relations limits old shows h k r f g fault
-  undone_shown shows h k r f g (Limit kind d value) is u = absurd u
-  undone_shown shows h k r f g WriteFault is u = (u.0, (added, is_next, subst (GainsPart h k r) (lines_are shows is) u.1))
-  undone_shown shows h k r f g NoMemory is u = inr (added, is_next, subst (GainsSome h k) (lines_are shows is) u)
+  pub undone_shown : (shows : Bool) (h k : Option (List ℕ)) (r : Option ℕ) (f g : ℕ) (Here Next : Type 0) (fault : PrintFault) → shows ≡ true → Next → IsUnwritten h k r f g (degree_text letters.names p new.done added) fault
+      → IsNextUndone p letters relations limits old shows h k r f g Here Next fault
+  undone_shown shows h k r f g Here Next (Limit kind d value) is next u = absurd u
+  undone_shown shows h k r f g Here Next WriteFault is next u = (u.0, (added, is_next, subst (GainsPart h k r) (lines_are shows is) u.1), next)
+  undone_shown shows h k r f g Here Next NoMemory is next u = inr ((added, is_next, subst (GainsSome h k) (lines_are shows is) u), next)
 
   pub residues_of : IsSetting p letters.weights relations → IsKept new → All (HasResidues p) new.elements
   residues_of st kept =

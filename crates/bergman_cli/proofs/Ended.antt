@@ -1,5 +1,5 @@
 -- A task ends with its series, or without it.
-use Rattle.std.proofs.Common.{◌≡◌, ◌-◌, ℕ, Bool, true, false, List, [], ◌++◌, refl, sym, inl, inr, subst}
+use Rattle.std.proofs.Common.{◌≡◌, ◌-◌, ℕ, Bool, true, false, List, [], ◌++◌, refl, sym, inl, inr, arith, subst}
 use Rattle.std.proofs.lemmas.List.{append-nil}
 use Rattle.std.specs.declared.option.Option.{Option}
 use Rattle.std.proofs.KnownBytes.{Appends-trans}
@@ -7,11 +7,11 @@ use Rattle.ideal_laws.specs.Laws.{IsSetting}
 use Rattle.poly_writer.specs.Outputs.{IsSeriesText}
 use Rattle.bergman_cli.specs.declared.print.PrintFault.{PrintFault}
 use Rattle.bergman_cli.specs.declared.print.PrintFault.TheVariants.{Limit, WriteFault, NoMemory}
-use Rattle.bergman_cli.specs.Gains.{GainsAll, HasPrinted, IsUndone}
+use Rattle.bergman_cli.specs.Gains.{GainsAll, GainsSome, HasPrinted, IsUndone}
 use Rattle.bergman_cli.specs.Printing.{IsCutSeries, IsSeriesDue, IsSeriesUndone, IsWholeSeries}
-use Rattle.bergman_cli.specs.Progress.{IsBasisSoFar, IsDue, IsPart, IsReach, IsText, Task, whole, crowded}
-use Rattle.bergman_cli.proofs.Gaining.{appended_none, beginning_self, part_behind, rose_behind, some_behind}
-use Rattle.bergman_cli.proofs.Reaches.{printed_part, printed_some}
+use Rattle.bergman_cli.specs.Progress.{HasLinesBelow, IsBasisSoFar, IsBeginning, IsDue, IsPart, IsReach, IsText, Task, whole, crowded}
+use Rattle.bergman_cli.proofs.Gaining.{appended_none, beginning_self, part_behind, part_front, rose_behind, some_behind, some_front}
+use Rattle.bergman_cli.proofs.Reaches.{part_upto, some_upto}
 
 shown : (shows : Bool) (P : List ℕ → Type 0) (x : List ℕ) → shows ≡ true → P x → IsPart shows P x
 shown shows P x is h = subst (λ (b : Bool). IsPart b P x) (sym is) h
@@ -38,6 +38,10 @@ module _ (t : Task) (text : List ℕ) (so_far : IsBasisSoFar t t.bound text) whe
     appended = w.appended;
   }
 
+  -- the lines of all degrees stand before what comes of the series
+  all_lines : (gained : List ℕ) → IsBeginning text gained → HasLinesBelow t t.bound gained
+  all_lines gained begins = record { degree = t.bound; lines = text; so_far = so_far; begins = begins; upto = omega arith }
+
   module _ (shows : t.shows_series ≡ true) where
     whole_reach : (series : List ℕ) → IsWholeSeries t.modulus t.letters t.relations t.normal_words t.bound series → IsReach t whole
     whole_reach series h = (so_far.passes_none, λ _. h.small)
@@ -63,9 +67,9 @@ module _ (t : Task) (text : List ℕ) (so_far : IsBasisSoFar t t.bound text) whe
       joined = refl;
     }
 
-    due_with_series : (series : List ℕ) → IsSeriesDue t.modulus t.letters t.relations t.normal_words t.bound series → IsDue t (text ++ series)
-    due_with_series series (inl h) = inr (whole, whole_reach series h, whole_text series h)
-    due_with_series series (inr h) = inr (crowded h.0 h.1, cut_reach h.0 h.1 series h.2, cut_text h.0 h.1 series h.2)
+    due_with_series : (series : List ℕ) → IsSeriesDue t.modulus t.letters t.relations t.normal_words t.bound series → IsDue t t.bound (text ++ series)
+    due_with_series series (inl h) = inr (whole, whole_reach series h, whole_text series h, refl)
+    due_with_series series (inr h) = inr (crowded h.0 h.1, cut_reach h.0 h.1 series h.2, cut_text h.0 h.1 series h.2, refl)
 
     pub done_with_series : (a b c : Option (List ℕ)) (r q s : Option ℕ) (f g h : ℕ) (series : List ℕ) → GainsAll a b r q f g text → IsWholeSeries t.modulus t.letters t.relations t.normal_words t.bound series
         → GainsAll b c q s g h series → HasPrinted t whole a c
@@ -76,9 +80,9 @@ module _ (t : Task) (text : List ℕ) (so_far : IsBasisSoFar t t.bound text) whe
       appended = Appends-trans a b c text series w.appended v.appended;
     }
 
-    pub undone_series : IsSetting t.modulus t.letters.weights t.relations → (a b c : Option (List ℕ)) (r q : Option ℕ) (f g h : ℕ) (fault : PrintFault) → GainsAll a b r q f g text
-        → IsSeriesUndone t.modulus t.letters t.relations t.normal_words t.bound b c q g h fault → IsUndone t a c r f h fault
-    undone_series st a b c r q f g h (Limit kind d value) w u = (
+    pub undone_series : IsSetting t.modulus t.letters.weights t.relations → (a b c : Option (List ℕ)) (r q : Option ℕ) (f g h : ℕ) (Holds : ℕ → Type 0) (fault : PrintFault) → Holds t.bound → GainsAll a b r q f g text
+        → IsSeriesUndone t.modulus t.letters t.relations t.normal_words t.bound b c q g h fault → IsUndone t a c r f h Holds fault
+    undone_series st a b c r q f g h Holds (Limit kind d value) holds w u = (
       crowded d value,
       (u.0, refl, refl),
       record {
@@ -87,10 +91,13 @@ module _ (t : Task) (text : List ℕ) (so_far : IsBasisSoFar t t.bound text) whe
         is_text = cut_text d value u.1.0 u.1.1;
         appended = Appends-trans a b c text u.1.0 w.appended u.1.2;
       },
+      holds,
     )
-    undone_series st a b c r q f g h WriteFault w u =
-        (rose_behind f g h w.later u.0, printed_part t st a c r (text ++ u.1.0) (due_with_series u.1.0 u.1.1) (part_behind a b c r q text u.1.0 w.appended w.falls u.1.2))
-    undone_series st a b c r q f g h NoMemory w (inl none) =
-        printed_some t st a c text (inl (t.bound, so_far)) (record { gained = text; appended = appended_none a b c text w.appended none; beginning = beginning_self text })
-    undone_series st a b c r q f g h NoMemory w (inr u) =
-        printed_some t st a c (text ++ u.0) (due_with_series u.0 u.1) (some_behind a b c text u.0 w.appended u.2)
+    undone_series st a b c r q f g h Holds WriteFault holds w u =
+        let due = due_with_series u.1.0 u.1.1 in
+        (rose_behind f g h w.later u.0, part_upto t st a c r Holds t.bound (text ++ u.1.0) due (part_behind a b c r q text u.1.0 w.appended w.falls u.1.2) (all_lines _ (part_front a b c r q text u.1.0 w.appended w.falls u.1.2)) holds)
+    undone_series st a b c r q f g h Holds NoMemory holds w (inl none) =
+        let part : GainsSome a c text = record { gained = text; appended = appended_none a b c text w.appended none; beginning = beginning_self text } in
+        some_upto t st a c Holds t.bound text (inl so_far) part (all_lines text (beginning_self text)) holds
+    undone_series st a b c r q f g h Holds NoMemory holds w (inr u) =
+        some_upto t st a c Holds t.bound (text ++ u.0) (due_with_series u.0 u.1) (some_behind a b c text u.0 w.appended u.2) (all_lines _ (some_front a b c text u.0 w.appended u.2)) holds

@@ -1,5 +1,5 @@
 -- What a sink gained of a text whose first part it has.
-use Rattle.std.proofs.Common.{◌≡◌, ◌+◌, ◌≤◌, ℕ, List, [], ◌∷◌, ◌++◌, length, refl, sym, ap, ◌∙◌, arith, subst, append_assoc, length-append, Result, Ok, Err, OnOk, OnErr}
+use Rattle.std.proofs.Common.{◌≡◌, ◌+◌, ◌≤◌, ℕ, List, [], ◌∷◌, ◌++◌, length, refl, sym, ap, ◌∙◌, arith, subst, append_assoc, length-append}
 use Rattle.std.proofs.lemmas.List.{append-nil}
 use Rattle.std.specs.declared.option.Option.{Option}
 use Rattle.std.specs.declared.option.Option.TheVariants.{None, Some}
@@ -85,6 +85,15 @@ some_behind a b c x y appended part = record {
   beginning = beginning_behind x part.gained y part.beginning;
 }
 
+-- what was gained behind a text begins with it
+pub part_front : (a b c : Option (List ℕ)) (r s : Option ℕ) (x y : List ℕ) (appended : Appends a b x) (falls : RoomFalls r s (length x)) (part : GainsPart b c s y) → IsBeginning x (part_behind a b c r s x y appended falls part).gained
+unfolding part_behind
+part_front a b c r s x y appended falls part = beginning_front x part.gained
+
+pub some_front : (a b c : Option (List ℕ)) (x y : List ℕ) (appended : Appends a b x) (part : GainsSome b c y) → IsBeginning x (some_behind a b c x y appended part).gained
+unfolding some_behind
+some_front a b c x y appended part = beginning_front x part.gained
+
 pub some_none : (a : Option (List ℕ)) (x : List ℕ) → GainsSome a a x
 some_none a x = record { gained = []; appended = Appends-nil a; beginning = record { rest = x; joined = refl } }
 
@@ -109,12 +118,3 @@ unwritten_before a c r f h x y WriteFault b u = (
   },
 )
 unwritten_before a c r f h x y NoMemory b u = record { gained = u.gained; appended = u.appended; beginning = beginning_trans u.gained x y u.beginning b }
-
--- what became of a line that was told
-pub told_some : {T E : Type 0} (a c : Option (List ℕ)) (x : List ℕ) (r : Result T E) → OnOk r (Appends a c x) → OnErr r ((gained : List ℕ) × IsCutShort gained x × Appends a c gained) → GainsSome a c x
-told_some a c x (Ok v) h k = record { gained = x; appended = h; beginning = beginning_self x }
-told_some a c x (Err e) h k = record { gained = k.0; appended = k.2; beginning = record { rest = k.1.rest; joined = k.1.joined } }
-
-pub told_whole : {T E : Type 0} (a c : Option (List ℕ)) (x : List ℕ) (f g : ℕ) (r : Result T E) → OnOk r (Appends a c x) → OnErr r (Rose f g) → (Rose f g → ⊥) → Appends a c x
-told_whole a c x f g (Ok v) h k none = h
-told_whole a c x f g (Err e) h k none = absurd (none k)

@@ -1,5 +1,5 @@
 -- The basis so far grows by the lines of a degree.
-use Rattle.std.proofs.Common.{◌≡◌, ◌+◌, ◌-◌, ◌<◌, ℕ, Bool, true, false, List, [], ◌∷◌, ◌++◌, length, refl, sym, ap, ◌∙◌, inl, inr, arith, subst, append_assoc, length-append}
+use Rattle.std.proofs.Common.{◌≡◌, ◌+◌, ◌-◌, ◌<◌, ◌≤◌, ℕ, Bool, true, false, List, [], ◌∷◌, ◌++◌, length, refl, sym, ap, ◌∙◌, inl, inr, arith, subst, append_assoc, length-append}
 use Rattle.std.proofs.lemmas.Bool.{cases_lt}
 use Rattle.std.proofs.lemmas.List.{append-nil, get_or_append_left, get_or_push}
 use Rattle.std.specs.declared.option.Option.{Option}
@@ -14,10 +14,10 @@ use Rattle.poly_writer.specs.Outputs.{IsBasisText}
 use Rattle.poly_writer.specs.Texts.{basis_text, degree_text, degree_texts}
 use Rattle.bergman_cli.specs.declared.print.PrintFault.{PrintFault}
 use Rattle.bergman_cli.specs.declared.print.PrintFault.TheVariants.{Limit, WriteFault, NoMemory}
-use Rattle.bergman_cli.specs.Gains.{GainsAll}
+use Rattle.bergman_cli.specs.Gains.{GainsAll, HasPrinted}
 use Rattle.bergman_cli.specs.Printing.{IsBasisUndone, IsNext, IsNextUndone, lines_of}
-use Rattle.bergman_cli.specs.Progress.{IsBasisPart, IsBasisSoFar, IsDue, IsPart, Task}
-use Rattle.bergman_cli.proofs.Gaining.{appended_none, beginning_self, part_behind, rose_behind, some_behind}
+use Rattle.bergman_cli.specs.Progress.{HasLinesBelow, IsBasisPart, IsBasisSoFar, IsBeginning, IsDue, IsPart, Task, refused}
+use Rattle.bergman_cli.proofs.Gaining.{appended_none, beginning_self, part_behind, part_front, rose_behind, some_behind, some_front}
 
 pub degree_texts-append : (names : List (List ℕ)) (p d : ℕ) (xs ys : List (List (List Term))) → degree_texts names p d (xs ++ ys) ≡ degree_texts names p d xs ++ degree_texts names p (d + length xs) ys
 degree_texts-append names p d [] ys = ap (λ (n : ℕ). degree_texts names p n ys) (let e : d ≡ d + 0 = omega arith in e)
@@ -87,24 +87,50 @@ module _ (t : Task) (d : ℕ) (below : Elements) (text : List ℕ) (s : Stands t
         (part_next t.modulus t.letters t.relations t.shows_basis d text elements s.so_far.is_basis (subst (λ (n : ℕ). IsReducedBasis t.modulus t.letters.weights t.relations (n + 1) elements) s.done next.reduced));
   }
 
-  due_next : (elements : List (List Term)) → IsNext t.modulus t.letters.weights t.relations t.limits below elements → IsDue t (text ++ lines elements)
-  due_next elements next = inl (d + 1, so_far_next elements next)
+  due_next : (elements : List (List Term)) → IsNext t.modulus t.letters.weights t.relations t.limits below elements → IsDue t (d + 1) (text ++ lines elements)
+  due_next elements next = inl (so_far_next elements next)
+
+  lines_before : (e : ℕ) (gained : List ℕ) → e ≤ d + 1 → IsBeginning text gained → HasLinesBelow t e gained
+  lines_before e gained upto begins = record { degree = d; lines = text; so_far = s.so_far; begins = begins; upto = upto }
 
   -- a fault in the next degree
-  pub undone_next : (a b c : Option (List ℕ)) (r q : Option ℕ) (f g h : ℕ) (fault : PrintFault) → GainsAll a b r q f g text
-      → IsNextUndone t.modulus t.letters t.relations t.limits below t.shows_basis b c q g h fault → IsBasisUndone t a c r f h fault
-  undone_next a b c r q f g h (Limit kind e value) w u =
+  pub undone_next : (a b c : Option (List ℕ)) (r q : Option ℕ) (f g h : ℕ) (Here Next : Type 0) (Holds : ℕ → Type 0) → (Here → Holds d) → (Next → Holds (d + 1)) → (fault : PrintFault) → GainsAll a b r q f g text
+      → IsNextUndone t.modulus t.letters t.relations t.limits below t.shows_basis b c q g h Here Next fault → IsBasisUndone t a c r f h Holds fault
+  undone_next a b c r q f g h Here Next Holds here next (Limit kind e value) w u =
       let at : d ≡ e - 1 = omega (arith, u.0, s.done) in
-      record {
+      let printed : HasPrinted t (refused kind e value) a c = record {
         is_reach = refused_next t.modulus t.letters.weights t.relations t.limits below s.kept s.weights s.reduced d t.bound s.done within s.so_far.passes_none kind e value
             (u.0, subst (λ (ws : List ℕ). IsFirstPassing (IsQuantity t.modulus ws t.relations below (below.done + 1)) t.limits kind value) (sym s.weights) u.1);
         text = text;
         is_text = subst (λ (n : ℕ). IsBasisPart t n text) at s.so_far.is_basis;
         appended = appended_none a b c text w.appended u.2;
-      }
-  undone_next a b c r q f g h WriteFault w u =
-      (rose_behind f g h w.later u.0, (text ++ lines u.1.0, due_next u.1.0 u.1.1, part_behind a b c r q text (lines u.1.0) w.appended w.falls u.1.2))
-  undone_next a b c r q f g h NoMemory w (inl none) =
-      (text, inl (d, s.so_far), record { gained = text; appended = appended_none a b c text w.appended none; beginning = beginning_self text })
-  undone_next a b c r q f g h NoMemory w (inr u) =
-      (text ++ lines u.0, due_next u.0 u.1, some_behind a b c text (lines u.0) w.appended u.2)
+      } in
+      (printed, subst Holds at (here u.3))
+  undone_next a b c r q f g h Here Next Holds here next WriteFault w u =
+      let lost = u.1 in (
+        rose_behind f g h w.later u.0,
+        (
+          d + 1,
+          text ++ lines lost.0,
+          due_next lost.0 lost.1,
+          part_behind a b c r q text (lines lost.0) w.appended w.falls lost.2,
+          lines_before (d + 1) _ (omega arith) (part_front a b c r q text (lines lost.0) w.appended w.falls lost.2),
+          next u.2,
+        ),
+      )
+  undone_next a b c r q f g h Here Next Holds here next NoMemory w (inl u) = (
+    d,
+    text,
+    inl s.so_far,
+    record { gained = text; appended = appended_none a b c text w.appended u.0; beginning = beginning_self text },
+    lines_before d text (omega arith) (beginning_self text),
+    here u.1,
+  )
+  undone_next a b c r q f g h Here Next Holds here next NoMemory w (inr u) = (
+    d + 1,
+    text ++ lines u.0.0,
+    due_next u.0.0 u.0.1,
+    some_behind a b c text (lines u.0.0) w.appended u.0.2,
+    lines_before (d + 1) _ (omega arith) (some_front a b c text (lines u.0.0) w.appended u.0.2),
+    next u.1,
+  )

@@ -21,7 +21,7 @@ use Rattle.bergman_cli.specs.declared.print.PrintFault.{PrintFault}
 use Rattle.bergman_cli.specs.declared.print.PrintFault.TheVariants.{Limit, WriteFault, NoMemory}
 use Rattle.bergman_cli.specs.Gains.{GainsPart, GainsSome, HasPrintedPart, HasPrintedSome, IsUndone}
 use Rattle.bergman_cli.specs.Printing.{IsBasisUndone}
-use Rattle.bergman_cli.specs.Progress.{IsBasisPart, IsBasisSoFar, IsBeginning, IsDue, IsFirstLargeCoefficient, IsOutput, IsPart, IsReach, IsStoppedBy, IsText, AreSmallBelow, PassesNone, Reach, Task, whole, refused, crowded}
+use Rattle.bergman_cli.specs.Progress.{IsBasisPart, IsBasisSoFar, HasLinesBelow, IsBeginning, IsDue, IsFirstLargeCoefficient, IsOutput, IsPart, IsReach, IsStoppedBy, IsText, AreSmallBelow, PassesNone, Reach, Task, whole, refused, crowded}
 use Rattle.bergman_cli.proofs.Gaining.{beginning_self, beginning_trans, cut_of_beginning, no_room_for}
 use Rattle.bergman_cli.proofs.Printed.{degree_texts-append}
 
@@ -209,34 +209,47 @@ module _ (t : Task) (st : IsSetting t.modulus t.letters.weights t.relations) whe
   ]
   so_far_begins d (crowded e w) x y a rb b = output_begins d (e - 1) x y a b
 
-  pub due_begins : (s : Reach) (x y : List ℕ) → IsDue t x → IsReach t s → IsText t s y → IsBeginning x y
-  due_begins s x y (inl a) rb b = so_far_begins a.0 s x y a.1 rb b
-  due_begins s x y (inr a) rb b = subst (IsBeginning x) (one_text a.0 s x y a.1 a.2 rb b) (beginning_self x)
+  pub due_begins : (e : ℕ) (s : Reach) (x y : List ℕ) → IsDue t e x → IsReach t s → IsText t s y → IsBeginning x y
+  due_begins e s x y (inl a) rb b = so_far_begins e s x y a rb b
+  due_begins e s x y (inr a) rb b = subst (IsBeginning x) (one_text a.0 s x y a.1 a.2 rb b) (beginning_self x)
 
-  pub printed_part : (a c : Option (List ℕ)) (r : Option ℕ) (x : List ℕ) → IsDue t x → GainsPart a c r x → HasPrintedPart t a c r
-  printed_part a c r x due part = record {
+  printed_part : (a c : Option (List ℕ)) (r : Option ℕ) (e : ℕ) (x : List ℕ) → IsDue t e x → (part : GainsPart a c r x) → HasLinesBelow t e part.gained → HasPrintedPart t a c r
+  printed_part a c r e x due part below = record {
     gained = part.gained;
     appended = part.appended;
+    last = e;
     due = x;
     is_due = due;
+    lines_below = below;
     of_due = (part.cut_short, part.no_room);
     of_text = λ reach y is_reach is_text.
-        let b = due_begins reach x y due is_reach is_text in
+        let b = due_begins e reach x y due is_reach is_text in
         (cut_of_beginning part.gained x y part.cut_short b, no_room_for r x y b part.no_room);
   }
 
-  pub printed_some : (a c : Option (List ℕ)) (x : List ℕ) → IsDue t x → GainsSome a c x → HasPrintedSome t a c
-  printed_some a c x due part = record {
+  printed_some : (a c : Option (List ℕ)) (e : ℕ) (x : List ℕ) → IsDue t e x → (part : GainsSome a c x) → HasLinesBelow t e part.gained → HasPrintedSome t a c
+  printed_some a c e x due part below = record {
     gained = part.gained;
     appended = part.appended;
+    last = e;
     due = x;
     is_due = due;
+    lines_below = below;
     of_due = part.beginning;
-    of_text = λ reach y is_reach is_text. beginning_trans part.gained x y part.beginning (due_begins reach x y due is_reach is_text);
+    of_text = λ reach y is_reach is_text. beginning_trans part.gained x y part.beginning (due_begins e reach x y due is_reach is_text);
   }
 
+  -- with what holds of the last degree
+  pub part_upto : (a c : Option (List ℕ)) (r : Option ℕ) (Holds : ℕ → Type 0) (e : ℕ) (x : List ℕ) → IsDue t e x → (part : GainsPart a c r x) → HasLinesBelow t e part.gained → Holds e → (p : HasPrintedPart t a c r) × Holds p.last
+  unfolding printed_part
+  part_upto a c r Holds e x due part below holds = (printed_part a c r e x due part below, holds)
+
+  pub some_upto : (a c : Option (List ℕ)) (Holds : ℕ → Type 0) (e : ℕ) (x : List ℕ) → IsDue t e x → (part : GainsSome a c x) → HasLinesBelow t e part.gained → Holds e → (p : HasPrintedSome t a c) × Holds p.last
+  unfolding printed_some
+  some_upto a c Holds e x due part below holds = (printed_some a c e x due part below, holds)
+
   -- a basis that was not printed whole
-  pub undone_basis : (a c : Option (List ℕ)) (r : Option ℕ) (f h : ℕ) (fault : PrintFault) → IsBasisUndone t a c r f h fault → IsUndone t a c r f h fault
-  undone_basis a c r f h (Limit kind d value) u = (refused kind d value, (refl, refl, refl), u)
-  undone_basis a c r f h WriteFault u = (u.0, printed_part a c r u.1.0 u.1.1 u.1.2)
-  undone_basis a c r f h NoMemory u = printed_some a c u.0 u.1 u.2
+  pub undone_basis : (a c : Option (List ℕ)) (r : Option ℕ) (f h : ℕ) (Holds : ℕ → Type 0) (fault : PrintFault) → IsBasisUndone t a c r f h Holds fault → IsUndone t a c r f h Holds fault
+  undone_basis a c r f h Holds (Limit kind d value) u = (refused kind d value, (refl, refl, refl), u.0, u.1)
+  undone_basis a c r f h Holds WriteFault u = (u.0, part_upto a c r Holds u.1.0 u.1.1 u.1.2 u.1.3 u.1.4 u.1.5)
+  undone_basis a c r f h Holds NoMemory u = some_upto a c Holds u.0 u.1 u.2 u.3 u.4 u.5

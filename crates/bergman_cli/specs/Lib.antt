@@ -3,4 +3,5 @@ pub mod Gains
 pub mod Printing
 pub mod Status
 pub mod Lines
+pub mod Traces
 pub mod Run

@@ -16,7 +16,7 @@ use Rattle.poly_writer.specs.Texts.{degree_text}
 use Rattle.bergman_cli.specs.declared.print.Asked.{Asked}
 use Rattle.bergman_cli.specs.declared.print.PrintFault.{PrintFault}
 use Rattle.bergman_cli.specs.declared.print.PrintFault.TheVariants.{Limit, WriteFault, NoMemory}
-use Rattle.bergman_cli.specs.Progress.{AreSmallBelow, IsDue, IsFirstLargeCoefficient, Task, refused}
+use Rattle.bergman_cli.specs.Progress.{AreSmallBelow, HasLinesBelow, IsDue, IsFirstLargeCoefficient, Task, refused}
 use Rattle.bergman_cli.specs.Gains.{GainsPart, GainsSome, HasPrinted}
 
 -- the task of a presentation, with the standard limit of normal words
@@ -47,18 +47,20 @@ abbrev pub OfNext : ℕ → Letters → List (List Term) → List (LimitKind × 
 OfNext p letters relations limits below shows Holds =
     (elements : List (List Term)) × IsNext p letters.weights relations limits below elements × Holds (lines_of shows letters.names p (below.done + 1) elements)
 
--- why the next degree was not printed
-abbrev pub IsNextUndone : ℕ → Letters → List (List Term) → List (LimitKind × ℕ) → Elements → Bool → Option (List ℕ) → Option (List ℕ) → Option ℕ → ℕ → ℕ → PrintFault → Type 0
-IsNextUndone p letters relations limits below shows held more room before now (Limit kind d value) =
-    (d ≡ below.done + 1) × IsFirstPassing (IsQuantity p letters.weights relations below (below.done + 1)) limits kind value × Appends held more []
-IsNextUndone p letters relations limits below shows held more room before now WriteFault = Rose before now × OfNext p letters relations limits below shows (GainsPart held more room)
-IsNextUndone p letters relations limits below shows held more room before now NoMemory = Appends held more [] ⊎ OfNext p letters relations limits below shows (GainsSome held more)
+-- why the next degree was not printed, and what holds where it was not computed and where it was
+abbrev pub IsNextUndone : ℕ → Letters → List (List Term) → List (LimitKind × ℕ) → Elements → Bool → Option (List ℕ) → Option (List ℕ) → Option ℕ → ℕ → ℕ → Type 0 → Type 0 → PrintFault → Type 0
+IsNextUndone p letters relations limits below shows held more room before now Here Next (Limit kind d value) =
+    (d ≡ below.done + 1) × IsFirstPassing (IsQuantity p letters.weights relations below (below.done + 1)) limits kind value × Appends held more [] × Here
+IsNextUndone p letters relations limits below shows held more room before now Here Next WriteFault = Rose before now × OfNext p letters relations limits below shows (GainsPart held more room) × Next
+IsNextUndone p letters relations limits below shows held more room before now Here Next NoMemory = (Appends held more [] × Here) ⊎ (OfNext p letters relations limits below shows (GainsSome held more) × Next)
 
--- why the basis was not printed whole
-abbrev pub IsBasisUndone : Task → Option (List ℕ) → Option (List ℕ) → Option ℕ → ℕ → ℕ → PrintFault → Type 0
-IsBasisUndone t held more room before now (Limit kind d value) = HasPrinted t (refused kind d value) held more
-IsBasisUndone t held more room before now WriteFault = Rose before now × ((due : List ℕ) × IsDue t due × GainsPart held more room due)
-IsBasisUndone t held more room before now NoMemory = (due : List ℕ) × IsDue t due × GainsSome held more due
+-- why the basis was not printed whole, and what holds of the last degree that was computed
+abbrev pub IsBasisUndone : Task → Option (List ℕ) → Option (List ℕ) → Option ℕ → ℕ → ℕ → (ℕ → Type 0) → PrintFault → Type 0
+IsBasisUndone t held more room before now Holds (Limit kind d value) = HasPrinted t (refused kind d value) held more × Holds (d - 1)
+IsBasisUndone t held more room before now Holds WriteFault =
+    Rose before now × ((e : ℕ) × (due : List ℕ) × IsDue t e due × (part : GainsPart held more room due) × HasLinesBelow t e part.gained × Holds e)
+IsBasisUndone t held more room before now Holds NoMemory =
+    (e : ℕ) × (due : List ℕ) × IsDue t e due × (part : GainsSome held more due) × HasLinesBelow t e part.gained × Holds e
 
 -- all coefficients, none of which is above the limit
 pub record IsWholeSeries (p : ℕ) (letters : Letters) (relations : List (List Term)) (limit bound : ℕ) (text : List ℕ) : Type 0 where

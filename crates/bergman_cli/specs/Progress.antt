@@ -91,6 +91,20 @@ pub record IsBasisSoFar (t : Task) (d : ℕ) (text : List ℕ) : Type 0 where
   pub passes_none : PassesNone t d
   pub is_basis : IsBasisPart t d text
 
--- what the task has to print at some point: the basis so far, or its text
-abbrev pub IsDue : Task → List ℕ → Type 0
-IsDue t text = ((d : ℕ) × IsBasisSoFar t d text) ⊎ ((reach : Reach) × IsReach t reach × IsText t reach text)
+-- the last degree that is computed of a task that comes so far
+abbrev pub last_degree : Task → Reach → ℕ
+last_degree t whole = t.bound
+last_degree t (refused kind d value) = d - 1
+last_degree t (crowded d value) = t.bound
+
+-- what the task has to print once degrees 1 to e are computed: the basis so far, or its text
+abbrev pub IsDue : Task → ℕ → List ℕ → Type 0
+IsDue t e text = IsBasisSoFar t e text ⊎ ((reach : Reach) × IsReach t reach × IsText t reach text × (e ≡ last_degree t reach))
+
+-- the lines of all degrees below e stand in what was gained: it begins with the basis up to a degree, and e is at most the next
+pub record HasLinesBelow (t : Task) (e : ℕ) (gained : List ℕ) : Type 0 where
+  pub degree : ℕ
+  pub lines : List ℕ
+  pub so_far : IsBasisSoFar t degree lines
+  pub begins : IsBeginning lines gained
+  pub upto : e ≤ degree + 1

@@ -7,6 +7,9 @@ use Rattle.bg_io.specs.Ends.{Loses, LosesAtMost, Rose}
 use Rattle.ideal_laws.specs.declared.limits.LimitKind.{LimitKind}
 use Rattle.ideal_laws.specs.declared.limits.LimitKind.TheVariants.{PlainWords}
 use Rattle.ideal_laws.specs.Laws.{IsSetting}
+use Rattle.ideal_laws.specs.declared.account.Account.{Account}
+use Rattle.ideal_laws.specs.declared.presentation.Presentation.{Presentation}
+use Rattle.ideal_laws.specs.Engine.{Elements}
 use Rattle.ideal_laws.specs.Limits.{standard_limits}
 use Rattle.degree_loop.specs.Limits.{engine_limits}
 use Rattle.relation_reader.specs.declared.fault.InputFault.{InputFault}
@@ -24,6 +27,7 @@ use Rattle.bergman_cli.specs.declared.status.Status.{Status}
 use Rattle.bergman_cli.specs.declared.status.Status.TheVariants.{Done, Usage, Input, Limit, Unbuilt, ReadFault, WriteFault, NoMemory}
 use Rattle.bergman_cli.specs.Gains.{HasPrinted, HasPrintedPart, HasPrintedSome}
 use Rattle.bergman_cli.specs.Progress.{IsReach, IsStoppedBy, Reach, Task, whole}
+use Rattle.bergman_cli.specs.Traces.{Accounts, ArePrintable, IsTaskTrace}
 
 -- In the following, left and now are what the source tells of its bytes before and after; held, more, room and the counts of faults are those of Gains.
 
@@ -50,6 +54,26 @@ limits_of Race = engine_limits standard_limits
 limits_of Core = engine_limits standard_limits
 limits_of Seq = engine_limits standard_limits
 limits_of Plain = (PlainWords, standard_limits.plain_words) ∷ []
+
+-- whether an engine tells accounts, where it is asked for
+abbrev pub traces_in : EngineKind → Bool → Bool
+traces_in Race asked = asked
+traces_in Core asked = asked
+traces_in Seq asked = false
+traces_in Plain asked = false
+
+abbrev pub traces_of : Job → Bool
+traces_of job = traces_in job.engine job.trace
+
+-- the accounts that the engine of a job may tell; of those that are built none tells any
+abbrev pub accounts_of : Job → Accounts
+accounts_of job p given below d account = ⊥
+
+-- limits and accounts of the engine that a job names
+pub record IsEngineOf (job : Job) (limits : List (LimitKind × ℕ)) (May : Accounts) : Type 0 where
+  pub same_limits : limits ≡ limits_of job.engine
+  pub accounts : traces_of job ≡ true → (p : ℕ) (given : Presentation) (below : Elements) (d : ℕ) (account : Account) → May p given below d account → accounts_of job p given below d account
+  pub printable : traces_of job ≡ true → (p : ℕ) (given : Presentation) → ArePrintable May p given
 
 -- the task of a job on a text with these letters and relations
 abbrev pub task_of_job : Job → Letters → List (List Term) → Task
@@ -142,6 +166,18 @@ IsEnd words left now b a held more room before after (Usage fault) = IsUsageFaul
 IsEnd words left now b a held more room before after (Unbuilt parts.Command) = IsOtherCommand words
 IsEnd words left now b a held more room before after (Unbuilt parts.Engine) = IsUnbuiltEngine words
 IsEnd words left now b a held more room before after status = OfBuiltJob words (λ job. IsJobEnd job left now b a held more room before after status)
+
+-- the words are a job, and of it and its task on the text something holds
+abbrev pub OfTask : List (List ℕ) → Option (List ℕ) → Option (List ℕ) → (Job → Task → Type 0) → Type 0
+OfTask words left now Holds = OfBuiltJob words (λ job. OfReading job left now (Holds job))
+
+-- the trace of a run that ended so: that of the task of its job, or none
+abbrev pub IsRunTrace : List (List ℕ) → Option (List ℕ) → Option (List ℕ) → Option (List ℕ) → Option (List ℕ) → Option ℕ → Status → List ℕ → Type 0
+IsRunTrace words left now held more room Done trace = OfTask words left now (λ job t. IsTaskTrace (accounts_of job) (traces_of job) t held more room Done trace)
+IsRunTrace words left now held more room (Limit kind d value) trace = OfTask words left now (λ job t. IsTaskTrace (accounts_of job) (traces_of job) t held more room (Limit kind d value) trace)
+IsRunTrace words left now held more room WriteFault trace = OfTask words left now (λ job t. IsTaskTrace (accounts_of job) (traces_of job) t held more room WriteFault trace)
+IsRunTrace words left now held more room NoMemory trace = (trace ≡ []) ⊎ OfTask words left now (λ job t. IsTaskTrace (accounts_of job) (traces_of job) t held more room NoMemory trace)
+IsRunTrace words left now held more room status trace = trace ≡ []
 
 -- where the bytes are told and have a reading, no limit is passed, and no read or write failed, a run ends with its text or for want of memory
 abbrev pub Completes : List (List ℕ) → Option (List ℕ) → ℕ → ℕ → ℕ → ℕ → Status → Type 0

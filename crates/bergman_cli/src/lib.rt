@@ -9,6 +9,7 @@ mod lines;
 mod print;
 mod run;
 mod status;
+mod telling;
 #[cfg(test)]
 mod tests;
 

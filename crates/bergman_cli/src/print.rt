@@ -1,16 +1,20 @@
-ghost use Rattle.std.specs.Prelude.{◌≡◌, ◌+◌, ◌≤◌, ◌<◌, ℕ, List, All, Err, IfErr, IfOk, OnOk, length};
+ghost use Rattle.std.specs.Prelude.{◌≡◌, ◌+◌, ◌≤◌, ◌<◌, ℕ, List, [], All, Err, IfErr, IfOk, OnOk, length, true};
 ghost use Rattle.std.specs.List.{flat_map, slice_range};
 ghost use Rattle.free_poly.specs.declared.term.Term.{Term};
 ghost use Rattle.free_poly.specs.Poly.{IsMonic};
 ghost use Rattle.free_poly.specs.Terms.{HasResidues, UsesLetters};
-ghost use Rattle.ideal_laws.specs.Engine.{IsReducedUpto, of_degree};
+ghost use Rattle.ideal_laws.specs.declared.account.Account.{Account};
+ghost use Rattle.ideal_laws.specs.declared.presentation.Presentation.{Presentation};
+ghost use Rattle.ideal_laws.specs.Engine.{Elements, IsReducedUpto, of_degree};
 ghost use Rattle.ideal_laws.specs.Kept.{IsKept};
 ghost use Rattle.ideal_laws.specs.Limits.{standard_limits};
 ghost use Rattle.poly_writer.specs.Texts.{degree_text, element_line, series_text};
 ghost use Rattle.bergman_cli.specs.Gains.{GainsAll, HasPrinted, IsUndone, IsUnwritten};
 ghost use Rattle.bergman_cli.specs.Printing.{IsBasisUndone, IsNextUndone, IsSeriesUndone, IsWholeSeries, OfNext, task_of};
 ghost use Rattle.bergman_cli.specs.Progress.{IsBasisSoFar, whole};
+ghost use Rattle.bergman_cli.specs.Traces.{ArePrintable, OfNextTrace, OfTrace, Tells};
 
+use crate::telling::tell_degree;
 use bg_io::{Sink, write_all};
 use field_table::Field;
 use free_poly::Poly;
@@ -30,6 +34,8 @@ pub struct Asked {
     pub bound: u32,
     pub basis: bool,
     pub series: bool,
+    /// Whether the account of each degree is told.
+    pub trace: bool,
 }
 
 /// Why it was not all printed.
@@ -55,9 +61,9 @@ impl From<AllocError> for PrintFault {
     }
 }
 
-/// Computes the degrees up to the bound, and writes the lines of each before the next one is asked for; and then the
-/// series. The first failed write ends it.
-pub fn print_job<R: Threads + Sync, E: DegreeEngine, K: Sink>(
+/// Computes the degrees up to the bound. The trace of each is told, where it is asked for, and its lines are written
+/// before the next one is asked for; and then the series is written. The first failed write to `out` ends it.
+pub fn print_job<R: Threads + Sync, E: DegreeEngine, K: Sink, T: Sink>(
     rt: &R,
     alloc: Global,
     engine: &mut E,
@@ -65,15 +71,20 @@ pub fn print_job<R: Threads + Sync, E: DegreeEngine, K: Sink>(
     given: &Presentation,
     asked: Asked,
     out: &mut K,
+    err: &mut T,
+    failed: &mut bool,
 ) -> Result<(), PrintFault>
     requires small { asked.bound ≤ 64 }
     requires residues { All (HasResidues field.now) given.now.relations }
+    requires printable { asked.trace ≡ true → ArePrintable (E.may_account engine.old) field.now given.now }
 
     ensures done { OnOk result (HasPrinted (task_of field.now given.now (E.kinds engine.old) asked) whole (K.held out.old) (K.held out.new)) }
-    ensures undone { IfErr result (IsUndone (task_of field.now given.now (E.kinds engine.old) asked) (K.held out.old) (K.held out.new) (K.room out.old) (K.faults out.old) (K.faults out.new)) }
+    ensures told { OnOk result (OfTrace (E.may_account engine.old) (task_of field.now given.now (E.kinds engine.old) asked) asked.trace asked.bound (Tells (T.held err.old) (T.held err.new) (T.faults err.old) (T.faults err.new) failed.old failed.new)) }
+    ensures undone { IfErr result (IsUndone (task_of field.now given.now (E.kinds engine.old) asked) (K.held out.old) (K.held out.new) (K.room out.old) (K.faults out.old) (K.faults out.new)
+        (λ e. OfTrace (E.may_account engine.old) (task_of field.now given.now (E.kinds engine.old) asked) asked.trace e (Tells (T.held err.old) (T.held err.new) (T.faults err.old) (T.faults err.new) failed.old failed.new))) }
 {
     setting_law(field, given);
-    let basis = print_basis(rt, alloc, engine, field, given, asked, out)?;
+    let basis = print_basis(rt, alloc, engine, field, given, asked, out, err, failed)?;
     if !asked.series {
         return Ok(());
     }
@@ -84,7 +95,7 @@ pub fn print_job<R: Threads + Sync, E: DegreeEngine, K: Sink>(
 }
 
 /// Computes and prints the basis.
-fn print_basis<R: Threads + Sync, E: DegreeEngine, K: Sink>(
+fn print_basis<R: Threads + Sync, E: DegreeEngine, K: Sink, T: Sink>(
     rt: &R,
     alloc: Global,
     engine: &mut E,
@@ -92,58 +103,62 @@ fn print_basis<R: Threads + Sync, E: DegreeEngine, K: Sink>(
     given: &Presentation,
     asked: Asked,
     out: &mut K,
+    err: &mut T,
+    failed: &mut bool,
 ) -> Result<Basis, PrintFault>
     requires small { asked.bound ≤ 64 }
     requires residues { All (HasResidues field.now) given.now.relations }
+    requires printable { asked.trace ≡ true → ArePrintable (E.may_account engine.old) field.now given.now }
 
     ensures done { IfOk result (λ basis. basis.done ≡ asked.bound) }
     ensures weights { IfOk result (λ basis. basis.weights ≡ given.now.alphabet.weights) }
     ensures reduced { IfOk result (IsReducedUpto field.now given.now.relations) }
     ensures printed { OnOk result ((text : List ℕ) × IsBasisSoFar (task_of field.now given.now (E.kinds engine.old) asked) asked.bound text
         × GainsAll (K.held out.old) (K.held out.new) (K.room out.old) (K.room out.new) (K.faults out.old) (K.faults out.new) text) }
-    ensures undone { IfErr result (IsBasisUndone (task_of field.now given.now (E.kinds engine.old) asked) (K.held out.old) (K.held out.new) (K.room out.old) (K.faults out.old) (K.faults out.new)) }
+    ensures told { OnOk result (OfTrace (E.may_account engine.old) (task_of field.now given.now (E.kinds engine.old) asked) asked.trace asked.bound (Tells (T.held err.old) (T.held err.new) (T.faults err.old) (T.faults err.new) failed.old failed.new)) }
+    ensures undone { IfErr result (IsBasisUndone (task_of field.now given.now (E.kinds engine.old) asked) (K.held out.old) (K.held out.new) (K.room out.old) (K.faults out.old) (K.faults out.new)
+        (λ e. OfTrace (E.may_account engine.old) (task_of field.now given.now (E.kinds engine.old) asked) asked.trace e (Tells (T.held err.old) (T.held err.new) (T.faults err.old) (T.faults err.new) failed.old failed.new))) }
 {
     let mut basis = Basis::new(alloc, &given.alphabet);
     for _degree in 0..asked.bound {
         print_next(
-            rt,
-            alloc,
-            engine,
-            field,
-            given,
-            asked.basis,
-            &mut basis,
-            out,
+            rt, alloc, engine, field, given, asked, &mut basis, out, err, failed,
         )?;
     }
     Ok(basis)
 }
 
-/// Computes the next degree, and writes its lines where they are shown.
-fn print_next<R: Threads + Sync, E: DegreeEngine, K: Sink>(
+/// Computes the next degree, tells its trace and writes its lines, as far as they are asked for.
+fn print_next<R: Threads + Sync, E: DegreeEngine, K: Sink, T: Sink>(
     rt: &R,
     alloc: Global,
     engine: &mut E,
     field: &Field,
     given: &Presentation,
-    shows: bool,
+    asked: Asked,
     basis: &mut Basis,
     out: &mut K,
+    err: &mut T,
+    failed: &mut bool,
 ) -> Result<(), PrintFault>
     requires small { basis.old.done < 64 }
     requires weights { basis.old.weights ≡ given.now.alphabet.weights }
     requires reduced { IsReducedUpto field.now given.now.relations basis.old }
     requires residues { All (HasResidues field.now) given.now.relations }
+    requires printable { asked.trace ≡ true → ArePrintable (E.may_account engine.old) field.now given.now }
 
     ensures weights { basis.new.weights ≡ basis.old.weights }
     ensures kept { IsKept basis.old × IsKept basis.new }
     ensures done { OnOk result (basis.new.done ≡ basis.old.done + 1) }
     ensures reduced { OnOk result (IsReducedUpto field.now given.now.relations basis.new) }
-    ensures printed { OnOk result (OfNext field.now given.now.alphabet given.now.relations (E.kinds engine.old) basis.old shows
+    ensures printed { OnOk result (OfNext field.now given.now.alphabet given.now.relations (E.kinds engine.old) basis.old asked.basis
         (GainsAll (K.held out.old) (K.held out.new) (K.room out.old) (K.room out.new) (K.faults out.old) (K.faults out.new))) }
-    ensures undone { IfErr result (IsNextUndone field.now given.now.alphabet given.now.relations (E.kinds engine.old) basis.old shows (K.held out.old) (K.held out.new) (K.room out.old) (K.faults out.old) (K.faults out.new)) }
+    ensures told { OnOk result (OfNextTrace (E.may_account engine.old) field.now given.now basis.old asked.trace (Tells (T.held err.old) (T.held err.new) (T.faults err.old) (T.faults err.new) failed.old failed.new)) }
+    ensures undone { IfErr result (IsNextUndone field.now given.now.alphabet given.now.relations (E.kinds engine.old) basis.old asked.basis (K.held out.old) (K.held out.new) (K.room out.old) (K.faults out.old) (K.faults out.new)
+        (Tells (T.held err.old) (T.held err.new) (T.faults err.old) (T.faults err.new) failed.old failed.new []) (OfNextTrace (E.may_account engine.old) field.now given.now basis.old asked.trace (Tells (T.held err.old) (T.held err.new) (T.faults err.old) (T.faults err.new) failed.old failed.new))) }
 
     ensures kinds { E.kinds engine.new ≡ E.kinds engine.old }
+    ensures accounts { (p : ℕ) (rs : Presentation) (b : Elements) (e : ℕ) (a : Account) → E.may_account engine.new p rs b e a → E.may_account engine.old p rs b e a }
 {
     setting_law(field, given);
     match advance(rt, alloc, engine, field, given, basis) {
@@ -159,8 +174,18 @@ fn print_next<R: Threads + Sync, E: DegreeEngine, K: Sink>(
             value,
         }),
         Err(EngineFault::NoMemory) => Err(PrintFault::NoMemory),
-        Ok(_) => {
-            if !shows {
+        Ok(account) => {
+            let d = basis.done();
+            tell_degree(
+                alloc,
+                asked.trace,
+                &given.alphabet,
+                d,
+                &account,
+                err,
+                failed,
+            )?;
+            if !asked.basis {
                 return Ok(());
             }
             match write_degree(alloc, &given.alphabet, field, basis, out) {

@@ -1,4 +1,4 @@
-ghost use Rattle.std.specs.Prelude.{◌≡◌, ◌↔◌, ◌⊎◌, ◌<◌, ◌≤◌, ◌^◌, ℕ, List, [], All, IfErr, IfOk, MatchResult, map, string_bytes};
+ghost use Rattle.std.specs.Prelude.{◌≡◌, ◌↔◌, ◌⊎◌, ◌<◌, ◌≤◌, ◌++◌, ◌^◌, ℕ, List, [], All, IfErr, IfOk, MatchResult, map, string_bytes};
 ghost use Rattle.std.specs.Io.KnownBytes.{Appends};
 ghost use Rattle.field_table.specs.Residues.{IsFieldModulus};
 ghost use Rattle.free_poly.specs.Terms.{HasResidues};
@@ -9,16 +9,17 @@ ghost use Rattle.ideal_laws.specs.declared.limits.LimitKind.{LimitKind};
 ghost use Rattle.command_words.specs.declared.job.Job.{Job};
 ghost use Rattle.command_words.specs.declared.job.UsageFault.{UsageFault};
 ghost use Rattle.command_words.specs.JobOf.{IsJob, IsUsageFault};
-ghost use Rattle.bergman_cli.specs.Gains.{GainsSome, HasPrinted, HasPrintedPart, HasPrintedSome};
+ghost use Rattle.bergman_cli.specs.Gains.{HasPrinted, HasPrintedPart, HasPrintedSome};
 ghost use Rattle.bergman_cli.specs.Lines.{fault_line};
 ghost use Rattle.bergman_cli.specs.Progress.{IsStoppedBy, whole};
-ghost use Rattle.bergman_cli.specs.Run.{Completes, HasPrintedUpto, IsEnd, IsInputEnd, IsJobEnd, IsOtherCommand, IsUnbuiltEngine, IsRefusedInput, IsTaken, IsTaskEnd, OfBuiltJob, OfReading, ReadsInput, RefusesText, StopsThere, limits_of, shows_basis, shows_series, task_of_job};
+ghost use Rattle.bergman_cli.specs.Run.{Completes, HasPrintedUpto, IsBuiltJob, IsEnd, IsEngineOf, IsInputEnd, IsJobEnd, IsOtherCommand, IsUnbuiltEngine, IsRefusedInput, IsRunTrace, IsTaken, IsTaskEnd, OfBuiltJob, OfReading, ReadsInput, RefusesText, StopsThere, accounts_of, shows_basis, shows_series, task_of_job, traces_of};
 ghost use Rattle.bergman_cli.specs.Status.{PrintsNothing, ReadsNothing};
+ghost use Rattle.bergman_cli.specs.Traces.{IsTaskTrace, IsTold, Tells};
 
-use crate::lines::fault_line;
 use crate::print::{Asked, PrintFault, print_job};
 use crate::status::{InputProblem, Part, Status};
-use bg_io::{Gate, ReadAllFault, Sink, Source, read_all, write_all};
+use crate::telling::tell_status;
+use bg_io::{Gate, ReadAllFault, Sink, Source, read_all};
 use command_words::{Command, EngineKind, Job, Show, read_words, words_law};
 use degree_loop::SeqEngine;
 use field_table::{Field, listed_moduli_law};
@@ -32,14 +33,15 @@ use std::thread::Threads;
 const TEXT_LIMIT: u32 = 1_048_576;
 
 /// Runs the words: reads letters and relations from `source`, and writes to `out` the reduced basis of their ideal
-/// degree by degree, the lines of each before the next one is asked for, and then its series.
-pub fn bergman<R: Threads + Sync, S: Source, K: Sink, E: Sink, G: Gate>(
+/// degree by degree, the lines of each before the next one is asked for, and then its series. Where the words ask for
+/// it, the trace of each degree is told before its lines are written.
+pub fn bergman<R: Threads + Sync, S: Source, K: Sink, T: Sink, G: Gate>(
     rt: &R,
     alloc: Global,
     words: &[String],
     source: &mut S,
     out: &mut K,
-    err: &mut E,
+    err: &mut T,
     gate: &G,
 ) -> Status
     ensures done { result ≡ Status.Done → OfBuiltJob (map string_bytes words.now) (λ job. OfReading job (S.left source.old) (S.left source.new) (λ task. HasPrinted task whole (K.held out.old) (K.held out.new))) }
@@ -62,9 +64,9 @@ pub fn bergman<R: Threads + Sync, S: Source, K: Sink, E: Sink, G: Gate>(
         ⊎ OfBuiltJob (map string_bytes words.now) (λ job. OfReading job (S.left source.old) (S.left source.new) (λ task. HasPrintedSome task (K.held out.old) (K.held out.new))) }
     ensures nothing { PrintsNothing result → out.new ≡ out.old }
 
-    // The line of the status is told, and a fault of it changes no status.
-    ensures told { (Rose (E.faults err.old) (E.faults err.new) → ⊥) → Appends (E.held err.old) (E.held err.new) (fault_line result) }
-    ensures err { GainsSome (E.held err.old) (E.held err.new) (fault_line result) }
+    // The trace is told, and then the line of the status. A fault of telling them changes no status.
+    ensures told { (trace : List ℕ) × IsRunTrace (map string_bytes words.now) (S.left source.old) (S.left source.new) (K.held out.old) (K.held out.new) (K.room out.old) result trace
+        × IsTold (T.held err.old) (T.held err.new) (T.faults err.old) (T.faults err.new) (trace ++ fault_line result) }
 
     // And where the bytes are told, it comes where its cause stands.
     ensures complete { Completes (map string_bytes words.now) (S.left source.old) (S.faults source.old) (S.faults source.new) (K.faults out.old) (K.faults out.new) result }
@@ -73,31 +75,26 @@ pub fn bergman<R: Threads + Sync, S: Source, K: Sink, E: Sink, G: Gate>(
 {
     words_law();
     reading_laws();
-    let status = run_words(rt, alloc, words, source, out);
-    tell(err, status);
+    let mut failed = false;
+    let status = run_words(rt, alloc, words, source, out, err, &mut failed);
+    tell_status(err, &mut failed, status);
     status
 }
 
-/// Tells the line of the status.
-fn tell<E: Sink>(err: &mut E, status: Status)
-    ensures told { (Rose (E.faults err.old) (E.faults err.new) → ⊥) → Appends (E.held err.old) (E.held err.new) (fault_line status) }
-    ensures some { GainsSome (E.held err.old) (E.held err.new) (fault_line status) }
-{
-    let line = fault_line(&status);
-    let _written = write_all(err, line.as_bytes());
-}
-
-fn run_words<R: Threads + Sync, S: Source, K: Sink>(
+fn run_words<R: Threads + Sync, S: Source, K: Sink, T: Sink>(
     rt: &R,
     alloc: Global,
     words: &[String],
     source: &mut S,
     out: &mut K,
+    err: &mut T,
+    failed: &mut bool,
 ) -> Status
     ensures end { IsEnd (map string_bytes words.now) (S.left source.old) (S.left source.new) (S.faults source.old) (S.faults source.new) (K.held out.old) (K.held out.new) (K.room out.old) (K.faults out.old) (K.faults out.new) result }
     ensures taken { IsTaken (S.left source.old) (S.left source.new) result }
     ensures unread { ReadsNothing result → source.new ≡ source.old }
     ensures nothing { PrintsNothing result → out.new ≡ out.old }
+    ensures told { (trace : List ℕ) × IsRunTrace (map string_bytes words.now) (S.left source.old) (S.left source.new) (K.held out.old) (K.held out.new) (K.room out.old) result trace × Tells (T.held err.old) (T.held err.new) (T.faults err.old) (T.faults err.new) failed.old failed.new trace }
 {
     let job = match read_words(words) {
         Ok(job) => job,
@@ -112,26 +109,28 @@ fn run_words<R: Threads + Sync, S: Source, K: Sink>(
     match job.engine {
         EngineKind::Plain => {
             let mut engine = PlainEngine::new(Limits::standard());
-            run_job(rt, alloc, &job, &mut engine, source, out)
+            run_job(rt, alloc, &job, &mut engine, source, out, err, failed)
         }
         EngineKind::Seq => {
             let mut engine = SeqEngine::new(Limits::standard());
-            run_job(rt, alloc, &job, &mut engine, source, out)
+            run_job(rt, alloc, &job, &mut engine, source, out, err, failed)
         }
         EngineKind::Race | EngineKind::Core => Status::Unbuilt { part: Part::Engine },
     }
 }
 
 /// Runs a job with the command `gb` by the engine that it names.
-fn run_job<R: Threads + Sync, E: DegreeEngine, S: Source, K: Sink>(
+fn run_job<R: Threads + Sync, E: DegreeEngine, S: Source, K: Sink, T: Sink>(
     rt: &R,
     alloc: Global,
     job: &Job,
     engine: &mut E,
     source: &mut S,
     out: &mut K,
+    err: &mut T,
+    failed: &mut bool,
 ) -> Status
-    requires limits { E.kinds engine.old ≡ limits_of job.now.engine }
+    requires engine { IsEngineOf job.now (E.kinds engine.old) (E.may_account engine.old) }
     requires modulus { IsFieldModulus job.now.modulus }
     requires small { job.now.modulus < 2 ^ 31 }
     requires bound { job.now.bound ≤ 64 }
@@ -139,6 +138,7 @@ fn run_job<R: Threads + Sync, E: DegreeEngine, S: Source, K: Sink>(
     ensures end { IsJobEnd job.now (S.left source.old) (S.left source.new) (S.faults source.old) (S.faults source.new) (K.held out.old) (K.held out.new) (K.room out.old) (K.faults out.old) (K.faults out.new) result }
     ensures taken { IsTaken (S.left source.old) (S.left source.new) result }
     ensures nothing { PrintsNothing result → out.new ≡ out.old }
+    ensures told { (trace : List ℕ) × ((words : List (List ℕ)) → IsBuiltJob words job.now → IsRunTrace words (S.left source.old) (S.left source.new) (K.held out.old) (K.held out.new) (K.room out.old) result trace) × Tells (T.held err.old) (T.held err.new) (T.faults err.old) (T.faults err.new) failed.old failed.new trace }
 {
     let Ok(field) = Field::new(alloc, job.modulus) else {
         return Status::NoMemory;
@@ -148,7 +148,7 @@ fn run_job<R: Threads + Sync, E: DegreeEngine, S: Source, K: Sink>(
         Err(status) => return status,
     };
     setting_law(&field, &given);
-    print_input(rt, alloc, job, engine, &field, &given, out)
+    print_input(rt, alloc, job, engine, &field, &given, out, err, failed)
 }
 
 /// The letters and relations that the source has, or the status that stands in their place.
@@ -175,7 +175,7 @@ fn read_input<S: Source>(
 }
 
 /// Prints what the job asks of these letters and relations.
-fn print_input<R: Threads + Sync, E: DegreeEngine, K: Sink>(
+fn print_input<R: Threads + Sync, E: DegreeEngine, K: Sink, T: Sink>(
     rt: &R,
     alloc: Global,
     job: &Job,
@@ -183,16 +183,20 @@ fn print_input<R: Threads + Sync, E: DegreeEngine, K: Sink>(
     field: &Field,
     given: &Presentation,
     out: &mut K,
+    err: &mut T,
+    failed: &mut bool,
 ) -> Status
-    requires limits { E.kinds engine.old ≡ limits_of job.now.engine }
+    requires engine { IsEngineOf job.now (E.kinds engine.old) (E.may_account engine.old) }
     requires modulus { field.now ≡ job.now.modulus }
     requires bound { job.now.bound ≤ 64 }
     requires residues { All (HasResidues field.now) given.now.relations }
 
     ensures end { IsTaskEnd (task_of_job job.now given.now.alphabet given.now.relations) (K.held out.old) (K.held out.new) (K.room out.old) (K.faults out.old) (K.faults out.new) result }
+    ensures told { (trace : List ℕ) × IsTaskTrace (accounts_of job.now) (traces_of job.now) (task_of_job job.now given.now.alphabet given.now.relations) (K.held out.old) (K.held out.new) (K.room out.old) result trace
+        × Tells (T.held err.old) (T.held err.new) (T.faults err.old) (T.faults err.new) failed.old failed.new trace }
 {
     let asked = asked_of(job);
-    match print_job(rt, alloc, engine, field, given, asked, out) {
+    match print_job(rt, alloc, engine, field, given, asked, out, err, failed) {
         Ok(()) => Status::Done,
         Err(
             PrintFault::Limit {
@@ -212,23 +216,37 @@ fn print_input<R: Threads + Sync, E: DegreeEngine, K: Sink>(
 
 /// What the job shows.
 fn asked_of(job: &Job) -> Asked
-    ensures { result ≡ record { bound = job.now.bound; basis = shows_basis job.now.show; series = shows_series job.now.show } }
+    ensures { result ≡ record { bound = job.now.bound; basis = shows_basis job.now.show; series = shows_series job.now.show; trace = traces_of job.now } }
 {
+    let trace = traces(job);
     match job.show {
         Show::Basis => Asked {
             bound: job.bound,
             basis: true,
             series: false,
+            trace,
         },
         Show::Series => Asked {
             bound: job.bound,
             basis: false,
             series: true,
+            trace,
         },
         Show::Both => Asked {
             bound: job.bound,
             basis: true,
             series: true,
+            trace,
         },
+    }
+}
+
+/// Whether the accounts are told.
+fn traces(job: &Job) -> bool
+    ensures { result ≡ traces_of job.now }
+{
+    match job.engine {
+        EngineKind::Race | EngineKind::Core => job.trace,
+        EngineKind::Seq | EngineKind::Plain => false,
     }
 }

@@ -177,6 +177,57 @@ fn algebras_print_their_bases_and_series(rt: HostRuntime) -> Result<(), Fail> {
     Ok(())
 }
 
+/// An element in each degree from 2 to 20. The free algebra has 2^20 words in the last one.
+#[test]
+fn a_basis_goes_on_in_each_degree(rt: HostRuntime) -> Result<(), Fail> {
+    let alloc = rt.alloc();
+    let mut output = String::from_str(alloc, "% 2\nx^2-y*x\n% 3\nx*y*x-y^2*x\n")?;
+    for d in 2_u32..19 {
+        let lines = format!(in alloc;
+            "% {}\nx*y^{d}*x-y^{}*x\n",
+            d.wrapping_add(2),
+            d.wrapping_add(1)
+        )?;
+        output.push_str(lines.as_str())?;
+    }
+    output.push_str("% series\n")?;
+    for d in 0_u32..21 {
+        let line = format!(in alloc; "{d} {}\n", d.wrapping_add(1))?;
+        output.push_str(line.as_str())?;
+    }
+    expect_run(
+        &rt,
+        "gb mod=101 deg=20 workers=8",
+        SQUARE.as_bytes(),
+        NONE,
+        Status::Done,
+        output.as_str(),
+        "",
+    )
+}
+
+/// Polynomials in three letters. The free algebra has 3^20 words in the last degree.
+#[test]
+fn commuting_letters_have_few_normal_words(rt: HostRuntime) -> Result<(), Fail> {
+    let alloc = rt.alloc();
+    let mut output = String::from_str(alloc, "% 2\nx*y-y*x\nx*z-z*x\ny*z-z*y\n% series\n")?;
+    let mut count: u32 = 0;
+    for d in 0_u32..21 {
+        count = count.wrapping_add(d).wrapping_add(1);
+        let line = format!(in alloc; "{d} {count}\n")?;
+        output.push_str(line.as_str())?;
+    }
+    expect_run(
+        &rt,
+        "gb mod=101 deg=20",
+        b"vars x,y,z; x*y-y*x, x*z-z*x, y*z-z*y;".as_slice(),
+        NONE,
+        Status::Done,
+        output.as_str(),
+        "",
+    )
+}
+
 #[test]
 fn texts_are_refused_with_their_first_fault(rt: HostRuntime) -> Result<(), Fail> {
     for (text, fault, told) in [

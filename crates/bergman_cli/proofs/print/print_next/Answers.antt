@@ -1,8 +1,10 @@
 use Rattle.std.proofs.Common.{◌+◌, ℕ, List, Err, ap, subst, ◌∙◌}
 use Rattle.std.proofs.KnownBytes.{Appends-nil}
 use Rattle.ideal_laws.specs.Quantities.{IsFirstPassing, IsQuantity}
+use Rattle.bergman_cli.specs.Traces.{Tells, trace_of}
 use Rattle.bergman_cli.proofs.Gaining.{all_none}
-use Rattle.bergman_cli.proofs.DegreeLines.{hidden_next, limit_moved, residues_of, shown_next, undone_shown}
+use Rattle.bergman_cli.proofs.Traced.{tells_none}
+use Rattle.bergman_cli.proofs.DegreeLines.{hidden_next, is_hidden, is_shown, limit_moved, residues_of, shown_next, undone_shown}
 use Rattle.bergman_cli.proofs.print.print_next.Goals as goal
 
 pub returns-in-Err-Limit-clause-undone : goal.returns-in-Err-Limit-clause-undone
@@ -15,13 +17,14 @@ returns-in-Err-Limit-clause-undone g c =
       c.in-Err-Limit.degree-is ∙ u.0,
       limit_moved (IsFirstPassing Q limits) _ _ _ _ c.in-Err-Limit.kind-is c.in-Err-Limit.value-is passes,
       Appends-nil (g.K.Sink.held c.args.out.now),
+      tells_none (g.T.Sink.held c.args.err.now) (g.T.Sink.faults c.args.err.now) c.args.failed.now,
     )
 
-pub returns-then-not-shows-clause-printed : goal.returns-then-not-shows-clause-printed
-returns-then-not-shows-clause-printed g c =
+pub returns-then-not-asked-clause-printed : goal.returns-then-not-asked-clause-printed
+returns-then-not-asked-clause-printed g c =
     let next = c.in-Ok.ensures in
     hidden_next c.args.field.now c.args.given.now.alphabet c.args.given.now.relations (g.E.DegreeEngine.kinds c.args.engine.now) c.args.basis.now c.advance.new.basis c.requires.weights next.weights next.done next.reduced next.within
-    c.args.shows _ _ _ _ _ _ c.if-not-shows.true (all_none (g.K.Sink.held c.args.out.now) (g.K.Sink.room c.args.out.now) (g.K.Sink.faults c.args.out.now))
+    c.args.asked.basis _ _ _ _ _ _ (is_hidden c.args.asked.basis c.if-not-asked.true) (all_none (g.K.Sink.held c.args.out.now) (g.K.Sink.room c.args.out.now) (g.K.Sink.faults c.args.out.now))
 
 pub write_degree-requires-clause-residues : goal.write_degree-requires-clause-residues
 write_degree-requires-clause-residues g c =
@@ -33,10 +36,12 @@ pub returns-in-Ok-write_degree-clause-printed : goal.returns-in-Ok-write_degree-
 returns-in-Ok-write_degree-clause-printed g c =
     let next = c.in-Ok.ensures in
     shown_next c.args.field.now c.args.given.now.alphabet c.args.given.now.relations (g.E.DegreeEngine.kinds c.args.engine.now) c.args.basis.now c.advance.new.basis c.requires.weights next.weights next.done next.reduced next.within
-    c.args.shows _ _ _ _ _ _ c.if-not-shows.false c.in-Ok-write_degree.ensures.written
+    c.args.asked.basis _ _ _ _ _ _ (is_shown c.args.asked.basis c.if-not-asked.false) c.in-Ok-write_degree.ensures.written
 
 pub returns-clause-undone : goal.returns-clause-undone
 returns-clause-undone g c =
     let next = c.in-Ok.ensures in
+    let Told = Tells (g.T.Sink.held c.args.err.now) (g.T.Sink.held c.tell_degree.new.err) (g.T.Sink.faults c.args.err.now) (g.T.Sink.faults c.tell_degree.new.err) c.args.failed.now c.tell_degree.new.failed in
+    let told = subst (λ (d : ℕ). Told (trace_of c.args.asked.trace c.args.given.now.alphabet.names d c.in-Ok.account)) (c.done-d.ensures.value ∙ next.done) c.in_ok-tell_degree-in-Ok.ensures.told in
     undone_shown c.args.field.now c.args.given.now.alphabet c.args.given.now.relations (g.E.DegreeEngine.kinds c.args.engine.now) c.args.basis.now c.advance.new.basis c.requires.weights next.weights next.done next.reduced next.within
-    c.args.shows _ _ _ _ _ _ c.if-not-shows.false c.in-Err.ensures.unwritten
+    c.args.asked.basis _ _ _ _ _ _ _ c.in-Err.fault (is_shown c.args.asked.basis c.if-not-asked.false) (c.in-Ok.account, next.account, told) c.in-Err.ensures.unwritten

@@ -1,5 +1,7 @@
-use Rattle.std.proofs.Common.{map, string_bytes}
+use Rattle.std.proofs.Common.{false, map, refl, string_bytes}
 use Rattle.bergman_cli.proofs.Causes.{command_exactly, completes, end_done, end_limit, end_memory, end_part, end_read, end_text, end_write, engine_exactly, refuses_text, stops_there, usage_exactly}
+use Rattle.bergman_cli.specs.Lines.{fault_line}
+use Rattle.bergman_cli.proofs.Traced.{tells_behind, told_end}
 use Rattle.bergman_cli.proofs.run.bergman.Goals as goal
 
 pub returns-clause-done : goal.returns-clause-done
@@ -31,6 +33,11 @@ returns-clause-part g c = end_part (map string_bytes c.args.words.now) _ _ _ _ _
 
 pub returns-clause-memory : goal.returns-clause-memory
 returns-clause-memory g c = end_memory (map string_bytes c.args.words.now) _ _ _ _ _ _ _ _ _ c.run_words-status.result c.run_words-status.ensures.end
+
+pub returns-clause-told : goal.returns-clause-told
+returns-clause-told g c =
+    let told = c.run_words-status.ensures.told in
+    (told.0, told.1, told_end _ _ _ _ false c.tell_status.new.failed _ refl (tells_behind _ _ _ _ _ _ told.0 (fault_line c.run_words-status.result) false _ _ told.2 c.tell_status.ensures))
 
 pub returns-clause-complete : goal.returns-clause-complete
 returns-clause-complete g c =

@@ -1,0 +1,118 @@
+-- The trace of a run is that of the task of its job, or none.
+use Rattle.std.proofs.Common.{◌≡◌, ◌+◌, ℕ, Bool, true, false, List, [], ◌∷◌, refl, ap, inr, subst}
+use Rattle.std.specs.declared.option.Option.{Option}
+use Rattle.words.specs.Names.{Letters}
+use Rattle.free_poly.specs.declared.term.Term.{Term}
+use Rattle.ideal_laws.specs.declared.account.Account.{Account}
+use Rattle.ideal_laws.specs.declared.limits.LimitKind.{LimitKind}
+use Rattle.ideal_laws.specs.declared.presentation.Presentation.{Presentation}
+use Rattle.ideal_laws.specs.Engine.{Elements}
+use Rattle.ideal_laws.specs.Laws.{IsSetting}
+use Rattle.ideal_laws.specs.Limits.{standard_limits}
+use Rattle.command_words.specs.declared.job.Job.{Job}
+use Rattle.bergman_cli.specs.declared.print.Asked.{Asked}
+use Rattle.bergman_cli.specs.declared.print.PrintFault.{PrintFault}
+use Rattle.bergman_cli.specs.declared.print.PrintFault.TheVariants as stops
+use Rattle.bergman_cli.specs.declared.status.Status.{Status}
+use Rattle.bergman_cli.specs.declared.status.Status.TheVariants.{Done, Usage, Input, Limit, Unbuilt, ReadFault, WriteFault, NoMemory}
+use Rattle.bergman_cli.specs.Gains.{IsUndone}
+use Rattle.bergman_cli.specs.Printing.{task_of}
+use Rattle.bergman_cli.specs.Progress.{Task}
+use Rattle.bergman_cli.specs.Run.{IsBuiltJob, IsEngineOf, IsRunTrace, ReadsInput, accounts_of, limits_of, shows_basis, shows_series, task_of_job, traces_of}
+use Rattle.bergman_cli.specs.Traces.{Accounts, AreAccounts, IsAccountOf, IsTaskTrace, IsTrace, IsTracePart, OfTrace}
+
+-- what a task that ended so has for its trace
+module _ (May Own : Accounts) (t : Task) where
+  module _ (own : (p : ℕ) (given : Presentation) (below : Elements) (d : ℕ) (account : Account) → May p given below d account → Own p given below d account) where
+    own_accounts : (d : ℕ) (accounts : List Account) → AreAccounts May t d accounts → AreAccounts Own t d accounts
+    own_accounts d [] all = tt
+    own_accounts d (x ∷ xs) all =
+        let first = all.0 in
+        let one : IsAccountOf Own t d x = record { given = first.given; letters = first.letters; relations = first.relations; below = first.below; is_below = first.is_below; may = own t.modulus first.given first.below d x first.may } in
+        (one, own_accounts (d + 1) xs all.1)
+
+    own_trace : (e : ℕ) (text : List ℕ) → IsTrace May t e text → IsTrace Own t e text
+    own_trace e text h = record { accounts = h.accounts; count = h.count; each = own_accounts 1 h.accounts h.each; printed = h.printed }
+
+  module _ (traces : Bool) (own : traces ≡ true → (p : ℕ) (given : Presentation) (below : Elements) (d : ℕ) (account : Account) → May p given below d account → Own p given below d account) where
+    own_part : (e : ℕ) (text : List ℕ) → IsTracePart May t traces e text → IsTracePart Own t traces e text
+    own_part e text h = by_traces traces own h
+      where
+        by_traces : (b : Bool) → (b ≡ true → (p : ℕ) (given : Presentation) (below : Elements) (d : ℕ) (account : Account) → May p given below d account → Own p given below d account) → IsTracePart May t b e text → IsTracePart Own t b e text
+        by_traces true each k = own_trace (each refl) e text k
+        by_traces false each k = k
+
+    module _ (held more : Option (List ℕ)) (room : Option ℕ) (before now : ℕ) (Told : List ℕ → Type 0) where
+      done_traced : OfTrace May t traces t.bound Told → (trace : List ℕ) × IsTaskTrace Own traces t held more room Done trace × Told trace
+      done_traced h = (h.0, own_part t.bound h.0 h.1, h.2)
+
+      limit_traced : (kind : LimitKind) (d value : ℕ) → IsUndone t held more room before now (λ e. OfTrace May t traces e Told) (stops.Limit kind d value) → (trace : List ℕ) × IsTaskTrace Own traces t held more room (Limit kind d value) trace × Told trace
+      limit_traced kind d value u = let h = u.3 in (h.0, (u.0, u.2.is_reach, u.1, own_part _ h.0 h.1), h.2)
+
+      write_traced : IsUndone t held more room before now (λ e. OfTrace May t traces e Told) stops.WriteFault → (trace : List ℕ) × IsTaskTrace Own traces t held more room WriteFault trace × Told trace
+      write_traced u = let h = u.1.1 in (h.0, (u.1.0, own_part u.1.0.last h.0 h.1), h.2)
+
+      memory_traced : IsUndone t held more room before now (λ e. OfTrace May t traces e Told) stops.NoMemory → (trace : List ℕ) × IsTaskTrace Own traces t held more room NoMemory trace × Told trace
+      memory_traced u = let h = u.1 in (h.0, (u.0, own_part u.0.last h.0 h.1), h.2)
+
+-- the task that is printed is that of the job
+task_is : (p : ℕ) (given : Presentation) (limits : List (LimitKind × ℕ)) (asked : Asked) (job : Job) → p ≡ job.modulus → limits ≡ limits_of job.engine
+    → asked ≡ record { bound = job.bound; basis = shows_basis job.show; series = shows_series job.show; trace = traces_of job } → task_of p given limits asked ≡ task_of_job job given.alphabet given.relations
+task_is p given limits asked job field same is = λ i. record {
+  modulus = field i;
+  letters = given.alphabet;
+  relations = given.relations;
+  limits = same i;
+  normal_words = standard_limits.normal_words;
+  bound = (is i).bound;
+  shows_basis = (is i).basis;
+  shows_series = (is i).series;
+}
+
+-- what is told of the job's task
+module _ (p : ℕ) (given : Presentation) (limits : List (LimitKind × ℕ)) (asked : Asked) (job : Job) (field : p ≡ job.modulus) (May : Accounts) (engine : IsEngineOf job limits May)
+    (is : asked ≡ record { bound = job.bound; basis = shows_basis job.show; series = shows_series job.show; trace = traces_of job }) where
+  abbrev task : Task
+  task = task_of_job job given.alphabet given.relations
+
+  moved : (P : Task → Bool → Type 0) → P (task_of p given limits asked) asked.trace → P task (traces_of job)
+  moved P h = subst (λ (t : Task). P t (traces_of job)) (task_is p given limits asked job field engine.same_limits is) (subst (λ (b : Bool). P (task_of p given limits asked) b) (ap (λ (a : Asked). a.trace) is) h)
+
+  module _ (held more : Option (List ℕ)) (room : Option ℕ) (before now : ℕ) (Told : List ℕ → Type 0) where
+    abbrev Traced : Status → Type 0
+    Traced status = (trace : List ℕ) × IsTaskTrace (accounts_of job) (traces_of job) task held more room status trace × Told trace
+
+    abbrev Undone : Task → Bool → PrintFault → Type 0
+    Undone t traces fault = IsUndone t held more room before now (λ e. OfTrace May t traces e Told) fault
+
+    pub told_done : OfTrace May (task_of p given limits asked) asked.trace asked.bound Told → Traced Done
+    told_done h = done_traced May (accounts_of job) task (traces_of job) engine.accounts held more room before now Told (moved (λ t b. OfTrace May t b t.bound Told) h)
+
+    -- a fault by its name
+    undone_by : (fault named : PrintFault) → fault ≡ named → Undone (task_of p given limits asked) asked.trace fault → Undone task (traces_of job) named
+    undone_by fault named same h = moved (λ t b. Undone t b named) (subst (λ (f : PrintFault). Undone (task_of p given limits asked) asked.trace f) same h)
+
+    pub told_limit : (kind : LimitKind) (d value : ℕ) (fault : PrintFault) → fault ≡ stops.Limit kind d value → Undone (task_of p given limits asked) asked.trace fault → Traced (Limit kind d value)
+    told_limit kind d value fault same h = limit_traced May (accounts_of job) task (traces_of job) engine.accounts held more room before now Told kind d value (undone_by fault (stops.Limit kind d value) same h)
+
+    pub told_write : (fault : PrintFault) → fault ≡ stops.WriteFault → Undone (task_of p given limits asked) asked.trace fault → Traced WriteFault
+    told_write fault same h = write_traced May (accounts_of job) task (traces_of job) engine.accounts held more room before now Told (undone_by fault stops.WriteFault same h)
+
+    pub told_memory : (fault : PrintFault) → fault ≡ stops.NoMemory → Undone (task_of p given limits asked) asked.trace fault → Traced NoMemory
+    told_memory fault same h = memory_traced May (accounts_of job) task (traces_of job) engine.accounts held more room before now Told (undone_by fault stops.NoMemory same h)
+
+module _ (words : List (List ℕ)) (left now held more : Option (List ℕ)) (room : Option ℕ) where
+  abbrev Traces : Status → List ℕ → Type 0
+  Traces status trace = IsRunTrace words left now held more room status trace
+
+  -- where the text was read
+  module _ (job : Job) (is : IsBuiltJob words job) (letters : Letters) (relations : List (List Term)) (reads : ReadsInput job.modulus left now letters relations) (setting : IsSetting job.modulus letters.weights relations) (trace : List ℕ) where
+    pub read_trace : (status : Status) → IsTaskTrace (accounts_of job) (traces_of job) (task_of_job job letters relations) held more room status trace → Traces status trace
+    read_trace Done h = (job, is, record { text = reads.0; is_input = reads.1; letters = letters; relations = relations; reads = reads.2; setting = setting; holds = h })
+    read_trace (Usage fault) h = absurd h
+    read_trace (Input problem) h = absurd h
+    read_trace (Limit kind d value) h = (job, is, record { text = reads.0; is_input = reads.1; letters = letters; relations = relations; reads = reads.2; setting = setting; holds = h })
+    read_trace (Unbuilt part) h = absurd h
+    read_trace ReadFault h = absurd h
+    read_trace WriteFault h = (job, is, record { text = reads.0; is_input = reads.1; letters = letters; relations = relations; reads = reads.2; setting = setting; holds = h })
+    read_trace NoMemory h = inr (job, is, record { text = reads.0; is_input = reads.1; letters = letters; relations = relations; reads = reads.2; setting = setting; holds = h })
