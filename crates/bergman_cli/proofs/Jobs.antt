@@ -30,6 +30,17 @@ told words job key j stands = by_value (j.values key)
     by_value (inl t) = (t.says.text, t.says.is_value)
     by_value (inr d) = absurd (d.0 stands)
 
+-- the workers, whether a word tells them or not
+pub workers_range : (words : List (List ℕ)) (job : Job) → IsJob words job → (1 ≤ job.workers) × (job.workers ≤ 64)
+workers_range words job j = by_value (j.values keys.Workers)
+  where
+    by_value : IsValueIn j.rest keys.Workers (value_at keys.Workers job) → (1 ≤ job.workers) × (job.workers ≤ 64)
+    by_value (inl t) =
+        let value = t.says.is_value in
+        let same = one_count job.workers value.number value.value_is in
+        (omega (arith, same, value.above), omega (arith, same, value.below))
+    by_value (inr d) = let same = one_count job.workers 1 d.1 in (omega (arith, same), omega (arith, same))
+
 module _ (words : List (List ℕ)) (job : Job) (j : IsJob words job) (gb : job.command ≡ Gb) where
   required : All (Stands j.rest) (keys.Mod ∷ keys.Deg ∷ [])
   required = subst (λ (command : Command). All (Stands j.rest) (required_of command)) gb j.complete

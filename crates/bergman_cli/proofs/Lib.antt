@@ -8,3 +8,4 @@ pub mod Counted
 pub mod Jobs
 pub mod Causes
 pub mod RunTraces
+pub mod CoreTraces

@@ -11,6 +11,7 @@ use Rattle.ideal_laws.specs.declared.account.Account.{Account}
 use Rattle.ideal_laws.specs.declared.presentation.Presentation.{Presentation}
 use Rattle.ideal_laws.specs.Engine.{Elements}
 use Rattle.ideal_laws.specs.Limits.{standard_limits}
+use Rattle.degree_loop.specs.Accounts.{IsCoreAccount}
 use Rattle.degree_loop.specs.Limits.{engine_limits}
 use Rattle.relation_reader.specs.declared.fault.InputFault.{InputFault}
 use Rattle.relation_reader.specs.Meaning.{FirstFault, Reads}
@@ -44,7 +45,7 @@ shows_series Both = true
 -- an engine that is built
 abbrev pub IsBuilt : EngineKind → Type 0
 IsBuilt Race = ⊥
-IsBuilt Core = ⊥
+IsBuilt Core = Unit {0}
 IsBuilt Seq = Unit {0}
 IsBuilt Plain = Unit {0}
 
@@ -65,9 +66,15 @@ traces_in Plain asked = false
 abbrev pub traces_of : Job → Bool
 traces_of job = traces_in job.engine job.trace
 
--- the accounts that the engine of a job may tell; of those that are built none tells any
+-- the accounts that an engine may tell
+abbrev pub accounts_in : EngineKind → ℕ → ℕ → Accounts
+accounts_in Race workers schedule p given below d account = ⊥
+accounts_in Core workers schedule p given below d account = IsCoreAccount workers schedule p given.alphabet.weights given.relations below.elements d account
+accounts_in Seq workers schedule p given below d account = ⊥
+accounts_in Plain workers schedule p given below d account = ⊥
+
 abbrev pub accounts_of : Job → Accounts
-accounts_of job p given below d account = ⊥
+accounts_of job = accounts_in job.engine job.workers job.schedule
 
 -- limits and accounts of the engine that a job names
 pub record IsEngineOf (job : Job) (limits : List (LimitKind × ℕ)) (May : Accounts) : Type 0 where

@@ -2,9 +2,11 @@
 use Rattle.std.specs.Prelude.{ℕ, ◌≡◌, ◌+◌, ◌<◌, ◌≤◌, Bool, true, false, List, [], ◌∷◌, ◌++◌, Option, All, length}
 use Rattle.std.specs.Io.KnownBytes.{Appends}
 use Rattle.words.specs.Words.{IsOver}
+use Rattle.free_poly.specs.declared.term.Term.{Term}
 use Rattle.bg_io.specs.Ends.{Rose}
 use Rattle.ideal_laws.specs.declared.account.Account.{Account}
 use Rattle.ideal_laws.specs.declared.presentation.Presentation.{Presentation}
+use Rattle.ideal_laws.specs.Basis.{IsReducedBasis}
 use Rattle.ideal_laws.specs.Engine.{Elements}
 use Rattle.ideal_laws.specs.Kept.{IsBelow}
 use Rattle.ideal_laws.specs.Laws.{IsSetting}
@@ -23,11 +25,11 @@ pub record IsPrintable (letters : ℕ) (account : Account) : Type 0 where
   pub words : All (IsOver letters) account.columns
   pub calls : All (λ call. call.column < length account.columns) account.calls
 
--- so is each account of a degree of the presentation
+-- so is each account of a degree whose reduced basis is found
 abbrev pub ArePrintable : Accounts → ℕ → Presentation → Type 0
 ArePrintable May p given =
-    (below : Elements) (d : ℕ) (account : Account) → IsSetting p given.alphabet.weights given.relations → IsBelow p given.alphabet.weights given.relations d below → May p given below d account
-    → IsPrintable (length given.alphabet.weights) account
+    (below : Elements) (d : ℕ) (elements : List (List Term)) (account : Account) → d ≤ 64 → IsSetting p given.alphabet.weights given.relations → IsBelow p given.alphabet.weights given.relations d below
+    → IsReducedBasis p given.alphabet.weights given.relations d elements → May p given below d account → IsPrintable (length given.alphabet.weights) account
 
 -- an account that the engine may give of degree d of a task
 pub record IsAccountOf (May : Accounts) (t : Task) (d : ℕ) (account : Account) : Type 0 where

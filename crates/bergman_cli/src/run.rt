@@ -21,9 +21,9 @@ use crate::status::{InputProblem, Part, Status};
 use crate::telling::tell_status;
 use bg_io::{Gate, ReadAllFault, Sink, Source, read_all};
 use command_words::{Command, EngineKind, Job, Show, read_words, words_law};
-use degree_loop::SeqEngine;
+use degree_loop::{CoreEngine, SeqEngine, claim_history_law};
 use field_table::{Field, listed_moduli_law};
-use ideal_laws::{DegreeEngine, Limits, Presentation, setting_law};
+use ideal_laws::{DegreeEngine, Limits, Presentation, lower_law, setting_law};
 use plain_engine::PlainEngine;
 use relation_reader::{ReaderFault, read, reading_laws};
 use std::alloc::Global;
@@ -106,6 +106,8 @@ fn run_words<R: Threads + Sync, S: Source, K: Sink, T: Sink>(
         };
     }
     listed_moduli_law();
+    lower_law();
+    claim_history_law();
     match job.engine {
         EngineKind::Plain => {
             let mut engine = PlainEngine::new(Limits::standard());
@@ -115,7 +117,11 @@ fn run_words<R: Threads + Sync, S: Source, K: Sink, T: Sink>(
             let mut engine = SeqEngine::new(Limits::standard());
             run_job(rt, alloc, &job, &mut engine, source, out, err, failed)
         }
-        EngineKind::Race | EngineKind::Core => Status::Unbuilt { part: Part::Engine },
+        EngineKind::Core => {
+            let mut engine = CoreEngine::new(Limits::standard(), job.workers, job.schedule);
+            run_job(rt, alloc, &job, &mut engine, source, out, err, failed)
+        }
+        EngineKind::Race => Status::Unbuilt { part: Part::Engine },
     }
 }
 

@@ -10,7 +10,7 @@ use relation_reader::InputFault;
 pub enum Part {
     /// A command other than `gb`.
     Command,
-    /// An engine other than the plain and the sequential one.
+    /// The race of workers.
     Engine,
 }
 

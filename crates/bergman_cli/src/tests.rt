@@ -19,6 +19,9 @@ const SQUARE: &str = "vars x,y; x^2-y*x;";
 const SQUARE_ANSWER: &str =
     "% 2\nx^2-y*x\n% 3\nx*y*x-y^2*x\n% 4\nx*y^2*x-y^3*x\n% series\n0 1\n1 2\n2 3\n3 4\n4 5\n";
 
+const SQUARE_TRACE: &str =
+    "# degree 2 rows 1 columns 2\n1 0 won x^2 row 0\n# degree 3 rows 1 columns 2\n1 0 won x*y*x row 0\n# degree 4 rows 2 columns 2\n1 0 won x*y^2*x row 0\n";
+
 const EXTERIOR: &str =
     "% the exterior algebra on three letters\nvars x, y, z;\nx^2, y^2, z^2,\nx*y + y*x, x*z + z*x, y*z + z*y;\n";
 
@@ -119,6 +122,12 @@ fn algebras_print_their_bases_and_series(rt: HostRuntime) -> Result<(), Fail> {
         ("gb mod=101 deg=4", SQUARE, SQUARE_ANSWER),
         ("gb mod=101 deg=4 engine=seq", SQUARE, SQUARE_ANSWER),
         ("gb mod=101 deg=4 engine=plain", SQUARE, SQUARE_ANSWER),
+        ("gb mod=101 deg=4 engine=core", SQUARE, SQUARE_ANSWER),
+        (
+            "gb mod=101 deg=4 engine=seq trace=yes",
+            SQUARE,
+            SQUARE_ANSWER,
+        ),
         ("gb mod=101 deg=1", SQUARE, "% series\n0 1\n1 2\n"),
         (
             "gb mod=101 deg=2",
@@ -505,6 +514,54 @@ fn a_failed_call_ends_the_run(rt: HostRuntime) -> Result<(), Fail> {
         Status::Input(InputProblem::Text(InputFault::Constant { relation: 1 })),
         "",
         "",
+    )
+}
+
+/// In degree 4 both rows meet at one column, which the first one holds before the other looks.
+#[test]
+fn claims_are_told(rt: HostRuntime) -> Result<(), Fail> {
+    let line = "gb mod=101 deg=4 trace=yes engine=core workers=2 schedule=0";
+    let square = SQUARE.as_bytes();
+    expect_run(
+        &rt,
+        line,
+        square,
+        NONE,
+        Status::Done,
+        SQUARE_ANSWER,
+        SQUARE_TRACE,
+    )?;
+    // Where a write of it fails, nothing more is told.
+    for (told, text) in [(1, ""), (2, "# d"), (5, "# degree 2 r")] {
+        let failing = Failing {
+            read: 0,
+            write: 0,
+            told,
+        };
+        expect_run(
+            &rt,
+            line,
+            square,
+            failing,
+            Status::Done,
+            SQUARE_ANSWER,
+            text,
+        )?;
+    }
+    // The claims of a degree are told before its lines are written, and no further degree is asked for.
+    let failing = Failing {
+        read: 0,
+        write: 1,
+        told: 0,
+    };
+    expect_run(
+        &rt,
+        line,
+        square,
+        failing,
+        Status::WriteFault,
+        "",
+        "# degree 2 rows 1 columns 2\n1 0 won x^2 row 0\nbergman: write fault\n",
     )
 }
 

@@ -21,6 +21,10 @@ loop-degree-init g c =
       ([], part_start (g.E.DegreeEngine.may_account c.args.engine.now) task c.args.asked.trace, tells_none (g.T.Sink.held c.args.err.now) (g.T.Sink.faults c.args.err.now) c.args.failed.now),
     )
 
+pub print_next-requires-clause-printable : goal.print_next-requires-clause-printable
+print_next-requires-clause-printable g c κs within = λ traces below d elements account small setting is_below reduced may.
+    c.requires.printable traces below d elements account small setting is_below reduced (c.loop-degree.invariant.4 c.args.field.now c.args.given.now below d account may)
+
 pub returns-in_err-print_next-clause-undone : goal.returns-in_err-print_next-clause-undone
 returns-in_err-print_next-clause-undone g c =
     let task = task_of c.args.field.now c.args.given.now (g.E.DegreeEngine.kinds c.args.engine.now) c.args.asked in

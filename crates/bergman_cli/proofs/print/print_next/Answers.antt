@@ -1,5 +1,7 @@
-use Rattle.std.proofs.Common.{◌+◌, ℕ, List, Err, ap, subst, ◌∙◌}
+use Rattle.std.proofs.Common.{◌+◌, ℕ, List, Err, ap, subst, ◌∙◌, arith, refl}
 use Rattle.std.proofs.KnownBytes.{Appends-nil}
+use Rattle.ideal_laws.specs.Basis.{IsReducedBasis}
+use Rattle.ideal_laws.specs.Kept.{IsBelow}
 use Rattle.ideal_laws.specs.Quantities.{IsFirstPassing, IsQuantity}
 use Rattle.bergman_cli.specs.Traces.{Tells, trace_of}
 use Rattle.bergman_cli.proofs.Gaining.{all_none}
@@ -25,6 +27,15 @@ returns-then-not-asked-clause-printed g c =
     let next = c.in-Ok.ensures in
     hidden_next c.args.field.now c.args.given.now.alphabet c.args.given.now.relations (g.E.DegreeEngine.kinds c.args.engine.now) c.args.basis.now c.advance.new.basis c.requires.weights next.weights next.done next.reduced next.within
     c.args.asked.basis _ _ _ _ _ _ (is_hidden c.args.asked.basis c.if-not-asked.true) (all_none (g.K.Sink.held c.args.out.now) (g.K.Sink.room c.args.out.now) (g.K.Sink.faults c.args.out.now))
+
+pub tell_degree-requires : goal.tell_degree-requires
+tell_degree-requires g c =
+    let next = c.in-Ok.ensures in
+    let basis = c.args.basis.now in
+    let given = c.args.given.now in
+    let is_below : IsBelow c.args.field.now given.alphabet.weights given.relations (basis.done + 1) basis = record { kept = next.kept.0; next = refl; same_weights = c.requires.weights; reduced = c.requires.reduced } in
+    let reduced = subst (λ (ws : List ℕ). IsReducedBasis c.args.field.now ws given.relations (basis.done + 1) next.elements.0) c.requires.weights next.elements.1 in
+    record { printable = λ traces. c.requires.printable traces basis (basis.done + 1) next.elements.0 c.in-Ok.account (omega (arith, c.requires.small)) c.setting_law.ensures is_below reduced next.account }
 
 pub write_degree-requires-clause-residues : goal.write_degree-requires-clause-residues
 write_degree-requires-clause-residues g c =

@@ -1,6 +1,12 @@
+use Rattle.std.proofs.Common.{◌∙◌, ap, sym}
+use Rattle.bergman_cli.specs.declared.print.Asked.{Asked}
 use Rattle.bergman_cli.specs.Traces.{Tells}
 use Rattle.bergman_cli.proofs.RunTraces.{told_done, told_limit, told_memory, told_write}
 use Rattle.bergman_cli.proofs.run.print_input.Goals as goal
+
+pub print_job-requires-clause-printable : goal.print_job-requires-clause-printable
+print_job-requires-clause-printable g c κs within = λ traces.
+    c.requires.engine.printable (sym (ap (λ (a : Asked). a.trace) c.asked_of-asked.ensures) ∙ traces) c.args.field.now c.args.given.now
 
 pub returns-in-Ok-clause-told : goal.returns-in-Ok-clause-told
 returns-in-Ok-clause-told g c =

@@ -1,8 +1,12 @@
-use Rattle.std.proofs.Common.{◌≡◌, arith, map, rules, string_bytes}
+use Rattle.std.proofs.Common.{◌≡◌, ◌∙◌, ap, arith, map, rules, string_bytes, sym}
 use Rattle.std.proofs.lemmas.List.Elements.{All-contains}
 use Rattle.field_table.specs.Residues.{IsFieldModulus, listed_moduli}
+use Rattle.degree_loop.specs.Limits.{engine_limits}
 use Rattle.command_words.specs.declared.job.Command.TheVariants.{Gb}
-use Rattle.bergman_cli.proofs.Jobs.{bound_small, listed, listed_small}
+use Rattle.command_words.specs.declared.job.EngineKind.TheVariants.{Core}
+use Rattle.bergman_cli.specs.Run.{limits_of}
+use Rattle.bergman_cli.proofs.CoreTraces.{core_engine}
+use Rattle.bergman_cli.proofs.Jobs.{bound_small, listed, listed_small, workers_range}
 use Rattle.bergman_cli.proofs.run.run_words.Goals as goal
 
 pub run_job-requires-clause-modulus : goal.run_job-requires-clause-modulus
@@ -38,3 +42,35 @@ run_job-requires-in-Seq-clause-bound g c =
     let gb : c.in-Ok.job.command ≡ Gb = search rules in
     let bound = bound_small (map string_bytes c.args.words.now) c.in-Ok.job c.in-Ok.ensures gb in
     search bound
+
+pub run_job-requires-in-Core-clause-modulus : goal.run_job-requires-in-Core-clause-modulus
+run_job-requires-in-Core-clause-modulus g c =
+    let gb : c.in-Ok.job.command ≡ Gb = search rules in
+    let field = All-contains IsFieldModulus listed_moduli c.in-Ok.job.modulus c.listed_moduli_law.ensures (listed (map string_bytes c.args.words.now) c.in-Ok.job c.in-Ok.ensures gb) in
+    search field
+
+pub run_job-requires-in-Core-clause-small : goal.run_job-requires-in-Core-clause-small
+run_job-requires-in-Core-clause-small g c =
+    let gb : c.in-Ok.job.command ≡ Gb = search rules in
+    omega (arith, listed_small c.in-Ok.job.modulus (listed (map string_bytes c.args.words.now) c.in-Ok.job c.in-Ok.ensures gb))
+
+pub run_job-requires-in-Core-clause-bound : goal.run_job-requires-in-Core-clause-bound
+run_job-requires-in-Core-clause-bound g c =
+    let gb : c.in-Ok.job.command ≡ Gb = search rules in
+    let bound = bound_small (map string_bytes c.args.words.now) c.in-Ok.job c.in-Ok.ensures gb in
+    search bound
+
+pub new-engine-requires-in-Core-clause-some : goal.new-engine-requires-in-Core-clause-some
+new-engine-requires-in-Core-clause-some g c = let range = workers_range (map string_bytes c.args.words.now) c.in-Ok.job c.in-Ok.ensures in search (range.0, rules)
+
+pub new-engine-requires-in-Core-clause-few : goal.new-engine-requires-in-Core-clause-few
+new-engine-requires-in-Core-clause-few g c = let range = workers_range (map string_bytes c.args.words.now) c.in-Ok.job c.in-Ok.ensures in search (range.1, rules)
+
+pub run_job-requires-in-Core-clause-engine : goal.run_job-requires-in-Core-clause-engine
+run_job-requires-in-Core-clause-engine g c κs within =
+    let job = c.in-Ok.job in
+    let range = workers_range (map string_bytes c.args.words.now) job c.in-Ok.ensures in
+    let made = c.new-engine-in-Core.ensures in
+    let is : job.engine ≡ Core = search rules in
+    let same = ap engine_limits (made.limits ∙ c.standard-in-Core.ensures.value) ∙ ap limits_of (sym is) in
+    core_engine c.claim_history_law.ensures c.lower_law.ensures.lower job _ _ _ is same made.workers made.schedule range.0 range.1
