@@ -1,11 +1,11 @@
 -- What the words of a job say of it, and that words are one job or have one fault.
-use Rattle.std.proofs.Common.{◌≡◌, ◌<◌, ◌≤◌, ℕ, List, [], ◌∷◌, All, refl, sym, ◌∙◌, inl, inr, arith, subst, true, get_or, Result, Ok, Err}
+use Rattle.std.proofs.Common.{◌≡◌, ◌<◌, ◌≤◌, ◌^◌, ℕ, List, [], ◌∷◌, All, refl, sym, ◌∙◌, inl, inr, arith, subst, true, get_or, Result, Ok, Err}
 use Rattle.std.specs.Prelude.{nat_le}
 use Rattle.std.specs.List.{Contains}
 use Rattle.std.proofs.lemmas.Bool.Decides.{nat_tests}
 use Rattle.std.proofs.lemmas.List.Elements.{All-contains}
 use Rattle.std.proofs.lemmas.List.Sums.{AllPass-from_list_all}
-use Rattle.field_table.specs.Residues.{listed_moduli}
+use Rattle.field_table.specs.Residues.{IsFieldModulus, listed_moduli}
 use Rattle.words.proofs.Members.{Contains-first, Contains-more}
 use Rattle.command_words.specs.declared.job.Command.{Command}
 use Rattle.command_words.specs.declared.job.Command.TheVariants.{Gb}
@@ -59,8 +59,15 @@ le_says : (m n : ℕ) → nat_le m n ≡ true → m ≤ n
 le_says m n e = grind (arith, nat_tests)
 
 -- the listed moduli are from 2 to 1000003
-pub listed_small : (p : ℕ) → Contains listed_moduli p → p ≤ 1000003
+listed_small : (p : ℕ) → Contains listed_moduli p → p ≤ 1000003
 listed_small p m = All-contains (λ n. n ≤ 1000003) listed_moduli p (λ k d within. le_says (get_or listed_moduli k d) 1000003 (AllPass-from_list_all (λ n. nat_le n 1000003) listed_moduli refl k d within)) m
+
+module _ (words : List (List ℕ)) (job : Job) (j : IsJob words job) (gb : job.command ≡ Gb) where
+  pub modulus_field : All IsFieldModulus listed_moduli → IsFieldModulus job.modulus
+  modulus_field all = All-contains IsFieldModulus listed_moduli job.modulus all (listed words job j gb)
+
+  pub modulus_small : job.modulus < 2 ^ 31
+  modulus_small = omega (arith, listed_small job.modulus (listed words job j gb))
 
 pub listed_some : (p : ℕ) → Contains listed_moduli p → 0 < p
 listed_some p m =

@@ -59,7 +59,7 @@ module _ (p : ℕ) (letters : Letters) (relations : List (List Term)) where
   part_start true = no_basis p letters relations
   part_start false = refl
 
-pub so_far_start : (t : Task) → IsBasisSoFar t 0 []
+so_far_start : (t : Task) → IsBasisSoFar t 0 []
 so_far_start t = record {
   upto = omega arith;
   passes_none = λ e from le. absurd (omega (arith, from, le));
@@ -73,6 +73,9 @@ pub record Stands (t : Task) (d : ℕ) (below : Elements) (text : List ℕ) : Ty
   pub kept : IsKept below
   pub reduced : IsReducedUpto t.modulus t.relations below
   pub so_far : IsBasisSoFar t d text
+
+pub stands_start : (t : Task) (below : Elements) → below.done ≡ 0 → below.weights ≡ t.letters.weights → IsKept below → Stands t 0 below []
+stands_start t below done weights kept = record { done = done; weights = weights; kept = kept; reduced = λ d from le. absurd (omega (arith, from, le, done)); so_far = so_far_start t }
 
 module _ (t : Task) (d : ℕ) (below : Elements) (text : List ℕ) (s : Stands t d below text) (within : d < t.bound) where
   abbrev lines : List (List Term) → List ℕ

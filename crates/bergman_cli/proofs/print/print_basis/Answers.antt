@@ -1,11 +1,11 @@
-use Rattle.std.proofs.Common.{◌+◌, ◌++◌, ℕ, List, [], refl, ap, subst, ◌∙◌, arith}
+use Rattle.std.proofs.Common.{◌+◌, ◌++◌, ℕ, List, [], refl, ap, subst, ◌∙◌}
 use Rattle.std.proofs.lemmas.Result.{err_from_is_err_and}
 use Rattle.ideal_laws.specs.declared.limits.LimitKind.{LimitKind}
 use Rattle.bergman_cli.specs.Printing.{IsBasisUndone, IsNext, IsNextUndone, lines_of, task_of}
 use Rattle.bergman_cli.specs.Traces.{OfNextTrace, OfTrace, Tells}
 use Rattle.bergman_cli.proofs.Gaining.{all_behind, all_none}
 use Rattle.bergman_cli.proofs.DegreeLines.{if_err}
-use Rattle.bergman_cli.proofs.Printed.{so_far_next, so_far_start, undone_next}
+use Rattle.bergman_cli.proofs.Printed.{so_far_next, stands_start, undone_next}
 use Rattle.bergman_cli.proofs.Traced.{part_start, told_here, told_next, tells_none}
 use Rattle.bergman_cli.proofs.print.print_basis.Goals as goal
 
@@ -14,7 +14,7 @@ loop-degree-init g c =
     let task = task_of c.args.field.now c.args.given.now (g.E.DegreeEngine.kinds c.args.engine.now) c.args.asked in
     let new = c.new-basis.ensures in (
       [],
-      record { done = new.done; weights = new.weights; kept = new.kept; reduced = λ d from le. absurd (omega (arith, from, le, new.done)); so_far = so_far_start task },
+      stands_start task c.new-basis.result new.done new.weights new.kept,
       all_none (g.K.Sink.held c.args.out.now) (g.K.Sink.room c.args.out.now) (g.K.Sink.faults c.args.out.now),
       refl,
       λ p rs b e a may. may,

@@ -1,64 +1,37 @@
-use Rattle.std.proofs.Common.{◌≡◌, ◌∙◌, ap, arith, map, rules, string_bytes, sym}
-use Rattle.std.proofs.lemmas.List.Elements.{All-contains}
-use Rattle.field_table.specs.Residues.{IsFieldModulus, listed_moduli}
+use Rattle.std.proofs.Common.{◌≡◌, ◌∙◌, ap, map, rules, string_bytes, sym}
 use Rattle.degree_loop.specs.Limits.{engine_limits}
-use Rattle.command_words.specs.declared.job.Command.TheVariants.{Gb}
 use Rattle.command_words.specs.declared.job.EngineKind.TheVariants.{Core}
 use Rattle.bergman_cli.specs.Run.{limits_of}
 use Rattle.bergman_cli.proofs.CoreTraces.{core_engine}
-use Rattle.bergman_cli.proofs.Jobs.{bound_small, listed, listed_small, workers_range}
+use Rattle.bergman_cli.proofs.Jobs.{bound_small, modulus_field, modulus_small, workers_range}
 use Rattle.bergman_cli.proofs.run.run_words.Goals as goal
 
 pub run_job-requires-clause-modulus : goal.run_job-requires-clause-modulus
-run_job-requires-clause-modulus g c =
-    let gb : c.in-Ok.job.command ≡ Gb = search rules in
-    let field = All-contains IsFieldModulus listed_moduli c.in-Ok.job.modulus c.listed_moduli_law.ensures (listed (map string_bytes c.args.words.now) c.in-Ok.job c.in-Ok.ensures gb) in
-    search field
+run_job-requires-clause-modulus g c = let says = modulus_field (map string_bytes c.args.words.now) c.in-Ok.job c.in-Ok.ensures (search rules) c.listed_moduli_law.ensures in search says
 
 pub run_job-requires-clause-small : goal.run_job-requires-clause-small
-run_job-requires-clause-small g c =
-    let gb : c.in-Ok.job.command ≡ Gb = search rules in
-    omega (arith, listed_small c.in-Ok.job.modulus (listed (map string_bytes c.args.words.now) c.in-Ok.job c.in-Ok.ensures gb))
+run_job-requires-clause-small g c = let says = modulus_small (map string_bytes c.args.words.now) c.in-Ok.job c.in-Ok.ensures (search rules) in search says
 
 pub run_job-requires-clause-bound : goal.run_job-requires-clause-bound
-run_job-requires-clause-bound g c =
-    let gb : c.in-Ok.job.command ≡ Gb = search rules in
-    let bound = bound_small (map string_bytes c.args.words.now) c.in-Ok.job c.in-Ok.ensures gb in
-    search bound
+run_job-requires-clause-bound g c = let says = bound_small (map string_bytes c.args.words.now) c.in-Ok.job c.in-Ok.ensures (search rules) in search says
 
 pub run_job-requires-in-Seq-clause-modulus : goal.run_job-requires-in-Seq-clause-modulus
-run_job-requires-in-Seq-clause-modulus g c =
-    let gb : c.in-Ok.job.command ≡ Gb = search rules in
-    let field = All-contains IsFieldModulus listed_moduli c.in-Ok.job.modulus c.listed_moduli_law.ensures (listed (map string_bytes c.args.words.now) c.in-Ok.job c.in-Ok.ensures gb) in
-    search field
+run_job-requires-in-Seq-clause-modulus g c = let says = modulus_field (map string_bytes c.args.words.now) c.in-Ok.job c.in-Ok.ensures (search rules) c.listed_moduli_law.ensures in search says
 
 pub run_job-requires-in-Seq-clause-small : goal.run_job-requires-in-Seq-clause-small
-run_job-requires-in-Seq-clause-small g c =
-    let gb : c.in-Ok.job.command ≡ Gb = search rules in
-    omega (arith, listed_small c.in-Ok.job.modulus (listed (map string_bytes c.args.words.now) c.in-Ok.job c.in-Ok.ensures gb))
+run_job-requires-in-Seq-clause-small g c = let says = modulus_small (map string_bytes c.args.words.now) c.in-Ok.job c.in-Ok.ensures (search rules) in search says
 
 pub run_job-requires-in-Seq-clause-bound : goal.run_job-requires-in-Seq-clause-bound
-run_job-requires-in-Seq-clause-bound g c =
-    let gb : c.in-Ok.job.command ≡ Gb = search rules in
-    let bound = bound_small (map string_bytes c.args.words.now) c.in-Ok.job c.in-Ok.ensures gb in
-    search bound
+run_job-requires-in-Seq-clause-bound g c = let says = bound_small (map string_bytes c.args.words.now) c.in-Ok.job c.in-Ok.ensures (search rules) in search says
 
 pub run_job-requires-in-Core-clause-modulus : goal.run_job-requires-in-Core-clause-modulus
-run_job-requires-in-Core-clause-modulus g c =
-    let gb : c.in-Ok.job.command ≡ Gb = search rules in
-    let field = All-contains IsFieldModulus listed_moduli c.in-Ok.job.modulus c.listed_moduli_law.ensures (listed (map string_bytes c.args.words.now) c.in-Ok.job c.in-Ok.ensures gb) in
-    search field
+run_job-requires-in-Core-clause-modulus g c = let says = modulus_field (map string_bytes c.args.words.now) c.in-Ok.job c.in-Ok.ensures (search rules) c.listed_moduli_law.ensures in search says
 
 pub run_job-requires-in-Core-clause-small : goal.run_job-requires-in-Core-clause-small
-run_job-requires-in-Core-clause-small g c =
-    let gb : c.in-Ok.job.command ≡ Gb = search rules in
-    omega (arith, listed_small c.in-Ok.job.modulus (listed (map string_bytes c.args.words.now) c.in-Ok.job c.in-Ok.ensures gb))
+run_job-requires-in-Core-clause-small g c = let says = modulus_small (map string_bytes c.args.words.now) c.in-Ok.job c.in-Ok.ensures (search rules) in search says
 
 pub run_job-requires-in-Core-clause-bound : goal.run_job-requires-in-Core-clause-bound
-run_job-requires-in-Core-clause-bound g c =
-    let gb : c.in-Ok.job.command ≡ Gb = search rules in
-    let bound = bound_small (map string_bytes c.args.words.now) c.in-Ok.job c.in-Ok.ensures gb in
-    search bound
+run_job-requires-in-Core-clause-bound g c = let says = bound_small (map string_bytes c.args.words.now) c.in-Ok.job c.in-Ok.ensures (search rules) in search says
 
 pub new-engine-requires-in-Core-clause-some : goal.new-engine-requires-in-Core-clause-some
 new-engine-requires-in-Core-clause-some g c = let range = workers_range (map string_bytes c.args.words.now) c.in-Ok.job c.in-Ok.ensures in search (range.0, rules)
