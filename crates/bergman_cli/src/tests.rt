@@ -237,6 +237,32 @@ fn commuting_letters_have_few_normal_words(rt: HostRuntime) -> Result<(), Fail> 
     )
 }
 
+/// Degree 22 has 2^22 words, and all are normal.
+#[test]
+fn normal_words_have_a_limit(rt: HostRuntime) -> Result<(), Fail> {
+    let alloc = rt.alloc();
+    let mut output = String::from_str(alloc, "% series\n")?;
+    let mut count: u32 = 1;
+    for d in 0_u32..22 {
+        let line = format!(in alloc; "{d} {count}\n")?;
+        output.push_str(line.as_str())?;
+        count = count.wrapping_mul(2);
+    }
+    expect_run(
+        &rt,
+        "gb mod=101 deg=22",
+        b"vars x,y; ;".as_slice(),
+        NONE,
+        Status::Limit {
+            kind: LimitKind::NormalWords,
+            degree: 22,
+            value: 2_097_153,
+        },
+        output.as_str(),
+        "bergman: limit: normal words 2097153 in degree 22\n",
+    )
+}
+
 #[test]
 fn texts_are_refused_with_their_first_fault(rt: HostRuntime) -> Result<(), Fail> {
     for (text, fault, told) in [
