@@ -1,47 +1,47 @@
-ghost use Rattle.std.specs.Prelude.{◌≡◌, ◌≤◌, All, length};
+ghost use Rattle.std.specs.Prelude.{◌≡◌, ◌≤◌, All, IfOk};
 ghost use Rattle.free_poly.specs.Terms.{HasResidues};
 ghost use Rattle.ideal_laws.specs.Engine.{IsReducedUpto};
-ghost use Rattle.words.specs.Words.{AreWeights};
 
-use crate::presented::{Listed, free, with_relation};
-use field_table::{Field, listed_moduli_law};
+use crate::presented::{algebra_of, assert_basis, assert_same, presented, residues};
+use degree_loop::SeqEngine;
+use field_table::Field;
 use hilbert::{SeriesFault, series};
-use ideal_laws::{
-    Basis, EngineFault, LimitKind, Limits, Presentation, lower_law, run, setting_law,
-};
+use ideal_laws::{Basis, Limits, Presentation, lower_law, run, setting_law};
 use plain_engine::PlainEngine;
 use std::alloc::Global;
 use std::process::Abort;
 use std::test::Fail;
 use std::thread::Threads;
 
-/// The reduced basis and the coefficients up to a bound are these.
-fn assert_algebra<R: Abort + Threads + Sync>(
+/// The reduced basis up to a degree, which all engines find.
+fn basis_of<R: Abort + Threads + Sync>(
     rt: &R,
     alloc: Global,
-    weights: &[u8],
-    relations: &[Listed],
-    elements: &[Listed],
-    numbers: &[u64],
+    field: &Field,
+    given: &Presentation,
+    done: u32,
     case: &str,
-) -> Result<(), Fail>
-    requires weights { AreWeights weights.now }
-    requires some { 2 ≤ length numbers.now }
-    requires small { length numbers.now ≤ 65 }
+) -> Result<Basis, Fail>
+    requires some { 1 ≤ done }
+    requires small { done ≤ 64 }
+    requires residues { All (HasResidues field.now) given.now.relations }
+    ensures weights { IfOk result (λ basis. basis.weights ≡ given.now.alphabet.weights) }
+    ensures reduced { IfOk result (IsReducedUpto field.now given.now.relations) }
 {
-    listed_moduli_law();
-    let field = Field::new(alloc, 101)?;
-    let mut given = free(rt, alloc, weights)?;
-    for listed in relations {
-        given = with_relation(rt, alloc, &field, given, listed)?;
+    let mut plain = PlainEngine::new(Limits::standard());
+    let basis = run(rt, alloc, &mut plain, field, given, done)?;
+    let mut sequential = SeqEngine::new(Limits::standard());
+    let found = run(rt, alloc, &mut sequential, field, given, done)?;
+    assert_equal(rt, &found, &basis, case);
+    Ok(basis)
+}
+
+/// Both bases have the same elements.
+fn assert_equal(rt: &impl Abort, found: &Basis, wanted: &Basis, case: &str) {
+    assert_eq!(rt; found.len(), wanted.len(), "{case}");
+    for place in 0..found.len() {
+        assert_same(rt, found.element(place), wanted.element(place), case);
     }
-    let bound = numbers.len() as u32 - 1;
-    let mut engine = PlainEngine::new(Limits::standard());
-    let basis = run(rt, alloc, &mut engine, &field, &given, bound)?;
-    assert_elements(rt, &basis, elements, case);
-    let counted = numbers_of(alloc, &field, &given, &basis, &Limits::standard())?;
-    assert_eq!(rt; counted.as_slice(), numbers, "{case}");
-    Ok(())
 }
 
 /// The coefficients up to the last degree of a reduced basis.
@@ -61,153 +61,135 @@ fn numbers_of(
     series(alloc, &given.alphabet, basis, basis.done(), limits)
 }
 
-fn assert_elements(rt: &impl Abort, basis: &Basis, wanted: &[Listed], case: &str) {
-    assert_eq!(rt; basis.len() as usize, wanted.len(), "{case}");
-    for place in 0..basis.len() {
-        let terms = basis.element(place).terms();
-        let listed = wanted[place as usize];
-        assert_eq!(rt; terms.len(), listed.len(), "{case}");
-        for (term, (coefficient, letters)) in terms.iter().zip(listed) {
-            assert_eq!(rt; term.coefficient, *coefficient, "{case}");
-            let same = term
-                .word
-                .letters()
-                .iter()
-                .zip(letters.as_bytes())
-                .all(|(a, b)| a.wrapping_add(b'x') == *b);
-            assert!(rt;
-                same && term.word.letters().len() == letters.len(),
-                "{case}"
-            );
-        }
+/// All engines find this basis, and its coefficients up to the last degree are these.
+fn assert_algebra<R: Abort + Threads + Sync>(
+    rt: &R,
+    alloc: Global,
+    modulus: u32,
+    text: &str,
+    elements: Option<&str>,
+    numbers: &[u64],
+) -> Result<(), Fail> {
+    assert!(rt; 2 <= numbers.len() && numbers.len() <= 65);
+    let bound = numbers.len() as u32 - 1;
+    let field = residues(rt, alloc, modulus)?;
+    let given = presented(rt, alloc, &field, text)?;
+    let basis = basis_of(rt, alloc, &field, &given, bound, text)?;
+    if let Some(elements) = elements {
+        assert_basis(rt, alloc, &field, &basis, elements, text)?;
     }
-}
-
-#[test]
-fn small_algebras_have_their_bases(rt: HostRuntime) -> Result<(), Fail> {
-    let alloc = rt.alloc();
-
-    let commuting = &[&[(1, "xy"), (100, "yx")][..]];
-    assert_algebra(
-        &rt,
-        alloc,
-        &[1, 1],
-        commuting,
-        commuting,
-        &[1, 2, 3, 4],
-        "polynomials",
-    )?;
-
-    let exterior = &[
-        &[(1, "xx")][..],
-        &[(1, "xy"), (1, "yx")][..],
-        &[(1, "xz"), (1, "zx")][..],
-        &[(1, "yy")][..],
-        &[(1, "yz"), (1, "zy")][..],
-        &[(1, "zz")][..],
-    ];
-    assert_algebra(
-        &rt,
-        alloc,
-        &[1, 1, 1],
-        exterior,
-        exterior,
-        &[1, 3, 3, 1, 0],
-        "exterior",
-    )?;
-
-    let square = &[&[(1, "xx"), (100, "yx")][..]];
-    let grown = &[
-        &[(1, "xx"), (100, "yx")][..],
-        &[(1, "xyx"), (100, "yyx")][..],
-        &[(1, "xyyx"), (100, "yyyx")][..],
-    ];
-    assert_algebra(
-        &rt,
-        alloc,
-        &[1, 1],
-        square,
-        grown,
-        &[1, 2, 3, 4, 5],
-        "x^2-y*x",
-    )?;
-
-    let equal = &[&[(1, "x"), (100, "y")][..]];
-    assert_algebra(&rt, alloc, &[1, 1], equal, equal, &[1, 1, 1, 1], "x-y")?;
-
-    let cube = &[&[(1, "xxx")][..]];
-    assert_algebra(&rt, alloc, &[1], cube, cube, &[1, 1, 1, 0, 0], "x^3")?;
-    assert_algebra(
-        &rt,
-        alloc,
-        &[1],
-        cube,
-        &[],
-        &[1, 1, 1],
-        "x^3 above the bound",
-    )?;
-
-    let plus_and_minus = &[&[(1, "xy"), (1, "yx")][..], &[(1, "xy"), (100, "yx")][..]];
-    let monomials = &[&[(1, "xy")][..], &[(1, "yx")][..]];
-    assert_algebra(
-        &rt,
-        alloc,
-        &[1, 1],
-        plus_and_minus,
-        monomials,
-        &[1, 2, 2, 2],
-        "sum and difference",
-    )?;
-
-    let heavy = &[&[(1, "xx"), (100, "yyyy")][..]];
-    let overlapped = &[
-        &[(1, "xx"), (100, "yyyy")][..],
-        &[(1, "xyyyy"), (100, "yyyyx")][..],
-    ];
-    assert_algebra(
-        &rt,
-        alloc,
-        &[2, 1],
-        heavy,
-        overlapped,
-        &[1, 1, 2, 3, 4, 6, 8],
-        "x of weight 2",
-    )?;
-
-    assert_algebra(&rt, alloc, &[1, 1], &[], &[], &[1, 2, 4, 8], "no relation")?;
+    let counted = numbers_of(alloc, &field, &given, &basis, &Limits::standard())?;
+    assert_eq!(rt; counted.as_slice(), numbers, "{text}");
     Ok(())
 }
 
-/// In degree 4 the algebra of x^2-y*x has 16 words, of which 5 are normal.
+/// Presentations modulo a number with their bases and coefficients, by hand.
 #[test]
-fn the_first_number_past_a_limit_is_refused(rt: HostRuntime) -> Result<(), Fail> {
-    listed_moduli_law();
+fn small_algebras_have_their_bases(rt: HostRuntime) -> Result<(), Fail> {
     let alloc = rt.alloc();
-    let field = Field::new(alloc, 101)?;
-    let given = free(&rt, alloc, &[1, 1])?;
-    let given = with_relation(&rt, alloc, &field, given, &[(1, "xx"), (100, "yx")])?;
+    let cases: [(u32, &str, &str, &[u64]); 15] = [
+        (
+            101,
+            "vars x,y; x*y-y*x;",
+            "vars x,y; x*y-y*x;",
+            &[1, 2, 3, 4],
+        ),
+        (
+            101,
+            "vars x,y,z; x^2, y^2, z^2, x*y+y*x, x*z+z*x, y*z+z*y;",
+            "vars x,y,z; x^2, x*y+y*x, x*z+z*x, y^2, y*z+z*y, z^2;",
+            &[1, 3, 3, 1, 0],
+        ),
+        (
+            101,
+            "vars x,y; x^2-y*x;",
+            "vars x,y; x^2-y*x, x*y*x-y^2*x, x*y^2*x-y^3*x;",
+            &[1, 2, 3, 4, 5],
+        ),
+        (101, "vars x,y; x-y;", "vars x,y; x-y;", &[1, 1, 1, 1]),
+        (101, "vars x; x^3;", "vars x; x^3;", &[1, 1, 1, 0, 0]),
+        (101, "vars x; x^3;", "vars x; ;", &[1, 1, 1]),
+        (
+            101,
+            "vars x,y; x*y+y*x, x*y-y*x;",
+            "vars x,y; x*y, y*x;",
+            &[1, 2, 2, 2],
+        ),
+        (101, "vars x,y; ;", "vars x,y; ;", &[1, 2, 4, 8]),
+        // The nilCoxeter algebra of the permutations of three places.
+        (
+            101,
+            "vars x,y; x*y*x-y*x*y, x^2, y^2;",
+            "vars x,y; x^2, y^2, x*y*x-y*x*y;",
+            &[1, 2, 2, 1, 0, 0],
+        ),
+        // The two overlaps of x*y*x*y*x with itself have degrees 7 and 9.
+        (
+            101,
+            "vars x,y; x*y*x*y*x-y^5;",
+            "vars x,y; x*y*x*y*x-y^5, x*y^6-y^6*x;",
+            &[1, 2, 4, 8, 16, 31, 60, 116],
+        ),
+        (
+            101,
+            "vars x:2,y; x^2-y^4;",
+            "vars x:2,y; x^2-y^4, x*y^4-y^4*x;",
+            &[1, 1, 2, 3, 4, 6, 8],
+        ),
+        (
+            101,
+            "vars x:3,y:2; x^2-y^3;",
+            "vars x:3,y:2; x^2-y^3, x*y^3-y^3*x;",
+            &[1, 0, 1, 1, 1, 2, 1, 3, 2, 3],
+        ),
+        (2, "vars x,y; x*y+y*x;", "vars x,y; x*y+y*x;", &[1, 2, 3]),
+        (
+            7,
+            "vars x,y; 2*x*y-3*y*x;",
+            "vars x,y; x*y+2*y*x;",
+            &[1, 2, 3],
+        ),
+        (
+            1000003,
+            "vars x,y; 2*x*y-3*y*x;",
+            "vars x,y; x*y+500000*y*x;",
+            &[1, 2, 3],
+        ),
+    ];
+    for (modulus, text, elements, numbers) in cases {
+        assert_algebra(&rt, alloc, modulus, text, Some(elements), numbers)?;
+    }
+    Ok(())
+}
 
-    let mut limits = Limits::standard();
-    limits.plain_words = 15;
-    let mut engine = PlainEngine::new(limits);
-    let refused = run(&rt, alloc, &mut engine, &field, &given, 5);
-    assert!(rt;
-        matches!(
-            refused,
-            Err(EngineFault::Limit {
-                kind: LimitKind::PlainWords,
-                degree: 4,
-                value: 16
-            })
-        )
-    );
+/// Two regular algebras of dimension 3 (Artin and Schelter 1987), with the series 1/((1-t)^2(1-t^2)) and 1/(1-t)^3: the
+/// enveloping algebra of the Heisenberg Lie algebra, and one of Sklyanin's.
+#[test]
+fn regular_algebras_have_their_coefficients(rt: HostRuntime) -> Result<(), Fail> {
+    let alloc = rt.alloc();
+    let cubic = "vars x,y; x^2*y-2*x*y*x+y*x^2, x*y^2-2*y*x*y+y^2*x;";
+    let quadratic = "vars x,y,z; x*y+2*y*x+3*z^2, y*z+2*z*y+3*x^2, z*x+2*x*z+3*y^2;";
+    for modulus in [101, 32003, 1000003] {
+        assert_algebra(&rt, alloc, modulus, cubic, None, &[1, 2, 4, 6, 9, 12, 16])?;
+        assert_algebra(&rt, alloc, modulus, quadratic, None, &[1, 3, 6, 10, 15, 21])?;
+    }
+    Ok(())
+}
 
-    let mut limits = Limits::standard();
-    limits.plain_words = 16;
-    let basis = run(&rt, alloc, &mut PlainEngine::new(limits), &field, &given, 4)?;
+/// In degree 4 the algebra of x^2-y*x has 5 normal words.
+#[test]
+fn too_many_normal_words_are_refused(rt: HostRuntime) -> Result<(), Fail> {
+    let alloc = rt.alloc();
+    let algebra = algebra_of(&rt, alloc, "vars x,y; x^2-y*x;", 4)?;
     let mut limits = Limits::standard();
     limits.normal_words = 4;
-    match numbers_of(alloc, &field, &given, &basis, &limits) {
+    match numbers_of(
+        alloc,
+        &algebra.field,
+        &algebra.given,
+        &algebra.basis,
+        &limits,
+    ) {
         Err(
             SeriesFault::Limit {
                 degree,

@@ -1,9 +1,10 @@
-//! Worked algebras, as tests of several crates together: presentations with their reduced bases and coefficients.
+//! Worked algebras, as tests of several crates together: presentations with their reduced bases and coefficients, and
+//! the steps on the way to these in their own numbers.
 #![tactic(auto)]
 
 #[cfg(test)]
 mod bases;
 #[cfg(test)]
-mod degrees;
-#[cfg(test)]
 mod presented;
+#[cfg(test)]
+mod rows;

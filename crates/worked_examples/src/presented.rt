@@ -1,133 +1,132 @@
-ghost use Rattle.std.specs.Prelude.{◌≡◌, ◌≢◌, ◌<◌, ◌^◌, [], All, IfOk, IsTrue, length};
-ghost use Rattle.words.specs.Words.{AreWeights, IsOver, degree_of};
-ghost use Rattle.free_poly.specs.Terms.{HasOneDegree, HasResidues, UsesLetters};
+ghost use Rattle.std.specs.Prelude.{◌≡◌, All, IfOk};
+ghost use Rattle.free_poly.specs.Poly.{IsPolynomial};
+ghost use Rattle.free_poly.specs.Terms.{HasResidues};
+ghost use Rattle.ideal_laws.specs.Closure.{IsFactorFree};
+ghost use Rattle.ideal_laws.specs.Engine.{IsReducedUpto};
 
-use field_table::Field;
-use free_poly::{Poly, Term};
-use ideal_laws::Presentation;
+use field_table::{Field, listed_moduli_law};
+use free_poly::Poly;
+use ideal_laws::{Basis, Limits, Presentation, lower_law, run, setting_law};
+use plain_engine::PlainEngine;
+use relation_reader::read;
 use std::alloc::Global;
 use std::process::Abort;
 use std::test::Fail;
-use words::{Alphabet, Items, Word};
+use std::thread::Threads;
+use words::Word;
 
-/// Terms as coefficients and words, which are told by the letters x, y, z.
-pub type Listed<'a> = &'a [(u32, &'a str)];
-
-/// The letters x, y, .. with these weights, and no relation.
-pub fn free(rt: &impl Abort, alloc: Global, weights: &[u8]) -> Result<Presentation, Fail>
-    requires { AreWeights weights.now }
-    ensures { IfOk result (λ given. given.relations ≡ []) }
-{
-    let mut names = Vec::new(alloc);
-    for name in b"xyz".iter().take(weights.len()) {
-        names.push(vec![in alloc; *name]?)?;
-    }
-    let weights = Vec::from_slice(alloc, weights)?;
-    assert_eq!(rt; names.len(), weights.len());
-    Ok(Presentation {
-        alphabet: Alphabet::weighted(alloc, names, weights)?,
-        relations: Items::from_vec(Vec::new(alloc)),
-    })
+/// A presentation with its reduced basis up to some degree.
+#[derive(Drop)]
+pub struct Algebra {
+    pub field: Field,
+    pub given: Presentation,
+    pub basis: Basis,
 }
 
-/// The presentation with one more relation.
-pub fn with_relation(
+/// The residues of a listed modulus.
+pub fn residues(rt: &impl Abort, alloc: Global, modulus: u32) -> Result<Field, Fail> {
+    listed_moduli_law();
+    let moduli = [2, 3, 5, 7, 11, 13, 101, 32003, 65521, 1000003];
+    for place in 0..10 {
+        if moduli[place] == modulus {
+            return Ok(Field::new(alloc, moduli[place])?);
+        }
+    }
+    panic!(rt; "{modulus} is not listed")
+}
+
+/// The letters and relations of a text.
+pub fn presented(
     rt: &impl Abort,
     alloc: Global,
     field: &Field,
-    given: Presentation,
-    listed: Listed,
+    text: &str,
 ) -> Result<Presentation, Fail>
-    requires { All (HasResidues field.now) given.relations }
-    ensures { IfOk result (λ more. All (HasResidues field.now) more.relations) }
+    ensures { IfOk result (λ given. All (HasResidues field.now) given.relations) }
 {
-    let Presentation {
-        alphabet,
-        relations,
-    } = given;
-    let relation = sum_of(rt, alloc, &alphabet, field, listed)?;
-    let mut relations = relations.into_vec();
-    assert!(rt; relations.len() < 1000);
-    relations.push(relation)?;
-    Ok(Presentation {
-        alphabet,
-        relations: Items::from_vec(relations),
+    assert!(rt; text.len() < 1000);
+    Ok(read(alloc, field, text.as_bytes())?)
+}
+
+/// The algebra of a text modulo 101, with its basis up to a degree.
+pub fn algebra_of<R: Abort + Threads + Sync>(
+    rt: &R,
+    alloc: Global,
+    text: &str,
+    done: u32,
+) -> Result<Algebra, Fail>
+    ensures residues { IfOk result (λ a. All (HasResidues a.field) a.given.relations) }
+    ensures done { IfOk result (λ a. a.basis.done ≡ done) }
+    ensures weights { IfOk result (λ a. a.basis.weights ≡ a.given.alphabet.weights) }
+    ensures reduced { IfOk result (λ a. IsReducedUpto a.field a.given.relations a.basis) }
+    ensures factor_free { IfOk result (λ a. IsFactorFree a.basis.elements) }
+    ensures forms { IfOk result (λ a. All IsPolynomial a.basis.elements) }
+    ensures elements { IfOk result (λ a. All (HasResidues a.field) a.basis.elements) }
+{
+    assert!(rt; 0 < done && done <= 64);
+    let field = residues(rt, alloc, 101)?;
+    let given = presented(rt, alloc, &field, text)?;
+    let mut plain = PlainEngine::new(Limits::standard());
+    let basis = run(rt, alloc, &mut plain, &field, &given, done)?;
+    lower_law();
+    setting_law(&field, &given);
+    Ok(Algebra {
+        field,
+        given,
+        basis,
     })
 }
 
-/// The sum of the listed terms, which is not 0 and has no constant term.
-fn sum_of(
+/// The elements are the relations of the text.
+pub fn assert_elements(
     rt: &impl Abort,
     alloc: Global,
-    alphabet: &Alphabet,
     field: &Field,
-    listed: Listed,
-) -> Result<Poly, Fail>
-    ensures residues { IfOk result (HasResidues field.now) }
-    ensures letters { IfOk result (UsesLetters (length alphabet.now.weights)) }
-    ensures one_degree { IfOk result (HasOneDegree alphabet.now.weights) }
-    ensures other { IfOk result (λ f. f ≢ []) }
-    ensures degree { IfOk result (All (λ t. t.word ≢ [])) }
-{
-    let mut terms = Vec::new(alloc);
-    for (coefficient, letters) in listed {
-        terms.push(term_of(alloc, *coefficient, letters)?)?;
+    found: &[Poly],
+    text: &str,
+    case: &str,
+) -> Result<(), Fail> {
+    let wanted = presented(rt, alloc, field, text)?;
+    let wanted = wanted.relations.as_slice();
+    assert_eq!(rt; found.len(), wanted.len(), "{case}");
+    for (one, other) in found.iter().zip(wanted) {
+        assert_same(rt, one, other, case);
     }
-    assert!(rt; are_fit(alphabet, field, terms.as_slice()));
-    let sum = Poly::from_terms(alloc, alphabet, field, terms)?;
-    assert!(rt; !sum.terms().is_empty());
-    assert!(rt; have_letters(sum.terms()));
-    Ok(sum)
+    Ok(())
 }
 
-fn term_of(alloc: Global, coefficient: u32, letters: &str) -> Result<Term, Fail> {
-    let mut word = Vec::new(alloc);
-    for letter in letters.as_bytes() {
-        word.push(letter.wrapping_sub(b'x'))?;
+/// The elements of the basis are the relations of the text.
+pub fn assert_basis(
+    rt: &impl Abort,
+    alloc: Global,
+    field: &Field,
+    basis: &Basis,
+    text: &str,
+    case: &str,
+) -> Result<(), Fail> {
+    let wanted = presented(rt, alloc, field, text)?;
+    let wanted = wanted.relations.as_slice();
+    assert_eq!(rt; basis.len() as usize, wanted.len(), "{case}");
+    for place in 0..basis.len() {
+        assert_same(rt, basis.element(place), &wanted[place as usize], case);
     }
-    Ok(Term {
-        word: Word::from_letters(alloc, word.as_slice())?,
-        coefficient,
-    })
+    Ok(())
 }
 
-fn have_letters(terms: &[Term]) -> bool
-    ensures { IsTrue result → All (λ t. t.word ≢ []) terms.now }
-{
-    for term in terms {
-        if term.word.letters().is_empty() {
-            return false;
-        }
+pub fn assert_same(rt: &impl Abort, found: &Poly, wanted: &Poly, case: &str) {
+    let found = found.terms();
+    let wanted = wanted.terms();
+    assert_eq!(rt; found.len(), wanted.len(), "{case}");
+    for (a, b) in found.iter().zip(wanted) {
+        assert_eq!(rt; a.coefficient, b.coefficient, "{case}");
+        assert_eq!(rt; a.word.letters(), b.word.letters(), "{case}");
     }
-    true
 }
 
-fn are_fit(alphabet: &Alphabet, field: &Field, terms: &[Term]) -> bool
-    ensures residues { IsTrue result → HasResidues field.now terms.now }
-    ensures letters { IsTrue result → UsesLetters (length alphabet.now.weights) terms.now }
-    ensures degrees { IsTrue result → All (λ t. degree_of alphabet.now.weights t.word < 2 ^ 64) terms.now }
-{
-    for term in terms {
-        if term.coefficient >= field.modulus() || !is_fit(alphabet, term.word.letters()) {
-            return false;
-        }
+/// The words are these, told by their letters.
+pub fn assert_words(rt: &impl Abort, found: &[Word], wanted: &[&[u8]]) {
+    assert_eq!(rt; found.len(), wanted.len());
+    for (word, letters) in found.iter().zip(wanted) {
+        assert_eq!(rt; word.letters(), *letters);
     }
-    true
-}
-
-fn is_fit(alphabet: &Alphabet, word: &[u8]) -> bool
-    ensures letters { IsTrue result → IsOver (length alphabet.now.weights) word.now }
-    ensures degree { IsTrue result → degree_of alphabet.now.weights word.now < 2 ^ 64 }
-{
-    if word.len() > 64 {
-        return false;
-    }
-    let mut total = 0;
-    for letter in word {
-        if u32::from(*letter) >= alphabet.len() {
-            return false;
-        }
-        total += u64::from(alphabet.weight(*letter));
-    }
-    true
 }

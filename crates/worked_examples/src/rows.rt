@@ -1,0 +1,160 @@
+ghost use Rattle.std.specs.Prelude.{◌≡◌, ◌+◌, All, IfOk, length};
+ghost use Rattle.std.specs.List.{AllZip};
+ghost use Rattle.free_poly.specs.Poly.{IsPolynomial};
+ghost use Rattle.free_poly.specs.Terms.{HasDegree, HasResidues, UsesLetters};
+ghost use Rattle.ideal_laws.specs.Closure.{IsFactorFree};
+ghost use Rattle.ideal_laws.specs.Engine.{IsReducedUpto};
+ghost use Rattle.overlaps.specs.Listed.{AreListed, IsOf, IsRowFor};
+
+use crate::presented::{Algebra, algebra_of, assert_elements, assert_words};
+use field_table::Field;
+use free_poly::Poly;
+use ideal_laws::{Basis, EngineFault, LimitKind, Limits, Presentation, lower_law, setting_law};
+use lead_index::index_of;
+use overlaps::{Obstruction, OverlapFault, obstructions};
+use std::alloc::Global;
+use std::process::Abort;
+use std::test::Fail;
+use symbolic_prep::close;
+use words::NoMemory;
+
+/// The rows of the obstructions.
+fn rows_of(
+    alloc: Global,
+    field: &Field,
+    basis: &Basis,
+    found: &[Obstruction],
+) -> Result<Vec<Poly>, NoMemory>
+    requires obstructions { All (IsOf basis.now.weights basis.now.elements) found.now }
+    requires residues { All (HasResidues field.now) basis.now.elements }
+    ensures { IfOk result (λ rows. AllZip (IsRowFor field.now basis.now.weights basis.now.elements) found.now rows.items) }
+{
+    let mut rows = Vec::with_capacity(alloc, found.len())?;
+    for obstruction in found {
+        let row = obstruction.row(alloc, field, basis)?;
+        rows.push(row)?;
+    }
+    Ok(rows)
+}
+
+/// The rows of the obstructions of the degree above those of a reduced basis.
+fn rows_above(
+    alloc: Global,
+    field: &Field,
+    given: &Presentation,
+    basis: &Basis,
+    d: u32,
+    found: &[Obstruction],
+) -> Result<Vec<Poly>, NoMemory>
+    requires next { basis.now.done + 1 ≡ d }
+    requires weights { basis.now.weights ≡ given.now.alphabet.weights }
+    requires reduced { IsReducedUpto field.now given.now.relations basis.now }
+    requires residues { All (HasResidues field.now) given.now.relations }
+    requires elements { All (HasResidues field.now) basis.now.elements }
+    requires listed { AreListed basis.now.weights basis.now.elements d found.now }
+    ensures degree { IfOk result (λ rows. All (HasDegree basis.now.weights d) rows.items) }
+    ensures letters { IfOk result (λ rows. All (UsesLetters (length basis.now.weights)) rows.items) }
+{
+    lower_law();
+    setting_law(field, given);
+    let _done = basis.done();
+    let rows = rows_of(alloc, field, basis, found)?;
+    Ok(rows)
+}
+
+/// An obstruction is this one, by its word, its left and right element and what they share.
+fn assert_obstruction(rt: &impl Abort, found: &Obstruction, wanted: (&[u8], u32, u32, u32)) {
+    let (word, left, right, shared) = wanted;
+    assert_eq!(rt; found.word.letters(), word);
+    assert_eq!(rt;
+        (found.left, found.right, found.shared),
+        (left, right, shared)
+    );
+}
+
+/// The rows of degree 4 have a closure of four columns and eight entries.
+fn assert_closures(
+    rt: &impl Abort,
+    alloc: Global,
+    algebra: &Algebra,
+    rows: &[Poly],
+) -> Result<(), Fail>
+    requires factor_free { IsFactorFree algebra.now.basis.elements }
+    requires forms { All IsPolynomial algebra.now.basis.elements }
+    requires degree { All (HasDegree algebra.now.basis.weights 4) rows.now }
+    requires letters { All (UsesLetters (length algebra.now.basis.weights)) rows.now }
+{
+    let index = index_of(alloc, &algebra.basis)?;
+    for (columns, entries, refused) in [
+        (3, 8, Some((LimitKind::Columns, 4))),
+        (4, 7, Some((LimitKind::Entries, 8))),
+        (4, 8, None),
+    ] {
+        let mut limits = Limits::standard();
+        limits.columns = columns;
+        limits.entries = entries;
+        match close(
+            alloc,
+            &algebra.field,
+            &algebra.basis,
+            &index,
+            rows,
+            4,
+            &limits,
+        ) {
+            Ok(closed) => {
+                assert_eq!(rt; refused, None);
+                assert_words(
+                    rt,
+                    closed.columns(),
+                    &[&[0, 1, 1, 0], &[1, 0, 1, 0], &[1, 1, 0, 0], &[1, 1, 1, 0]],
+                );
+                assert_words(rt, closed.contested(), &[&[0, 1, 1, 0], &[1, 1, 1, 0]]);
+            }
+            Err(
+                EngineFault::Limit {
+                    kind,
+                    degree,
+                    value,
+                },
+            ) => {
+                assert_eq!(rt; (degree, Some((kind, value))), (4, refused));
+            }
+            Err(EngineFault::NoMemory) => panic!(rt; "no memory"),
+        }
+    }
+    Ok(())
+}
+
+/// The leading words of x^2-y*x and x*y*x-y^2*x overlap twice in degree 4.
+#[test]
+fn rows_of_obstructions_close(rt: HostRuntime) -> Result<(), Fail> {
+    let alloc = rt.alloc();
+    let algebra = algebra_of(&rt, alloc, "vars x,y; x^2-y*x;", 3)?;
+    let basis = &algebra.basis;
+
+    let refused = obstructions(alloc, basis, 4, 1);
+    assert!(rt; matches!(refused, Err(OverlapFault::TooMany)));
+    let found = obstructions(alloc, basis, 4, 2)?;
+    assert_eq!(rt; found.len(), 2);
+    assert_obstruction(&rt, &found[0], (&[0, 0, 1, 0], 0, 1, 1));
+    assert_obstruction(&rt, &found[1], (&[0, 1, 0, 0], 1, 0, 1));
+
+    let rows = rows_above(
+        alloc,
+        &algebra.field,
+        &algebra.given,
+        basis,
+        4,
+        found.as_slice(),
+    )?;
+    assert_elements(
+        &rt,
+        alloc,
+        &algebra.field,
+        rows.as_slice(),
+        "vars x,y; x*y^2*x-y*x*y*x, x*y^2*x-y^2*x^2;",
+        "rows",
+    )?;
+    assert_closures(&rt, alloc, &algebra, rows.as_slice())
+}
