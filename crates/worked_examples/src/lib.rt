@@ -7,4 +7,6 @@ mod bases;
 #[cfg(test)]
 mod presented;
 #[cfg(test)]
+mod problems;
+#[cfg(test)]
 mod rows;

@@ -1,0 +1,104 @@
+ghost use Rattle.std.specs.Prelude.{◌≡◌, IfOk, IfSome};
+
+use crate::presented::{Algebra, algebra_of, assert_words, residues};
+use back_reduce::{PivotRows, Problem, eliminate, reduced};
+use degree_loop::{Matrix, matrix_of};
+use field_table::{Field, NoMemory};
+use ideal_laws::Limits;
+use lane_kernel::axpy_lanes;
+use std::alloc::Global;
+use std::test::Fail;
+
+/// The problem of n rows of m residues, where the cells are that.
+fn problem_of(
+    alloc: Global,
+    field: &Field,
+    m: u32,
+    n: u32,
+    cells: &[u32],
+) -> Result<Option<Problem>, NoMemory>
+    ensures { IfOk result (λ found. IfSome found (λ problem. problem.modulus ≡ field.now)) }
+{
+    let modulus = field.modulus();
+    if m > 8 || n > 8 || cells.len() != (n * m) as usize || !cells.iter().all(|a| *a < modulus) {
+        return Ok(None);
+    }
+    Ok(Some(Problem {
+        degree: 0,
+        modulus,
+        m,
+        n,
+        cells: Vec::from_slice(alloc, cells)?,
+    }))
+}
+
+/// In degree 4 both rows of x^2-y*x leave x*y^2*x-y^3*x, and the first one holds its column.
+#[test]
+fn equal_rows_have_one_pivot(rt: HostRuntime) -> Result<(), Fail> {
+    let alloc = rt.alloc();
+    let algebra = algebra_of(&rt, alloc, "vars x,y; x^2-y*x;", 3)?;
+    let Algebra {
+        field,
+        given,
+        basis,
+    } = algebra;
+    let matrix = matrix_of(&rt, alloc, &field, &given, &basis, 4, &Limits::standard())?;
+    let Matrix { closed, problem } = matrix;
+    assert_words(&rt, closed.contested(), &[&[0, 1, 1, 0], &[1, 1, 1, 0]]);
+    assert_eq!(rt; (problem.n, problem.m), (2, 2));
+    assert_eq!(rt; problem.cells.as_slice(), [1, 100, 1, 100].as_slice());
+    let pivots = eliminate(alloc, &field, problem)?;
+    assert_eq!(rt; [pivots.holder(0), pivots.holder(1)], [Some(0), None]);
+    assert_eq!(rt; pivots.value(0, 1), 100);
+    Ok(())
+}
+
+#[test]
+fn a_row_is_reduced_by_the_one_below(rt: HostRuntime) -> Result<(), Fail> {
+    let alloc = rt.alloc();
+    let field = residues(&rt, alloc, 7)?;
+    let Some(problem) = problem_of(alloc, &field, 3, 2, &[1, 2, 3, 0, 1, 4])? else {
+        return Err(Fail::new("no problem"));
+    };
+    let pivots = eliminate(alloc, &field, problem)?;
+    let echelon = reduced(&rt, alloc, &field, &pivots)?;
+    assert_eq!(rt; echelon.len(), 2);
+    assert_eq!(rt; echelon[0].as_slice(), [1, 0, 2].as_slice());
+    assert_eq!(rt; echelon[1].as_slice(), [0, 1, 4].as_slice());
+    Ok(())
+}
+
+/// A list and a multiple of another, where these are residues and both have one length.
+fn added(
+    alloc: Global,
+    field: &Field,
+    y: &[u32],
+    a: u32,
+    x: &[u32],
+) -> Result<Option<Vec<u32>>, NoMemory> {
+    let p = field.modulus();
+    if a >= p || x.len() != y.len() || !x.iter().all(|r| *r < p) || !y.iter().all(|r| *r < p) {
+        return Ok(None);
+    }
+    let mut sum = Vec::from_slice(alloc, y)?;
+    axpy_lanes(field, sum.as_mut_slice(), a, x);
+    Ok(Some(sum))
+}
+
+#[test]
+fn multiples_are_added_modulo_7(rt: HostRuntime) -> Result<(), Fail> {
+    let alloc = rt.alloc();
+    let field = residues(&rt, alloc, 7)?;
+    let cases: [(&[u32], u32, &[u32], &[u32]); 3] = [
+        (&[1, 2], 3, &[4, 5], &[6, 3]),
+        (&[], 3, &[], &[]),
+        (&[1; 9], 6, &[1; 9], &[0; 9]),
+    ];
+    for (y, a, x, wanted) in cases {
+        match added(alloc, &field, y, a, x)? {
+            Some(sum) => assert_eq!(rt; sum.as_slice(), wanted),
+            None => panic!(rt; "no residues"),
+        }
+    }
+    Ok(())
+}
