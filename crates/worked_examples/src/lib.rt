@@ -5,6 +5,8 @@
 #[cfg(test)]
 mod bases;
 #[cfg(test)]
+mod engines;
+#[cfg(test)]
 mod presented;
 #[cfg(test)]
 mod problems;

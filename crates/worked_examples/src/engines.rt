@@ -1,0 +1,147 @@
+ghost use Rattle.std.specs.Prelude.{◌≡◌, All};
+ghost use Rattle.free_poly.specs.Terms.{HasResidues};
+ghost use Rattle.ideal_laws.specs.Engine.{IsReducedUpto};
+ghost use Rattle.ideal_laws.specs.Limits.{AreLimits};
+
+use crate::presented::{Algebra, algebra_of, assert_elements, presented, residues};
+use degree_loop::SeqEngine;
+use field_table::Field;
+use ideal_laws::{Basis, DegreeEngine, EngineFault, LimitKind, Limits, Presentation, advance};
+use plain_engine::PlainEngine;
+use std::alloc::Global;
+use std::process::Abort;
+use std::test::Fail;
+use std::thread::Threads;
+
+/// The standard limits but for one, which is at most 4096.
+fn limited(kind: LimitKind, most: u32) -> Limits
+    ensures { AreLimits result }
+{
+    let most = most.min(4096);
+    let mut limits = Limits::standard();
+    match kind {
+        LimitKind::PlainWords => limits.plain_words = most,
+        LimitKind::Rows => limits.rows = most,
+        LimitKind::Columns => limits.columns = most,
+        LimitKind::Entries => limits.entries = most,
+        LimitKind::Cells => limits.cells = most,
+        LimitKind::Terms => limits.terms = most,
+        LimitKind::NormalWords => limits.normal_words = most,
+    }
+    limits
+}
+
+/// The engine finds the one element of degree 4, or refuses this quantity.
+fn assert_degree<R: Abort + Threads + Sync, E: DegreeEngine>(
+    rt: &R,
+    alloc: Global,
+    engine: &mut E,
+    algebra: &Algebra,
+    refused: Option<(LimitKind, u64)>,
+) -> Result<(), Fail>
+    requires done { algebra.now.basis.done ≡ 3 }
+    requires weights { algebra.now.basis.weights ≡ algebra.now.given.alphabet.weights }
+    requires reduced { IsReducedUpto algebra.now.field algebra.now.given.relations algebra.now.basis }
+    requires residues { All (HasResidues algebra.now.field) algebra.now.given.relations }
+{
+    match engine.degree(rt, alloc, &algebra.field, &algebra.given, &algebra.basis, 4) {
+        Ok(report) => {
+            assert_eq!(rt; None, refused);
+            let elements = report.elements.as_slice();
+            assert_elements(
+                rt,
+                alloc,
+                &algebra.field,
+                elements,
+                "vars x,y; x*y^2*x-y^3*x;",
+                "4",
+            )
+        }
+        Err(
+            EngineFault::Limit {
+                kind,
+                degree,
+                value,
+            },
+        ) => {
+            assert_eq!(rt; (degree, Some((kind, value))), (4, refused));
+            Ok(())
+        }
+        Err(EngineFault::NoMemory) => panic!(rt; "no memory"),
+    }
+}
+
+/// In degree 4 the algebra of x^2-y*x has 16 words, 2 rows, 4 columns, 8 entries and 4 cells, and with it the basis has
+/// 6 terms.
+#[test]
+fn a_quantity_above_its_limit_is_refused(rt: HostRuntime) -> Result<(), Fail> {
+    let alloc = rt.alloc();
+    let algebra = algebra_of(&rt, alloc, "vars x,y; x^2-y*x;", 3)?;
+    for (kind, quantity) in [
+        (LimitKind::PlainWords, 16),
+        (LimitKind::Rows, 2),
+        (LimitKind::Columns, 4),
+        (LimitKind::Entries, 8),
+        (LimitKind::Cells, 4),
+        (LimitKind::Terms, 6),
+    ] {
+        let is_plain = kind == LimitKind::PlainWords;
+        for below in [0, 1] {
+            let limits = limited(kind, quantity - below);
+            let passed = if below == 0 {
+                None
+            } else {
+                Some((kind, u64::from(quantity)))
+            };
+            let (plain, others) = if is_plain {
+                (passed, None)
+            } else {
+                (None, passed)
+            };
+            assert_degree(&rt, alloc, &mut PlainEngine::new(limits), &algebra, plain)?;
+            assert_degree(&rt, alloc, &mut SeqEngine::new(limits), &algebra, others)?;
+        }
+    }
+    Ok(())
+}
+
+/// The accounts of the sequential engine, degree by degree, tell so many rows and contested columns.
+fn assert_accounts<R: Abort + Threads + Sync>(
+    rt: &R,
+    alloc: Global,
+    field: &Field,
+    given: &Presentation,
+    told: &[(u32, usize)],
+) -> Result<(), Fail>
+    requires { All (HasResidues field.now) given.now.relations }
+{
+    assert!(rt; told.len() <= 64);
+    let mut engine = SeqEngine::new(Limits::standard());
+    let mut basis = Basis::new(alloc, &given.alphabet);
+    for (rows, columns) in told {
+        let account = advance(rt, alloc, &mut engine, field, given, &mut basis)?;
+        let columns_found = account.columns.as_slice().len();
+        let calls = account.calls.as_slice().len();
+        let degree = basis.done();
+        assert_eq!(rt;
+            (account.rows, columns_found, calls),
+            (*rows, *columns, 0),
+            "degree {degree}"
+        );
+    }
+    assert_eq!(rt; basis.done() as usize, told.len());
+    Ok(())
+}
+
+/// Rows and contested columns of each degree, by hand.
+#[test]
+fn accounts_tell_rows_and_contested_columns(rt: HostRuntime) -> Result<(), Fail> {
+    let alloc = rt.alloc();
+    let field = residues(&rt, alloc, 101)?;
+    let square = presented(&rt, alloc, &field, "vars x,y; x^2-y*x;")?;
+    let told = &[(0, 0), (1, 2), (1, 2), (2, 2), (3, 2), (4, 2)];
+    assert_accounts(&rt, alloc, &field, &square, told)?;
+    let heavy = presented(&rt, alloc, &field, "vars x:2,y; x^2-y^4;")?;
+    let told = &[(0, 0), (0, 0), (0, 0), (1, 2), (0, 0), (1, 2)];
+    assert_accounts(&rt, alloc, &field, &heavy, told)
+}
