@@ -3,7 +3,7 @@ ghost use Rattle.free_poly.specs.Terms.{HasResidues};
 ghost use Rattle.ideal_laws.specs.Engine.{IsReducedUpto};
 
 use crate::presented::{algebra_of, assert_basis, assert_same, presented, residues};
-use degree_loop::SeqEngine;
+use degree_loop::{CoreEngine, SeqEngine};
 use field_table::Field;
 use hilbert::{SeriesFault, series};
 use ideal_laws::{Basis, Limits, Presentation, lower_law, run, setting_law};
@@ -33,6 +33,14 @@ fn basis_of<R: Abort + Threads + Sync>(
     let mut sequential = SeqEngine::new(Limits::standard());
     let found = run(rt, alloc, &mut sequential, field, given, done)?;
     assert_equal(rt, &found, &basis, case);
+    for workers in [1, 2, 3, 8] {
+        assert!(rt; 1 <= workers && workers <= 64);
+        for schedule in [0, 1, 7] {
+            let mut core = CoreEngine::new(Limits::standard(), workers, schedule);
+            let found = run(rt, alloc, &mut core, field, given, done)?;
+            assert_equal(rt, &found, &basis, case);
+        }
+    }
     Ok(basis)
 }
 

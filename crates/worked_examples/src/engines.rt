@@ -3,10 +3,12 @@ ghost use Rattle.free_poly.specs.Terms.{HasResidues};
 ghost use Rattle.ideal_laws.specs.Engine.{IsReducedUpto};
 ghost use Rattle.ideal_laws.specs.Limits.{AreLimits};
 
-use crate::presented::{Algebra, algebra_of, assert_elements, presented, residues};
-use degree_loop::SeqEngine;
+use crate::presented::{Algebra, algebra_of, assert_elements, assert_words, presented, residues};
+use degree_loop::{CoreEngine, SeqEngine};
 use field_table::Field;
-use ideal_laws::{Basis, DegreeEngine, EngineFault, LimitKind, Limits, Presentation, advance};
+use ideal_laws::{
+    Answer, Basis, Call, DegreeEngine, EngineFault, LimitKind, Limits, Presentation, advance,
+};
 use plain_engine::PlainEngine;
 use std::alloc::Global;
 use std::process::Abort;
@@ -100,6 +102,8 @@ fn a_quantity_above_its_limit_is_refused(rt: HostRuntime) -> Result<(), Fail> {
             };
             assert_degree(&rt, alloc, &mut PlainEngine::new(limits), &algebra, plain)?;
             assert_degree(&rt, alloc, &mut SeqEngine::new(limits), &algebra, others)?;
+            let mut core = CoreEngine::new(limits, 2, 0);
+            assert_degree(&rt, alloc, &mut core, &algebra, others)?;
         }
     }
     Ok(())
@@ -144,4 +148,34 @@ fn accounts_tell_rows_and_contested_columns(rt: HostRuntime) -> Result<(), Fail>
     let heavy = presented(&rt, alloc, &field, "vars x:2,y; x^2-y^4;")?;
     let told = &[(0, 0), (0, 0), (0, 0), (1, 2), (0, 0), (1, 2)];
     assert_accounts(&rt, alloc, &field, &heavy, told)
+}
+
+/// Both rows of degree 4 are drawn, and the one of seat 0 wins their column before the other comes there.
+#[test]
+fn an_account_tells_the_calls_of_its_schedule(rt: HostRuntime) -> Result<(), Fail> {
+    let alloc = rt.alloc();
+    let algebra = algebra_of(&rt, alloc, "vars x,y; x^2-y*x;", 3)?;
+    let Algebra {
+        field,
+        given,
+        basis,
+    } = algebra;
+    let mut core = CoreEngine::new(Limits::standard(), 2, 0);
+    let report = core.degree(&rt, alloc, &field, &given, &basis, 4)?;
+    let account = report.account;
+    assert_eq!(rt; account.rows, 2);
+    assert_words(
+        &rt,
+        account.columns.as_slice(),
+        &[&[0, 1, 1, 0], &[1, 1, 1, 0]],
+    );
+    let won = Call {
+        seat: 0,
+        stamp: 1,
+        column: 0,
+        row: 0,
+        answer: Answer::Won,
+    };
+    assert_eq!(rt; account.calls.as_slice(), [won].as_slice());
+    Ok(())
 }

@@ -1,4 +1,4 @@
-ghost use Rattle.std.specs.Prelude.{◌≡◌, IfOk, IfSome};
+ghost use Rattle.std.specs.Prelude.{◌≡◌, ◌<◌, ◌≤◌, IfOk, IfSome};
 
 use crate::presented::{Algebra, algebra_of, assert_words, residues};
 use back_reduce::{PivotRows, Problem, eliminate, reduced};
@@ -6,8 +6,11 @@ use degree_loop::{Matrix, matrix_of};
 use field_table::{Field, NoMemory};
 use ideal_laws::Limits;
 use lane_kernel::axpy_lanes;
+use pivot_core::{Core, CorePivots, Event, Kind};
 use std::alloc::Global;
+use std::process::Abort;
 use std::test::Fail;
+use std::thread::Threads;
 
 /// The problem of n rows of m residues, where the cells are that.
 fn problem_of(
@@ -99,6 +102,105 @@ fn multiples_are_added_modulo_7(rt: HostRuntime) -> Result<(), Fail> {
             Some(sum) => assert_eq!(rt; sum.as_slice(), wanted),
             None => panic!(rt; "no residues"),
         }
+    }
+    Ok(())
+}
+
+/// The pivots that a crew finds, whose seats take their steps in the order of a generator that begins with this number.
+fn raced(
+    alloc: Global,
+    field: &Field,
+    problem: Problem,
+    crew: u32,
+    begin: u32,
+) -> Result<Option<CorePivots>, NoMemory>
+    requires some { 0 < crew }
+    requires few { crew ≤ 64 }
+    requires field { field.now ≡ problem.modulus }
+    ensures { IfOk result (λ found. IfSome found (λ pivots. pivots.problem ≡ problem)) }
+{
+    let mut core = Core::new(alloc, field, problem, crew)?;
+    let mut number = begin;
+    for _ in 0..100_000 {
+        if core.ended() {
+            return Ok(Some(core.finish()));
+        }
+        number = number.wrapping_mul(1_664_525).wrapping_add(1_013_904_223);
+        step(&mut core, number / 65_536 % crew);
+    }
+    Ok(None)
+}
+
+/// Makes the next step of a seat, where it has one.
+fn step(core: &mut Core, seat: u32)
+    ensures { core.new.problem ≡ core.old.problem }
+{
+    for kind in [Kind::Draw, Kind::Look, Kind::Put, Kind::Claim, Kind::Read] {
+        if core.step(Event { seat, kind }).is_some() {
+            return;
+        }
+    }
+}
+
+/// Whatever order the steps take, a crew finds the echelon form that one thread finds.
+fn assert_one_form<R: Abort + Threads + Sync>(
+    rt: &R,
+    alloc: Global,
+    field: &Field,
+    m: u32,
+    n: u32,
+    cells: &[u32],
+) -> Result<(), Fail> {
+    let Some(problem) = problem_of(alloc, field, m, n, cells)? else {
+        return Err(Fail::new("no problem"));
+    };
+    let pivots = eliminate(alloc, field, problem)?;
+    let wanted = reduced(rt, alloc, field, &pivots)?;
+    for crew in 1..9 {
+        for begin in 0..20 {
+            let Some(problem) = problem_of(alloc, field, m, n, cells)? else {
+                return Err(Fail::new("no problem"));
+            };
+            let Some(pivots) = raced(alloc, field, problem, crew, begin)? else {
+                return Err(Fail::new("the seats go on"));
+            };
+            let found = reduced(rt, alloc, field, &pivots)?;
+            assert_eq!(rt; found.len(), wanted.len(), "{crew} from {begin}");
+            for (row, other) in found.iter().zip(wanted.as_slice()) {
+                assert_eq!(rt; row.as_slice(), other.as_slice(), "{crew} from {begin}");
+            }
+        }
+    }
+    Ok(())
+}
+
+/// Equal rows, a row of 0 and rows that are sums of others among them.
+#[test]
+fn each_schedule_finds_one_echelon_form(rt: HostRuntime) -> Result<(), Fail> {
+    let alloc = rt.alloc();
+    let cases: [(u32, u32, u32, &[u32]); 4] = [
+        (101, 2, 2, &[1, 100, 1, 100]),
+        (7, 3, 4, &[1, 2, 3, 2, 4, 6, 0, 1, 4, 0, 0, 0]),
+        (
+            2,
+            4,
+            7,
+            &[
+                1, 1, 0, 0, 0, 1, 1, 0, 0, 0, 1, 1, 1, 0, 0, 1, 1, 1, 1, 1, 1, 0, 1, 0, 0, 1, 0, 1,
+            ],
+        ),
+        (
+            1000003,
+            4,
+            5,
+            &[
+                1, 1, 1, 1, 1, 2, 4, 8, 1, 3, 9, 27, 1, 4, 16, 64, 1, 5, 25, 125,
+            ],
+        ),
+    ];
+    for (modulus, m, n, cells) in cases {
+        let field = residues(&rt, alloc, modulus)?;
+        assert_one_form(&rt, alloc, &field, m, n, cells)?;
     }
     Ok(())
 }
