@@ -1,10 +1,12 @@
-ghost use Rattle.std.specs.Prelude.{◌≡◌, ◌+◌, All, IfOk, length};
+ghost use Rattle.std.specs.Prelude.{◌≡◌, ◌+◌, [], All, IfOk, IsTrue, Some, length};
 ghost use Rattle.std.specs.List.{AllZip};
-ghost use Rattle.free_poly.specs.Poly.{IsPolynomial};
+ghost use Rattle.free_poly.specs.Poly.{IsPolynomial, lead_of};
 ghost use Rattle.free_poly.specs.Terms.{HasDegree, HasResidues, UsesLetters};
 ghost use Rattle.ideal_laws.specs.Closure.{IsFactorFree};
-ghost use Rattle.ideal_laws.specs.Engine.{IsReducedUpto};
+ghost use Rattle.ideal_laws.specs.Engine.{IsReducedUpto, of_degree};
+ghost use Rattle.ideal_laws.specs.Quantities.{AreRows, words_of};
 ghost use Rattle.overlaps.specs.Listed.{AreListed, IsOf, IsRowFor};
+ghost use Rattle.symbolic_prep.specs.Closed.{IsClosed};
 
 use crate::presented::{Algebra, algebra_of, assert_elements, assert_words};
 use field_table::Field;
@@ -12,10 +14,12 @@ use free_poly::Poly;
 use ideal_laws::{Basis, EngineFault, LimitKind, Limits, Presentation, lower_law, setting_law};
 use lead_index::index_of;
 use overlaps::{Obstruction, OverlapFault, obstructions};
+use row_store::contested_rows;
 use std::alloc::Global;
 use std::process::Abort;
 use std::test::Fail;
-use symbolic_prep::close;
+use std::thread::Threads;
+use symbolic_prep::{Closed, close};
 use words::NoMemory;
 
 /// The rows of the obstructions.
@@ -37,7 +41,7 @@ fn rows_of(
     Ok(rows)
 }
 
-/// The rows of the obstructions of the degree above those of a reduced basis.
+/// The rows of the degree above those of a reduced basis, where no relation has this degree.
 fn rows_above(
     alloc: Global,
     field: &Field,
@@ -50,8 +54,10 @@ fn rows_above(
     requires weights { basis.now.weights ≡ given.now.alphabet.weights }
     requires reduced { IsReducedUpto field.now given.now.relations basis.now }
     requires residues { All (HasResidues field.now) given.now.relations }
+    requires none { of_degree given.now.alphabet.weights d given.now.relations ≡ [] }
     requires elements { All (HasResidues field.now) basis.now.elements }
     requires listed { AreListed basis.now.weights basis.now.elements d found.now }
+    ensures rows { IfOk result (λ rows. AreRows field.now given.now.alphabet.weights given.now.relations basis.now.elements d rows.items) }
     ensures degree { IfOk result (λ rows. All (HasDegree basis.now.weights d) rows.items) }
     ensures letters { IfOk result (λ rows. All (UsesLetters (length basis.now.weights)) rows.items) }
 {
@@ -60,6 +66,26 @@ fn rows_above(
     let _done = basis.done();
     let rows = rows_of(alloc, field, basis, found)?;
     Ok(rows)
+}
+
+/// Whether the one relation leads with x*x, where x has weight 1.
+fn is_quadratic(given: &Presentation) -> bool
+    ensures { IsTrue result → of_degree given.now.alphabet.weights 4 given.now.relations ≡ [] }
+{
+    let relations = given.relations.as_slice();
+    if relations.len() != 1 || given.alphabet.len() == 0 {
+        return false;
+    }
+    given.alphabet.weight(0) == 1 && leads_with(&relations[0], &[0, 0])
+}
+
+fn leads_with(f: &Poly, word: &[u8]) -> bool
+    ensures { IsTrue result → lead_of f.now ≡ Some word.now }
+{
+    match f.lead() {
+        Some(lead) => lead.letters() == word,
+        None => false,
+    }
 }
 
 /// An obstruction is this one, by its word, its left and right element and what they share.
@@ -72,13 +98,62 @@ fn assert_obstruction(rt: &impl Abort, found: &Obstruction, wanted: (&[u8], u32,
     );
 }
 
+/// The rows of degree 4 leave x*y^2*x-y^3*x twice at the contested columns, which makes four cells.
+fn assert_cells<R: Abort + Threads + Sync>(
+    rt: &R,
+    alloc: Global,
+    algebra: &Algebra,
+    rows: &[Poly],
+    closed: &Closed,
+) -> Result<(), Fail>
+    requires done { algebra.now.basis.done ≡ 3 }
+    requires weights { algebra.now.basis.weights ≡ algebra.now.given.alphabet.weights }
+    requires reduced { IsReducedUpto algebra.now.field algebra.now.given.relations algebra.now.basis }
+    requires residues { All (HasResidues algebra.now.field) algebra.now.given.relations }
+    requires rows { AreRows algebra.now.field algebra.now.given.alphabet.weights algebra.now.given.relations algebra.now.basis.elements 4 rows.now }
+    requires closed { IsClosed algebra.now.basis.elements (words_of rows.now) closed.now }
+{
+    lower_law();
+    setting_law(&algebra.field, &algebra.given);
+    let _done = algebra.basis.done();
+    assert_eq!(rt; (rows.len(), closed.columns().len()), (2, 4));
+    for (cells, refused) in [(3, Some(4)), (4, None)] {
+        let mut limits = Limits::standard();
+        limits.cells = cells;
+        match contested_rows(rt, alloc, &algebra.field, closed, rows, 4, &limits) {
+            Ok(problem) => {
+                assert_eq!(rt; refused, None);
+                assert_eq!(rt; (problem.n, problem.m), (2, 2));
+                assert_eq!(rt; problem.cells.as_slice(), [1, 100, 1, 100].as_slice());
+            }
+            Err(
+                EngineFault::Limit {
+                    kind,
+                    degree,
+                    value,
+                },
+            ) => {
+                assert!(rt; kind == LimitKind::Cells && degree == 4);
+                assert_eq!(rt; Some(value), refused);
+            }
+            Err(EngineFault::NoMemory) => panic!(rt; "no memory"),
+        }
+    }
+    Ok(())
+}
+
 /// The rows of degree 4 have a closure of four columns and eight entries.
-fn assert_closures(
-    rt: &impl Abort,
+fn assert_closures<R: Abort + Threads + Sync>(
+    rt: &R,
     alloc: Global,
     algebra: &Algebra,
     rows: &[Poly],
 ) -> Result<(), Fail>
+    requires done { algebra.now.basis.done ≡ 3 }
+    requires weights { algebra.now.basis.weights ≡ algebra.now.given.alphabet.weights }
+    requires reduced { IsReducedUpto algebra.now.field algebra.now.given.relations algebra.now.basis }
+    requires residues { All (HasResidues algebra.now.field) algebra.now.given.relations }
+    requires rows { AreRows algebra.now.field algebra.now.given.alphabet.weights algebra.now.given.relations algebra.now.basis.elements 4 rows.now }
     requires factor_free { IsFactorFree algebra.now.basis.elements }
     requires forms { All IsPolynomial algebra.now.basis.elements }
     requires degree { All (HasDegree algebra.now.basis.weights 4) rows.now }
@@ -110,6 +185,7 @@ fn assert_closures(
                     &[&[0, 1, 1, 0], &[1, 0, 1, 0], &[1, 1, 0, 0], &[1, 1, 1, 0]],
                 );
                 assert_words(rt, closed.contested(), &[&[0, 1, 1, 0], &[1, 1, 1, 0]]);
+                assert_cells(rt, alloc, algebra, rows, &closed)?;
             }
             Err(
                 EngineFault::Limit {
@@ -140,6 +216,7 @@ fn rows_of_obstructions_close(rt: HostRuntime) -> Result<(), Fail> {
     assert_obstruction(&rt, &found[0], (&[0, 0, 1, 0], 0, 1, 1));
     assert_obstruction(&rt, &found[1], (&[0, 1, 0, 0], 1, 0, 1));
 
+    assert!(rt; is_quadratic(&algebra.given));
     let rows = rows_above(
         alloc,
         &algebra.field,
