@@ -11,7 +11,8 @@ use Rattle.pivot_core.specs.History.{merged}
 use Rattle.pivot_core.specs.Runs.{HasEnded, State, after_event, after_events, opening}
 use Rattle.degree_loop.specs.Accounts.{IsCoreAccount, crew_of}
 use Rattle.degree_loop.specs.Matrix.{IsMatrix}
-use Rattle.degree_loop.specs.Schedule.{IsScheduled, IsScheduledRun, next_number}
+use Rattle.field_table.specs.Draws.{next_number}
+use Rattle.degree_loop.specs.Schedule.{IsScheduled, IsScheduledRun}
 
 -- the rest of a schedule leads to an ended state
 scheduled_ends : (problem : Problem) (s : State) (number : ℕ) (events : List Event) → IsScheduled problem s number events → HasEnded problem (after_events problem s events)

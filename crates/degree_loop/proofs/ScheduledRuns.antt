@@ -19,7 +19,8 @@ use Rattle.pivot_core.proofs.EventsMade.{makes_state}
 use Rattle.pivot_core.proofs.Moves.{IsMove, draws, ends, looks_free, looks_held, puts, wins, loses, reads_more, reads_last}
 use Rattle.pivot_core.proofs.RunLaws.{after_events-append}
 use Rattle.pivot_core.proofs.Table.{made_change, move_of}
-use Rattle.degree_loop.specs.Schedule.{IsChosen, IsScheduled, IsScheduledRun, next_number}
+use Rattle.field_table.specs.Draws.{next_number}
+use Rattle.degree_loop.specs.Schedule.{IsChosen, IsScheduled, IsScheduledRun}
 
 -- a kind that comes next gives a step
 some_step : (problem : Problem) (v : Sight) (f : Phase) (old : ℕ) (k : Kind) → is_next k f ≡ true → (t : Stepped) × (by_phase problem v f old ≡ Some t)

@@ -7,7 +7,8 @@ use Rattle.pivot_core.specs.declared.view.Phase.{Phase}
 use Rattle.pivot_core.specs.Phases.{is_ended}
 use Rattle.pivot_core.specs.Runs.{HasEnded, State, after_event, after_events, view_at, with_step, word_at}
 use Rattle.pivot_core.specs.Steps.{Stepped, is_next, met, spot_of}
-use Rattle.degree_loop.specs.Schedule.{IsChosen, IsScheduled, LeadsToOneState, next_number}
+use Rattle.field_table.specs.Draws.{next_number}
+use Rattle.degree_loop.specs.Schedule.{IsChosen, IsScheduled, LeadsToOneState}
 use Rattle.degree_loop.proofs.Going.{going_test, passing, passing-none}
 
 none_passes : (p : ℕ → Bool) (n : ℕ) → ((i : ℕ) → i < n → p i ≡ false) → passing p n ≡ []

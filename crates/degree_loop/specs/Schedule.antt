@@ -1,6 +1,7 @@
 -- The schedule generator: which seat makes the next step of the machine of claims.
 use Rattle.std.specs.Prelude.{ℕ, ◌≡◌, ◌≢◌, ◌+◌, ◌*◌, ◌/◌, ◌%◌, ◌^◌, ◌==◌, true, List, [], ◌∷◌, length, slice_index}
 use Rattle.std.specs.List.{filter, range_with_len}
+use Rattle.field_table.specs.Draws.{next_number}
 use Rattle.back_reduce.specs.declared.problem.Problem.{Problem}
 use Rattle.pivot_core.specs.declared.event.Event.{Event}
 use Rattle.pivot_core.specs.Finished.{Finished}
@@ -8,10 +9,6 @@ use Rattle.pivot_core.specs.Laws.{logs_of}
 use Rattle.pivot_core.specs.Phases.{is_ended}
 use Rattle.pivot_core.specs.Steps.{is_next}
 use Rattle.pivot_core.specs.Runs.{HasEnded, State, after_event, after_events, opening, state_after, view_at}
-
--- the number after s
-abbrev pub next_number : ℕ → ℕ
-next_number s = (1664525 * s + 1013904223) % 2 ^ 32
 
 -- the seats that have not ended, rising
 abbrev pub going_seats : Problem → State → List ℕ

@@ -3,10 +3,10 @@ ghost use Rattle.pivot_core.specs.declared.view.Phase.TheVariants.{Ended};
 ghost use Rattle.pivot_core.specs.Phases.{is_ended};
 ghost use Rattle.pivot_core.specs.Runs.{view_at};
 ghost use Rattle.pivot_core.specs.Steps.{is_next};
-ghost use Rattle.degree_loop.specs.Schedule.{IsChosen, IsScheduledRun, going_seats, next_number};
+ghost use Rattle.degree_loop.specs.Schedule.{IsChosen, IsScheduledRun, going_seats};
 
 use back_reduce::Problem;
-use field_table::Field;
+use field_table::{Field, number_after};
 use pivot_core::{Core, CorePivots, Event, Kind, Phase, claim_laws};
 use std::alloc::Global;
 use words::NoMemory;
@@ -35,14 +35,6 @@ pub(crate) fn scheduled_pivots(
         let _reply = core.step(event);
     }
     Ok(core.finish())
-}
-
-/// The number after one of the generator.
-fn number_after(number: u32) -> u32
-    ensures { result ≡ next_number number }
-{
-    let next = 1_664_525 * u64::from(number) + 1_013_904_223;
-    (next % 4_294_967_296) as u32
 }
 
 /// The event that a number chooses.
