@@ -38,7 +38,7 @@ had x (y ∷ xs) m = elim (Contains-cases y xs x m) [
 ]
 
 -- of two lists without repeats the one whose members the other has is no longer
-no_longer : {X : Type 0} (xs ys : List X) → AllPairs (λ a b. a ≢ b) xs → ((x : X) → Contains xs x → Contains ys x) → length xs ≤ length ys
+pub no_longer : {X : Type 0} (xs ys : List X) → AllPairs (λ a b. a ≢ b) xs → ((x : X) → Contains xs x → Contains ys x) → length xs ≤ length ys
 no_longer [] ys p h = omega arith
 no_longer (x ∷ xs) ys p h =
     let k = had x ys (h x (Contains-first x xs)) in

@@ -45,7 +45,7 @@ before_suffix : (x v : List ℕ) → take (length x) (x ++ v) ≡ x
 before_suffix [] v = refl
 before_suffix (a ∷ x) v = ap (λ (r : List ℕ). a ∷ r) (before_suffix x v)
 
-factor_listed : (v w : List ℕ) → IsFactor v w → Contains (factors w) v
+pub factor_listed : (v w : List ℕ) → IsFactor v w → Contains (factors w) v
 factor_listed v w i =
     let sizes = ap length i.joined ∙ length-append (i.before ++ v) i.after in
     let is : take (length v) (drop (length i.before) w) ≡ v =
@@ -55,7 +55,7 @@ factor_listed v w i =
     (subst (Contains (factors_from w (length i.before))) is
     (Contains-map (λ n. take n (drop (length i.before) w)) (range_with_len 0 (suc (length w))) (length v) (Contains-range 0 (suc (length w)) (length v) (omega arith) (omega (arith, sizes, length-append i.before v)))))
 
-listed_factor : (v w : List ℕ) → Contains (factors w) v → IsFactor v w
+pub listed_factor : (v w : List ℕ) → Contains (factors w) v → IsFactor v w
 listed_factor v w h =
     let i = Contains-flat_map_cases (factors_from w) (range_with_len 0 (suc (length w))) v h in
     let n = Contains-map_cases (λ n. take n (drop i.0 w)) (range_with_len 0 (suc (length w))) v i.2 in

@@ -53,7 +53,7 @@ of_degree-says weights d ((t ∷ f) ∷ fs) g m = by_test (degree_of weights t.w
     by_test false n rest = Contains-more (t ∷ f) fs g (rest n)
 
 -- a product of a relation has a degree of 1 or more
-positive_product : (weights : List ℕ) → AreWeights weights → (u : List ℕ) (r : List Term) (v : List ℕ) → r ≢ [] → All (λ t. t.word ≢ []) r → HasDegree weights 0 (product u r v) → ⊥
+pub positive_product : (weights : List ℕ) → AreWeights weights → (u : List ℕ) (r : List Term) (v : List ℕ) → r ≢ [] → All (λ t. t.word ≢ []) r → HasDegree weights 0 (product u r v) → ⊥
 positive_product weights aw u [] v other words h = other refl
 positive_product weights aw u (t ∷ r) v other words h =
     omega (
@@ -64,7 +64,7 @@ positive_product weights aw u (t ∷ r) v other words h =
     )
 
 module _ (p : ℕ) (weights : List ℕ) (relations : List (List Term)) (st : IsSetting p weights relations) where
-  none_of_degree_0 : (ms : List Multiple) → All (IsMultiple p weights relations 0) ms → ms ≡ []
+  pub none_of_degree_0 : (ms : List Multiple) → All (IsMultiple p weights relations 0) ms → ms ≡ []
   none_of_degree_0 [] h = refl
   none_of_degree_0 (m ∷ ms) h =
       let i = All-head (IsMultiple p weights relations 0) m ms h in
@@ -72,7 +72,7 @@ module _ (p : ℕ) (weights : List ℕ) (relations : List (List Term)) (st : IsS
       absurd (positive_product weights st.are_weights m.left m.relation m.right r.other r.degree i.degree)
 
   -- no monic member has degree 0
-  no_reduced_0 : (f : List Term) → IsReduced p weights relations 0 f → ⊥
+  pub no_reduced_0 : (f : List Term) → IsReduced p weights relations 0 f → ⊥
   no_reduced_0 f h =
       let w = monic-led f h.monic in
       let one = monic_total f w.0 w.1 h.inside.element.form h.monic in

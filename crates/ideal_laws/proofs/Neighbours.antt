@@ -21,12 +21,12 @@ use Rattle.ideal_laws.proofs.Vectors.{IsProductVector, ideal_from_span, same_vec
 use Rattle.ideal_laws.proofs.Vectors as vectors
 
 -- the last letter of a word that is not empty
-record IsEnded (v : List ℕ) : Type 0 where
+pub record IsEnded (v : List ℕ) : Type 0 where
   pub front : List ℕ
   pub last : ℕ
   pub is : v ≡ front ++ last ∷ []
 
-ended : (v : List ℕ) → v ≢ [] → IsEnded v
+pub ended : (v : List ℕ) → v ≢ [] → IsEnded v
 ended [] ne = absurd (ne refl)
 ended (x ∷ []) ne = record { front = []; last = x; is = refl }
 ended (x ∷ y ∷ v) ne =

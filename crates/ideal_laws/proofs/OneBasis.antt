@@ -99,7 +99,7 @@ module _ (p : ℕ) (fm : IsFieldModulus p) where
     | inr n ↦ zero_at_member x es e z.1 n
   ]
 
-  zero_at_lead : (v : V) (es : List (List ℕ × V)) (e : List ℕ × V) → IsZeroAtLeads K (List ℕ) v es → Contains es e → v e.0 ≡ K.zero
+  pub zero_at_lead : (v : V) (es : List (List ℕ × V)) (e : List ℕ × V) → IsZeroAtLeads K (List ℕ) v es → Contains es e → v e.0 ≡ K.zero
   zero_at_lead v [] e z m = absurd (Contains-none e m)
   zero_at_lead v (d ∷ es) e z m = elim (Contains-cases d es e m) [
     | inl is ↦ ap (λ (r : List ℕ × V). v r.0) (sym is) ∙ z.0
@@ -107,7 +107,7 @@ module _ (p : ℕ) (fm : IsFieldModulus p) where
   ]
 
   -- a row is 1 at its own leading column and 0 at those of the other rows
-  row_one : (xs : List (List ℕ)) (es : List (List ℕ × V)) → IsReduced K (List ℕ) xs es → (e : List ℕ × V) → Contains es e → e.1 e.0 ≡ K.one
+  pub row_one : (xs : List (List ℕ)) (es : List (List ℕ × V)) → IsReduced K (List ℕ) xs es → (e : List ℕ × V) → Contains es e → e.1 e.0 ≡ K.one
   row_one xs es done e m = absurd (Contains-none e m)
   row_one xs es (skip x ys es' z r) e m = row_one ys es r e m
   row_one xs es (lead x ys v es' one z zl r) e m = elim (Contains-cases (x, v) es' e m) [
@@ -115,7 +115,7 @@ module _ (p : ℕ) (fm : IsFieldModulus p) where
     | inr n ↦ row_one ys es' r e n
   ]
 
-  row_zero : (xs : List (List ℕ)) (es : List (List ℕ × V)) → IsReduced K (List ℕ) xs es → (e d : List ℕ × V) → Contains es e → Contains es d → d.0 ≢ e.0 → e.1 d.0 ≡ K.zero
+  pub row_zero : (xs : List (List ℕ)) (es : List (List ℕ × V)) → IsReduced K (List ℕ) xs es → (e d : List ℕ × V) → Contains es e → Contains es d → d.0 ≢ e.0 → e.1 d.0 ≡ K.zero
   row_zero xs es done e d m n ne = absurd (Contains-none e m)
   row_zero xs es (skip x ys es' z r) e d m n ne = row_zero ys es r e d m n ne
   row_zero xs es (lead x ys v es' one z zl r) e d m n ne = elim (Contains-cases (x, v) es' e m) [
@@ -155,7 +155,7 @@ module _ (p : ℕ) (fm : IsFieldModulus p) where
   from_words-same (x ∷ xs) u v s a b =
       λ i. cond (((a.0 ∙ sym b.0) i).0 == 0) (from_words-same xs u v s a.1 b.1 i) (record { word = x; coefficient = ((a.0 ∙ sym b.0) i).0 } ∷ from_words-same xs u v s a.1 b.1 i)
 
-  same_after : (xs : List (List ℕ)) (u v w : V) → AreSameAt K (List ℕ) xs u v → ((y : List ℕ) → v y ≡ w y) → AreSameAt K (List ℕ) xs u w
+  pub same_after : (xs : List (List ℕ)) (u v w : V) → AreSameAt K (List ℕ) xs u v → ((y : List ℕ) → v y ≡ w y) → AreSameAt K (List ℕ) xs u w
   same_after [] u v w s e = tt
   same_after (x ∷ xs) u v w s e = (s.0 ∙ e x, same_after xs u v w s.1 e)
 

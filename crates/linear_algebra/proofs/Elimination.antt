@@ -86,7 +86,7 @@ module _ (K : Field) (X : Type 0) where
       ∙ leads-zero x es v z.1
 
   -- what is had from the entries at the leading columns has these entries
-  abbrev AreSameAtLeads : List (X × V) → V → V → Type 0
+  abbrev pub AreSameAtLeads : List (X × V) → V → V → Type 0
   AreSameAtLeads [] v w = Unit {0}
   AreSameAtLeads (e ∷ es) v w = (v e.0 ≡ w e.0) × AreSameAtLeads es v w
 

@@ -103,11 +103,11 @@ outcome-once text p (refused f) (refused g) (inr h) (inr j) = ap refused (relati
 
 -- There is one.
 
-record HasMeanings (p : ℕ) (names : List (List ℕ)) (rs : List Relation) : Type 0 where
-  meanings : List (List Term)
-  are : AreMeanings p names rs meanings
+pub record HasMeanings (p : ℕ) (names : List (List ℕ)) (rs : List Relation) : Type 0 where
+  pub meanings : List (List Term)
+  pub are : AreMeanings p names rs meanings
 
-meanings-of : (p : ℕ) → 0 < p → (names : List (List ℕ)) (rs : List Relation) → HasMeanings p names rs
+pub meanings-of : (p : ℕ) → 0 < p → (names : List (List ℕ)) (rs : List Relation) → HasMeanings p names rs
 meanings-of p some names [] = record { meanings = []; are = tt }
 meanings-of p some names (r ∷ rs) =
     let f = normal_form p some (terms_of_relation p names r) in

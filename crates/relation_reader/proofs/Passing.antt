@@ -8,11 +8,11 @@ use Rattle.relation_reader.specs.Grammar.{lexeme_of}
 use Rattle.relation_reader.specs.Meaning.{Placed, begins_relation, declared_names, declares, letters_after, letters_from, relations_begun}
 use Rattle.relation_reader.specs.Walk.{HasPassed, placed}
 
-letters_from-append : (n : ℕ) (before : List Placed) (t : Placed) → letters_from n (before ++ t ∷ []) ≡ letters_after (letters_from n before) t.place t.lexeme
+pub letters_from-append : (n : ℕ) (before : List Placed) (t : Placed) → letters_from n (before ++ t ∷ []) ≡ letters_after (letters_from n before) t.place t.lexeme
 letters_from-append n [] t = refl
 letters_from-append n (s ∷ before) t = letters_from-append (letters_after n s.place s.lexeme) before t
 
-relations_begun-append : (before : List Placed) (t : Placed) → relations_begun (before ++ t ∷ []) ≡ relations_begun before + (if begins_relation t.place t.lexeme then 1 else 0)
+pub relations_begun-append : (before : List Placed) (t : Placed) → relations_begun (before ++ t ∷ []) ≡ relations_begun before + (if begins_relation t.place t.lexeme then 1 else 0)
 relations_begun-append [] t = omega arith
 relations_begun-append (s ∷ before) t = omega (arith, relations_begun-append before t)
 

@@ -40,7 +40,7 @@ ends-alike names weights weight (comma ∷ ls) = let h = ends-alike names (weigh
 ends-alike names weights weight (l ∷ ls) = let h = ends-alike names weights weight ls in record { letters = h.letters; rest = h.rest }
 
 -- the lexemes of the pieces of a text are those of its tokens, and End
-pieces-are : (text : List ℕ) (tokens : List Token) → map (λ (piece : Piece). piece.lexeme) (pieces_of text tokens None) ≡ lexemes_of text tokens ++ the_end ∷ []
+pub pieces-are : (text : List ℕ) (tokens : List Token) → map (λ (piece : Piece). piece.lexeme) (pieces_of text tokens None) ≡ lexemes_of text tokens ++ the_end ∷ []
 pieces-are text tokens =
     map-append (λ (piece : Piece). piece.lexeme) (map (piece_of text) tokens) (record { lexeme = the_end; at = length text } ∷ [])
     ∙ ap (λ (ls : List Lexeme). ls ++ the_end ∷ []) (map-map (λ (piece : Piece). piece.lexeme) (piece_of text) tokens)
