@@ -1,4 +1,4 @@
-ghost use Rattle.std.specs.Prelude.{◌≡◌, ◌<◌, ◌≤◌, ◌+◌, ◌↔◌, ℕ, List, length, Err, IfOk, OnErr, OnOk};
+ghost use Rattle.std.specs.Prelude.{◌≡◌, ◌≢◌, ◌<◌, ◌≤◌, ◌+◌, ◌↔◌, ℕ, List, length, Err, IfOk, OnErr, OnOk};
 ghost use Rattle.std.specs.Io.KnownBytes.{Appends, Consumes, IsAtEnd};
 ghost use Rattle.bg_io.specs.Ends.{HasCause, HasRoom, IsCutShort, Loses, LosesAtMost, RoomFalls, Rose};
 
@@ -39,8 +39,8 @@ pub fn read_all<S: Source>(
     ensures read_fault { result ≡ Err ReadAllFault.ReadFault → LosesAtMost (S.left source.old) (S.left source.new) limit }
     ensures no_memory { result ≡ Err ReadAllFault.NoMemory → LosesAtMost (S.left source.old) (S.left source.new) limit }
 
-    ensures later { S.faults source.old ≤ S.faults source.new }
     ensures cause { result ≡ Err ReadAllFault.ReadFault → Rose (S.faults source.old) (S.faults source.new) }
+    ensures kept { result ≢ Err ReadAllFault.ReadFault → S.faults source.new ≡ S.faults source.old }
 {
     let limit = limit as usize;
     let mut text = Vec::new(alloc);

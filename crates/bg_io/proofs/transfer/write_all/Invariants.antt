@@ -1,4 +1,4 @@
-use Rattle.std.proofs.Common.{◌≤◌, ◌-◌, length, take}
+use Rattle.std.proofs.Common.{◌≡◌, ◌≤◌, ◌-◌, length, take}
 use Rattle.std.specs.Io.KnownBytes.{Appends}
 use Rattle.bg_io.specs.Ends.{RoomFalls}
 use Rattle.bg_io.proofs.transfer.write_all.Given as goal
@@ -8,7 +8,7 @@ invariant-loop-done g l = record {
   within : l.done ≤ length l.bytes;
   gained : Appends (g.K.Sink.held l.initial.sink) (g.K.Sink.held l.sink) (take l.done l.bytes);
   room : RoomFalls (g.K.Sink.room l.initial.sink) (g.K.Sink.room l.sink) l.done;
-  later : g.K.Sink.faults l.initial.sink ≤ g.K.Sink.faults l.sink;
+  kept : g.K.Sink.faults l.sink ≡ g.K.Sink.faults l.initial.sink;
 }
 
 abbrev pub decreases-loop-done : goal.decreases-loop-done
