@@ -15,17 +15,17 @@ use Rattle.command_words.specs.declared.job.Command.TheVariants.{Gb}
 use Rattle.command_words.specs.declared.job.Job.{Job}
 use Rattle.command_words.specs.declared.job.UsageFault.{UsageFault}
 use Rattle.command_words.specs.JobOf.{HasOneAnswer, IsJob, IsUsageFault}
-use Rattle.bergman_cli.specs.declared.status.InputProblem.TheVariants.{TooLong, Text}
-use Rattle.bergman_cli.specs.declared.status.Part.{Part}
-use Rattle.bergman_cli.specs.declared.status.Part.TheVariants as parts
-use Rattle.bergman_cli.specs.declared.status.Status.{Status}
-use Rattle.bergman_cli.specs.declared.status.Status.TheVariants.{Done, Usage, Input, Limit, Unbuilt, ReadFault, WriteFault, NoMemory}
-use Rattle.bergman_cli.specs.Gains.{HasPrinted, HasPrintedPart, HasPrintedSome}
-use Rattle.bergman_cli.specs.Progress.{IsReach, IsStoppedBy, Reach, Task, whole}
+use Rattle.job_steps.specs.declared.status.InputProblem.TheVariants.{TooLong, Text}
+use Rattle.job_steps.specs.declared.status.Part.{Part}
+use Rattle.job_steps.specs.declared.status.Part.TheVariants as parts
+use Rattle.job_steps.specs.declared.status.Status.{Status}
+use Rattle.job_steps.specs.declared.status.Status.TheVariants.{Done, Usage, Input, Limit, Unbuilt, ReadFault, WriteFault, NoMemory}
+use Rattle.job_steps.specs.Gains.{HasPrinted, HasPrintedPart, HasPrintedSome}
+use Rattle.job_steps.specs.Progress.{IsReach, IsStoppedBy, Reach, Task, whole}
 use Rattle.bergman_cli.specs.Run.{Completes, HasPrintedUpto, IsBuilt, IsBuiltJob, IsEnd, IsInput, IsJobEnd, IsOtherCommand, IsUnbuiltEngine, IsRefusedInput, IsTaskEnd, OfBuiltJob, OfReading, RefusesText, StopsThere, task_of_job}
-use Rattle.bergman_cli.specs.Status.{PrintsNothing, ReadsNothing}
+use Rattle.job_steps.specs.Status.{PrintsNothing, ReadsNothing}
 use Rattle.bergman_cli.proofs.Jobs.{listed, listed_some, no_fault, one_fault, one_job}
-use Rattle.bergman_cli.proofs.Reaches.{one_stop, whole_is_not_stopped}
+use Rattle.job_steps.proofs.Reaches.{one_stop, whole_is_not_stopped}
 
 -- a task prints something, or stops for a cause
 pub task_prints : (t : Task) (held more : Option (List ℕ)) (room : Option ℕ) (before after : ℕ) (status : Status) → IsTaskEnd t held more room before after status → PrintsNothing status → ⊥

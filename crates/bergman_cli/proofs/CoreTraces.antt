@@ -11,7 +11,7 @@ use Rattle.command_words.specs.declared.job.EngineKind.{EngineKind}
 use Rattle.command_words.specs.declared.job.EngineKind.TheVariants.{Core}
 use Rattle.command_words.specs.declared.job.Job.{Job}
 use Rattle.bergman_cli.specs.Run.{IsEngineOf, accounts_in, limits_of}
-use Rattle.bergman_cli.specs.Traces.{Accounts, ArePrintable}
+use Rattle.job_steps.specs.Traces.{Accounts, ArePrintable}
 
 abbrev core_accounts : ℕ → ℕ → Accounts
 core_accounts workers schedule p given below d account = IsCoreAccount workers schedule p given.alphabet.weights given.relations below.elements d account

@@ -10,16 +10,16 @@ use Rattle.ideal_laws.specs.Engine.{Elements}
 use Rattle.ideal_laws.specs.Laws.{IsSetting}
 use Rattle.ideal_laws.specs.Limits.{standard_limits}
 use Rattle.command_words.specs.declared.job.Job.{Job}
-use Rattle.bergman_cli.specs.declared.print.Asked.{Asked}
-use Rattle.bergman_cli.specs.declared.print.PrintFault.{PrintFault}
-use Rattle.bergman_cli.specs.declared.print.PrintFault.TheVariants as stops
-use Rattle.bergman_cli.specs.declared.status.Status.{Status}
-use Rattle.bergman_cli.specs.declared.status.Status.TheVariants.{Done, Usage, Input, Limit, Unbuilt, ReadFault, WriteFault, NoMemory}
-use Rattle.bergman_cli.specs.Gains.{IsUndone}
-use Rattle.bergman_cli.specs.Printing.{task_of}
-use Rattle.bergman_cli.specs.Progress.{Task}
+use Rattle.job_steps.specs.declared.print.Asked.{Asked}
+use Rattle.job_steps.specs.declared.print.PrintFault.{PrintFault}
+use Rattle.job_steps.specs.declared.print.PrintFault.TheVariants as stops
+use Rattle.job_steps.specs.declared.status.Status.{Status}
+use Rattle.job_steps.specs.declared.status.Status.TheVariants.{Done, Usage, Input, Limit, Unbuilt, ReadFault, WriteFault, NoMemory}
+use Rattle.job_steps.specs.Gains.{IsUndone}
+use Rattle.job_steps.specs.Printing.{task_of}
+use Rattle.job_steps.specs.Progress.{Task}
 use Rattle.bergman_cli.specs.Run.{IsBuiltJob, IsEngineOf, IsRunTrace, ReadsInput, accounts_of, limits_of, shows_basis, shows_series, task_of_job, traces_of}
-use Rattle.bergman_cli.specs.Traces.{Accounts, AreAccounts, IsAccountOf, IsTaskTrace, IsTrace, IsTracePart, OfTrace}
+use Rattle.job_steps.specs.Traces.{Accounts, AreAccounts, IsAccountOf, IsTaskTrace, IsTrace, IsTracePart, OfTrace}
 
 -- what a task that ended so has for its trace
 module _ (May Own : Accounts) (t : Task) where

@@ -1,7 +1,1 @@
-pub mod Progress
-pub mod Gains
-pub mod Printing
-pub mod Status
-pub mod Lines
-pub mod Traces
 pub mod Run

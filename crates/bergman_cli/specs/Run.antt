@@ -22,13 +22,13 @@ use Rattle.command_words.specs.declared.job.Job.{Job}
 use Rattle.command_words.specs.declared.job.Show.{Show}
 use Rattle.command_words.specs.declared.job.Show.TheVariants.{Basis, Series, Both}
 use Rattle.command_words.specs.JobOf.{IsJob, IsUsageFault}
-use Rattle.bergman_cli.specs.declared.status.InputProblem.TheVariants.{TooLong, Text}
-use Rattle.bergman_cli.specs.declared.status.Part.TheVariants as parts
-use Rattle.bergman_cli.specs.declared.status.Status.{Status}
-use Rattle.bergman_cli.specs.declared.status.Status.TheVariants.{Done, Usage, Input, Limit, Unbuilt, ReadFault, WriteFault, NoMemory}
-use Rattle.bergman_cli.specs.Gains.{HasPrinted, HasPrintedPart, HasPrintedSome}
-use Rattle.bergman_cli.specs.Progress.{IsReach, IsStoppedBy, Reach, Task, whole}
-use Rattle.bergman_cli.specs.Traces.{Accounts, ArePrintable, IsTaskTrace}
+use Rattle.job_steps.specs.declared.status.InputProblem.TheVariants.{TooLong, Text}
+use Rattle.job_steps.specs.declared.status.Part.TheVariants as parts
+use Rattle.job_steps.specs.declared.status.Status.{Status}
+use Rattle.job_steps.specs.declared.status.Status.TheVariants.{Done, Usage, Input, Limit, Unbuilt, ReadFault, WriteFault, NoMemory}
+use Rattle.job_steps.specs.Gains.{HasPrinted, HasPrintedPart, HasPrintedSome}
+use Rattle.job_steps.specs.Progress.{IsReach, IsStoppedBy, Reach, Task, whole}
+use Rattle.job_steps.specs.Traces.{Accounts, ArePrintable, IsTaskTrace}
 
 -- In the following, left and now are what the source tells of its bytes before and after; held, more, room and the counts of faults are those of Gains.
 

@@ -9,12 +9,12 @@ ghost use Rattle.ideal_laws.specs.declared.limits.LimitKind.{LimitKind};
 ghost use Rattle.command_words.specs.declared.job.Job.{Job};
 ghost use Rattle.command_words.specs.declared.job.UsageFault.{UsageFault};
 ghost use Rattle.command_words.specs.JobOf.{IsJob, IsUsageFault};
-ghost use Rattle.bergman_cli.specs.Gains.{HasPrinted, HasPrintedPart, HasPrintedSome};
-ghost use Rattle.bergman_cli.specs.Lines.{fault_line};
-ghost use Rattle.bergman_cli.specs.Progress.{IsStoppedBy, whole};
+ghost use Rattle.job_steps.specs.Gains.{HasPrinted, HasPrintedPart, HasPrintedSome};
+ghost use Rattle.job_steps.specs.Lines.{fault_line};
+ghost use Rattle.job_steps.specs.Progress.{IsStoppedBy, whole};
 ghost use Rattle.bergman_cli.specs.Run.{Completes, HasPrintedUpto, IsBuiltJob, IsEnd, IsEngineOf, IsInputEnd, IsJobEnd, IsOtherCommand, IsUnbuiltEngine, IsRefusedInput, IsRunTrace, IsTaken, IsTaskEnd, OfBuiltJob, OfReading, ReadsInput, RefusesText, StopsThere, accounts_of, shows_basis, shows_series, task_of_job, traces_of};
-ghost use Rattle.bergman_cli.specs.Status.{PrintsNothing, ReadsNothing};
-ghost use Rattle.bergman_cli.specs.Traces.{IsTaskTrace, IsTold, Tells};
+ghost use Rattle.job_steps.specs.Status.{PrintsNothing, ReadsNothing};
+ghost use Rattle.job_steps.specs.Traces.{IsTaskTrace, IsTold, Tells};
 
 use crate::print::{Asked, PrintFault, print_job};
 use crate::status::{InputProblem, Part, Status};

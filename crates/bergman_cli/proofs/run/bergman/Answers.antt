@@ -1,7 +1,7 @@
 use Rattle.std.proofs.Common.{false, map, refl, string_bytes}
 use Rattle.bergman_cli.proofs.Causes.{command_exactly, completes, end_done, end_limit, end_memory, end_part, end_read, end_text, end_write, engine_exactly, refuses_text, stops_there, usage_exactly}
-use Rattle.bergman_cli.specs.Lines.{fault_line}
-use Rattle.bergman_cli.proofs.Traced.{tells_behind, told_end}
+use Rattle.job_steps.specs.Lines.{fault_line}
+use Rattle.job_steps.proofs.Traced.{tells_behind, told_end}
 use Rattle.bergman_cli.proofs.run.bergman.Goals as goal
 
 pub returns-clause-done : goal.returns-clause-done

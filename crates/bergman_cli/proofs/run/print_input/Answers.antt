@@ -1,6 +1,6 @@
 use Rattle.std.proofs.Common.{◌∙◌, ap, sym}
-use Rattle.bergman_cli.specs.declared.print.Asked.{Asked}
-use Rattle.bergman_cli.specs.Traces.{Tells}
+use Rattle.job_steps.specs.declared.print.Asked.{Asked}
+use Rattle.job_steps.specs.Traces.{Tells}
 use Rattle.bergman_cli.proofs.RunTraces.{told_done, told_limit, told_memory, told_write}
 use Rattle.bergman_cli.proofs.run.print_input.Goals as goal
 

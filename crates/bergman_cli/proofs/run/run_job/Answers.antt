@@ -2,7 +2,7 @@ use Rattle.std.proofs.Common.{ℕ, [], refl, inl, subst}
 use Rattle.ideal_laws.specs.Laws.{IsSetting}
 use Rattle.bergman_cli.specs.Run.{ReadsInput}
 use Rattle.bergman_cli.proofs.RunTraces.{read_trace}
-use Rattle.bergman_cli.proofs.Traced.{tells_none}
+use Rattle.job_steps.proofs.Traced.{tells_none}
 use Rattle.bergman_cli.proofs.run.run_job.Goals as goal
 
 pub returns-in_default-clause-told : goal.returns-in_default-clause-told

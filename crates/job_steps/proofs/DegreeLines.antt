@@ -1,0 +1,134 @@
+-- The lines of a degree are those of the elements that stand together in a basis.
+use Rattle.std.proofs.Common.{not, ◌≡◌, ◌≢◌, ◌+◌, ◌-◌, ◌<◌, ◌≤◌, ℕ, Bool, true, false, List, [], ◌∷◌, ◌++◌, length, get_or, take, drop, refl, sym, ap, ◌∙◌, inr, arith, subst, All, Result, Ok, Err, IfErr}
+use Rattle.std.specs.List.{flat_map, slice_range}
+use Rattle.std.specs.declared.option.Option.{Option}
+use Rattle.std.proofs.Math.Seq.{drop-cons, take-add}
+use Rattle.std.proofs.lemmas.Grind.{flat_map-append}
+use Rattle.std.proofs.lemmas.List.{append-nil, drop-drop}
+use Rattle.words.specs.Names.{Letters}
+use Rattle.words.proofs.Members.{All-from_members}
+use Rattle.free_poly.specs.declared.term.Term.{Term}
+use Rattle.free_poly.specs.Terms.{HasResidues}
+use Rattle.ideal_laws.specs.declared.limits.LimitKind.{LimitKind}
+use Rattle.ideal_laws.specs.Basis.{IsReducedBasis}
+use Rattle.ideal_laws.specs.Engine.{Elements, IsReducedUpto, of_degree}
+use Rattle.ideal_laws.specs.Kept.{IsBelow, IsKept}
+use Rattle.ideal_laws.specs.Laws.{IsSetting}
+use Rattle.ideal_laws.specs.Quantities.{IsQuantity, NonePasses}
+use Rattle.ideal_laws.proofs.Lower.{lists_lower}
+use Rattle.poly_writer.specs.Texts.{degree_text, element_line, head_line}
+use Rattle.job_steps.specs.declared.print.PrintFault.{PrintFault}
+use Rattle.job_steps.specs.declared.print.PrintFault.TheVariants.{Limit, WriteFault, NoMemory}
+use Rattle.job_steps.specs.Gains.{GainsAll, GainsPart, GainsSome, IsUnwritten}
+use Rattle.job_steps.specs.Printing.{IsNext, IsNextUndone, OfNext, lines_of}
+use Rattle.job_steps.specs.Progress.{IsBeginning}
+use Rattle.job_steps.proofs.Gaining.{all_behind, unwritten_before, unwritten_behind}
+
+-- what a fault that is passed on says
+pub if_err : {T E : Type 0} (r : Result T E) (a x : E) (P : E → Type 0) → r ≡ Err a → a ≡ x → P x → IfErr r P
+if_err (Ok v) a x P e s h = tt
+if_err (Err y) a x P e s h = let is : y ≡ a = cc e in subst P (sym (is ∙ s)) h
+
+pub is_shown : (shows : Bool) → not shows ≡ false → shows ≡ true
+is_shown true e = refl
+is_shown false e = cc e
+
+pub is_hidden : (shows : Bool) → not shows ≡ true → shows ≡ false
+is_hidden true e = cc e
+is_hidden false e = refl
+
+-- what is said of a limit by its parts
+pub limit_moved : (P : LimitKind → ℕ → Type 0) (k l : LimitKind) (v w : ℕ) → k ≡ l → v ≡ w → P l w → P k v
+limit_moved P k l v w e f h = subst (λ (x : ℕ). P k x) (sym f) (subst (λ (x : LimitKind). P x w) (sym e) h)
+
+slice_split : {X : Type 0} (xs : List X) (a b c : ℕ) → a ≤ b → b ≤ c → slice_range xs a c ≡ slice_range xs a b ++ slice_range xs b c
+slice_split xs a b c low high =
+    let e : c - a ≡ (b - a) + (c - b) = omega (arith, low, high) in
+    let whole : a + (b - a) ≡ b = omega (arith, low) in
+    ap (λ (n : ℕ). take n (drop a xs)) e ∙ take-add (b - a) (c - b) (drop a xs)
+    ∙ ap (λ l. take (b - a) (drop a xs) ++ take (c - b) l) (drop-drop (b - a) a xs ∙ ap (λ (k : ℕ). drop k xs) whole)
+
+slice_one : {X : Type 0} (xs : List X) (b : ℕ) (z : X) → b < length xs → slice_range xs b (b + 1) ≡ get_or xs b z ∷ []
+slice_one xs b z within =
+    let e : b + 1 - b ≡ 1 = omega arith in
+    ap (λ (n : ℕ). take n (drop b xs)) e ∙ ap (take 1) (drop-cons xs b z within)
+
+module _ (names : List (List ℕ)) (p : ℕ) (xs : List (List Term)) where
+  abbrev lines : ℕ → ℕ → List ℕ
+  lines a b = flat_map (element_line names p) (slice_range xs a b)
+
+  lines_more : (a b : ℕ) (f : List Term) → a ≤ b → b < length xs → f ≡ get_or xs b f → lines a (b + 1) ≡ lines a b ++ element_line names p f
+  lines_more a b f low within is =
+      ap (flat_map (element_line names p)) (slice_split xs a b (b + 1) low (omega arith) ∙ ap (λ (l : List (List Term)). slice_range xs a b ++ l) (slice_one xs b f within))
+      ∙ flat_map-append (element_line names p) (slice_range xs a b) (get_or xs b f ∷ [])
+      ∙ ap (λ (l : List ℕ). lines a b ++ l) (append-nil (element_line names p (get_or xs b f)) ∙ ap (element_line names p) (sym is))
+
+  lines_begin : (a b c : ℕ) → a ≤ b → b ≤ c → IsBeginning (lines a b) (lines a c)
+  lines_begin a b c low high = record {
+    rest = lines b c;
+    joined = ap (flat_map (element_line names p)) (slice_split xs a b c low high) ∙ flat_map-append (element_line names p) (slice_range xs a b) (slice_range xs b c);
+  }
+
+  module _ (h k m : Option (List ℕ)) (r s : Option ℕ) (f g n : ℕ) (a b c : ℕ) (element : List Term) (low : a ≤ b) (below : b < c) (within : c ≤ length xs) (is : element ≡ get_or xs b element) where
+    pub written_more : (t : Option ℕ) → GainsAll h k r s f g (lines a b) → GainsAll k m s t g n (element_line names p element) → GainsAll h m r t f n (lines a (b + 1))
+    written_more t w v =
+        subst (GainsAll h m r t f n) (sym (lines_more a b element low (omega (arith, below, within)) is)) (all_behind h k m r s t f g n (lines a b) (element_line names p element) w v)
+
+    pub unwritten_more : (fault : PrintFault) → GainsAll h k r s f g (lines a b) → IsUnwritten k m s g n (element_line names p element) fault → IsUnwritten h m r f n (lines a c) fault
+    unwritten_more fault w u =
+        unwritten_before h m r f n (lines a (b + 1)) (lines a c) fault (lines_begin a (b + 1) c (omega (arith, low)) (omega (arith, below)))
+        (subst (λ (l : List ℕ). IsUnwritten h m r f n l fault) (sym (lines_more a b element low (omega (arith, below, within)) is))
+        (unwritten_behind h k m r s f g n (lines a b) (element_line names p element) fault w u))
+
+  slice_some : (a b : ℕ) → (a ≡ b → ⊥) → a ≤ b → b ≤ length xs → slice_range xs a b ≢ []
+  slice_some a b other low within e =
+      let one = slice_split xs a (a + 1) b (omega arith) (omega (arith, low, λ (same : a ≡ b). other same)) in
+      no_head (get_or xs a []) (slice_range xs (a + 1) b)
+      (ap (λ (l : List (List Term)). l ++ slice_range xs (a + 1) b) (sym (slice_one xs a [] (omega (arith, low, within, λ (same : a ≡ b). other same)))) ∙ sym one ∙ e)
+    where
+      no_head : (x : List Term) (rest : List (List Term)) → (x ∷ []) ++ rest ≡ [] → ⊥
+      no_head x rest e = cc e
+
+degree_text-some : (names : List (List ℕ)) (p d : ℕ) (fs : List (List Term)) → fs ≢ [] → degree_text names p d fs ≡ head_line d ++ flat_map (element_line names p) fs
+degree_text-some names p d [] other = absurd (other refl)
+degree_text-some names p d (f ∷ fs) other = refl
+
+-- the text of a degree that has elements, from the place of the first to past the last
+pub degree_lines : (names : List (List ℕ)) (p : ℕ) (weights : List ℕ) (d done : ℕ) (xs : List (List Term)) (a b : ℕ) → d ≡ done → slice_range xs a b ≡ of_degree weights d xs → (a ≡ b → ⊥) → a ≤ b → b ≤ length xs
+    → degree_text names p done (of_degree weights done xs) ≡ head_line d ++ flat_map (element_line names p) (slice_range xs a b)
+degree_lines names p weights d done xs a b is same other low within =
+    ap (λ (n : ℕ). degree_text names p n (of_degree weights n xs)) (sym is) ∙ ap (degree_text names p d) (sym same) ∙ degree_text-some names p d (slice_range xs a b) (slice_some names p xs a b other low within)
+
+-- a basis that has grown by a degree
+module _ (p : ℕ) (letters : Letters) (relations : List (List Term)) (limits : List (LimitKind × ℕ)) (old new : Elements) (same : old.weights ≡ letters.weights) (kept_weights : new.weights ≡ old.weights) (done : new.done ≡ old.done + 1)
+    (reduced : IsReducedUpto p relations new) (passes_none : NonePasses (IsQuantity p old.weights relations old (old.done + 1)) limits) where
+  abbrev added : List (List Term)
+  added = of_degree new.weights new.done new.elements
+
+  pub is_next : IsNext p letters.weights relations limits old added
+  is_next = record {
+    reduced = subst (λ (n : ℕ). IsReducedBasis p letters.weights relations n added) done
+        (subst (λ (ws : List ℕ). IsReducedBasis p ws relations new.done added) (kept_weights ∙ same) (reduced new.done (omega (arith, done)) (omega arith)));
+    passes_none = subst (λ (ws : List ℕ). NonePasses (IsQuantity p ws relations old (old.done + 1)) limits) same passes_none;
+  }
+
+  lines_are : (shows : Bool) → shows ≡ true → degree_text letters.names p new.done added ≡ lines_of shows letters.names p (old.done + 1) added
+  lines_are shows is = ap (λ (n : ℕ). degree_text letters.names p n added) done ∙ ap (λ (b : Bool). lines_of b letters.names p (old.done + 1) added) (sym is)
+
+  pub shown_next : (shows : Bool) (h k : Option (List ℕ)) (r s : Option ℕ) (f g : ℕ) → shows ≡ true → GainsAll h k r s f g (degree_text letters.names p new.done added)
+      → OfNext p letters relations limits old shows (GainsAll h k r s f g)
+  shown_next shows h k r s f g is w = (added, is_next, subst (GainsAll h k r s f g) (lines_are shows is) w)
+
+  pub hidden_next : (shows : Bool) (h k : Option (List ℕ)) (r s : Option ℕ) (f g : ℕ) → shows ≡ false → GainsAll h k r s f g [] → OfNext p letters relations limits old shows (GainsAll h k r s f g)
+  hidden_next shows h k r s f g is w = (added, is_next, subst (λ (b : Bool). GainsAll h k r s f g (lines_of b letters.names p (old.done + 1) added)) (sym is) w)
+
+  pub undone_shown : (shows : Bool) (h k : Option (List ℕ)) (r : Option ℕ) (f g : ℕ) (Here Next : Type 0) (fault : PrintFault) → shows ≡ true → Next → IsUnwritten h k r f g (degree_text letters.names p new.done added) fault
+      → IsNextUndone p letters relations limits old shows h k r f g Here Next fault
+  undone_shown shows h k r f g Here Next (Limit kind d value) is next u = absurd u
+  undone_shown shows h k r f g Here Next WriteFault is next u = (u.0, (added, is_next, subst (GainsPart h k r) (lines_are shows is) u.1), next)
+  undone_shown shows h k r f g Here Next NoMemory is next u = inr ((added, is_next, subst (GainsSome h k) (lines_are shows is) u), next)
+
+  pub residues_of : IsSetting p letters.weights relations → IsKept new → All (HasResidues p) new.elements
+  residues_of st kept =
+      let below : IsBelow p letters.weights relations (new.done + 1) new = record { kept = kept; next = refl; same_weights = kept_weights ∙ same; reduced = reduced } in
+      All-from_members (HasResidues p) new.elements (λ g m. ((lists_lower p letters.weights relations st (new.done + 1) new below g).0 m).2.inside.element.residues)

@@ -1,0 +1,124 @@
+-- What a sink gained of a text whose first part it has.
+use Rattle.std.proofs.Common.{◌≡◌, ◌+◌, ◌≤◌, ℕ, List, [], ◌∷◌, ◌++◌, length, refl, sym, ap, ◌∙◌, arith, subst, append_assoc, length-append}
+use Rattle.std.proofs.lemmas.List.{append-nil}
+use Rattle.std.specs.declared.option.Option.{Option}
+use Rattle.std.specs.declared.option.Option.TheVariants.{None, Some}
+use Rattle.std.specs.Io.KnownBytes.{Appends}
+use Rattle.std.proofs.KnownBytes.{Appends-nil, Appends-trans}
+use Rattle.bg_io.specs.Ends.{HasRoom, IsCutShort, RoomFalls, Rose}
+use Rattle.bg_io.proofs.Transfers.{RoomFalls-more}
+use Rattle.job_steps.specs.declared.print.PrintFault.{PrintFault}
+use Rattle.job_steps.specs.declared.print.PrintFault.TheVariants.{Limit, WriteFault, NoMemory}
+use Rattle.job_steps.specs.Gains.{GainsAll, GainsPart, GainsSome, IsUnwritten}
+use Rattle.job_steps.specs.Progress.{IsBeginning}
+
+pub beginning_self : (x : List ℕ) → IsBeginning x x
+beginning_self x = record { rest = []; joined = sym (append-nil x) }
+
+pub beginning_trans : (x y z : List ℕ) → IsBeginning x y → IsBeginning y z → IsBeginning x z
+beginning_trans x y z a b = record { rest = a.rest ++ b.rest; joined = b.joined ∙ ap (λ (l : List ℕ). l ++ b.rest) a.joined ∙ append_assoc x a.rest b.rest }
+
+pub beginning_behind : (x y z : List ℕ) → IsBeginning y z → IsBeginning (x ++ y) (x ++ z)
+beginning_behind x y z a = record { rest = a.rest; joined = ap (λ (l : List ℕ). x ++ l) a.joined ∙ sym (append_assoc x y a.rest) }
+
+-- the first of two parts
+pub beginning_front : (x y : List ℕ) → IsBeginning x (x ++ y)
+beginning_front x y = record { rest = y; joined = refl }
+
+front_nil : (xs ys : List ℕ) → xs ++ ys ≡ [] → xs ≡ []
+front_nil [] ys e = refl
+front_nil (x ∷ xs) ys e = cc e
+
+-- what is cut short of a beginning is cut short of the whole
+pub cut_of_beginning : (g x y : List ℕ) → IsCutShort g x → IsBeginning x y → IsCutShort g y
+cut_of_beginning g x y cut a = record {
+  rest = cut.rest ++ a.rest;
+  more = λ e. cut.more (front_nil cut.rest a.rest e);
+  joined = a.joined ∙ ap (λ (l : List ℕ). l ++ a.rest) cut.joined ∙ append_assoc g cut.rest a.rest;
+}
+
+pub cut_behind : (x g y : List ℕ) → IsCutShort g y → IsCutShort (x ++ g) (x ++ y)
+cut_behind x g y cut = record { rest = cut.rest; more = cut.more; joined = ap (λ (l : List ℕ). x ++ l) cut.joined ∙ sym (append_assoc x g cut.rest) }
+
+room_within : (r : Option ℕ) (m n : ℕ) → m ≤ n → HasRoom r n → HasRoom r m
+room_within None m n le room = absurd room
+room_within (Some k) m n le room = omega (arith, le, room)
+
+room_left : (r s : Option ℕ) (m n : ℕ) → RoomFalls r s m → HasRoom r (m + n) → HasRoom s n
+room_left None s m n falls room = absurd room
+room_left (Some k) None m n falls room = absurd falls
+room_left (Some k) (Some l) m n falls room = omega (arith, falls, room)
+
+-- no room for a beginning is none for the whole
+pub no_room_for : (r : Option ℕ) (x y : List ℕ) → IsBeginning x y → (HasRoom r (length x) → ⊥) → HasRoom r (length y) → ⊥
+no_room_for r x y a none room = none (room_within r (length x) (length y) (omega (arith, ap length a.joined, length-append x a.rest)) room)
+
+pub rose_behind : (f g h : ℕ) → f ≤ g → Rose g h → Rose f h
+rose_behind f g h later rose = omega (arith, later, rose)
+
+-- the count stood before it rose
+pub rose_from : (f g h : ℕ) → g ≡ f → Rose g h → Rose f h
+rose_from f g h kept rose = omega (arith, kept, rose)
+
+room_kept : (r : Option ℕ) → RoomFalls r r 0
+room_kept None = tt
+room_kept (Some k) = omega arith
+
+pub all_none : (a : Option (List ℕ)) (r : Option ℕ) (f : ℕ) → GainsAll a a r r f f []
+all_none a r f = record { appended = Appends-nil a; falls = room_kept r; kept = refl }
+
+pub all_behind : (a b c : Option (List ℕ)) (r s t : Option ℕ) (f g h : ℕ) (x y : List ℕ) → GainsAll a b r s f g x → GainsAll b c s t g h y → GainsAll a c r t f h (x ++ y)
+all_behind a b c r s t f g h x y w v = record {
+  appended = Appends-trans a b c x y w.appended v.appended;
+  falls = subst (RoomFalls r t) (sym (length-append x y)) (RoomFalls-more r s t (length x) (length y) w.falls v.falls);
+  kept = v.kept ∙ w.kept;
+}
+
+pub part_behind : (a b c : Option (List ℕ)) (r s : Option ℕ) (x y : List ℕ) → Appends a b x → RoomFalls r s (length x) → GainsPart b c s y → GainsPart a c r (x ++ y)
+part_behind a b c r s x y appended falls part = record {
+  gained = x ++ part.gained;
+  appended = Appends-trans a b c x part.gained appended part.appended;
+  cut_short = cut_behind x part.gained y part.cut_short;
+  no_room = λ room. part.no_room (room_left r s (length x) (length y) falls (subst (HasRoom r) (length-append x y) room));
+}
+
+pub some_behind : (a b c : Option (List ℕ)) (x y : List ℕ) → Appends a b x → GainsSome b c y → GainsSome a c (x ++ y)
+some_behind a b c x y appended part = record {
+  gained = x ++ part.gained;
+  appended = Appends-trans a b c x part.gained appended part.appended;
+  beginning = beginning_behind x part.gained y part.beginning;
+}
+
+-- what was gained behind a text begins with it
+pub part_front : (a b c : Option (List ℕ)) (r s : Option ℕ) (x y : List ℕ) (appended : Appends a b x) (falls : RoomFalls r s (length x)) (part : GainsPart b c s y) → IsBeginning x (part_behind a b c r s x y appended falls part).gained
+unfolding part_behind
+part_front a b c r s x y appended falls part = beginning_front x part.gained
+
+pub some_front : (a b c : Option (List ℕ)) (x y : List ℕ) (appended : Appends a b x) (part : GainsSome b c y) → IsBeginning x (some_behind a b c x y appended part).gained
+unfolding some_behind
+some_front a b c x y appended part = beginning_front x part.gained
+
+pub some_none : (a : Option (List ℕ)) (x : List ℕ) → GainsSome a a x
+some_none a x = record { gained = []; appended = Appends-nil a; beginning = record { rest = x; joined = refl } }
+
+-- a text was gained whole, and then nothing
+pub appended_none : (a b c : Option (List ℕ)) (x : List ℕ) → Appends a b x → Appends b c [] → Appends a c x
+appended_none a b c x p q = subst (Appends a c) (append-nil x) (Appends-trans a b c x [] p q)
+
+pub unwritten_behind : (a b c : Option (List ℕ)) (r s : Option ℕ) (f g h : ℕ) (x y : List ℕ) (fault : PrintFault) → GainsAll a b r s f g x → IsUnwritten b c s g h y fault → IsUnwritten a c r f h (x ++ y) fault
+unwritten_behind a b c r s f g h x y (Limit kind d value) w u = absurd u
+unwritten_behind a b c r s f g h x y WriteFault w u = (rose_from f g h w.kept u.0, part_behind a b c r s x y w.appended w.falls u.1)
+unwritten_behind a b c r s f g h x y NoMemory w u = some_behind a b c x y w.appended u
+
+pub unwritten_before : (a c : Option (List ℕ)) (r : Option ℕ) (f h : ℕ) (x y : List ℕ) (fault : PrintFault) → IsBeginning x y → IsUnwritten a c r f h x fault → IsUnwritten a c r f h y fault
+unwritten_before a c r f h x y (Limit kind d value) b u = absurd u
+unwritten_before a c r f h x y WriteFault b u = (
+  u.0,
+  record {
+    gained = u.1.gained;
+    appended = u.1.appended;
+    cut_short = cut_of_beginning u.1.gained x y u.1.cut_short b;
+    no_room = no_room_for r x y b u.1.no_room;
+  },
+)
+unwritten_before a c r f h x y NoMemory b u = record { gained = u.gained; appended = u.appended; beginning = beginning_trans u.gained x y u.beginning b }

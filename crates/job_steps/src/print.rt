@@ -1,0 +1,351 @@
+ghost use Rattle.std.specs.Prelude.{◌≡◌, ◌≢◌, ◌+◌, ◌≤◌, ◌<◌, ℕ, List, [], All, Err, IfErr, IfOk, OnOk, length, true};
+ghost use Rattle.std.specs.List.{flat_map, slice_range};
+ghost use Rattle.free_poly.specs.declared.term.Term.{Term};
+ghost use Rattle.free_poly.specs.Poly.{IsMonic};
+ghost use Rattle.free_poly.specs.Terms.{HasResidues, UsesLetters};
+ghost use Rattle.ideal_laws.specs.declared.account.Account.{Account};
+ghost use Rattle.ideal_laws.specs.declared.presentation.Presentation.{Presentation};
+ghost use Rattle.ideal_laws.specs.Engine.{Elements, IsReducedUpto, of_degree};
+ghost use Rattle.ideal_laws.specs.Kept.{IsKept};
+ghost use Rattle.ideal_laws.specs.Limits.{standard_limits};
+ghost use Rattle.poly_writer.specs.Texts.{degree_text, element_line, series_text};
+ghost use Rattle.job_steps.specs.Gains.{GainsAll, HasPrinted, IsUndone, IsUnwritten};
+ghost use Rattle.job_steps.specs.Printing.{IsBasisUndone, IsNextUndone, IsSeriesUndone, IsWholeSeries, OfNext, task_of};
+ghost use Rattle.job_steps.specs.Progress.{IsBasisSoFar, whole};
+ghost use Rattle.job_steps.specs.Traces.{ArePrintable, OfNextTrace, OfTrace, Tells};
+
+use crate::telling::tell_degree;
+use bg_io::{Sink, write_all};
+use field_table::Field;
+use free_poly::Poly;
+use hilbert::{SeriesFault, count_law, series};
+use ideal_laws::{
+    Basis, DegreeEngine, EngineFault, LimitKind, Limits, Presentation, advance, lower_law,
+    setting_law,
+};
+use poly_writer::{element_line, head_line, series_text};
+use std::alloc::{AllocError, Global};
+use std::thread::Threads;
+use words::Alphabet;
+
+/// What is to be printed of an ideal: the basis of degrees 1 to a bound, and the coefficients of degrees 0 to there.
+#[derive(Debug, Clone, Copy, PartialEq, Eq)]
+pub struct Asked {
+    pub bound: u32,
+    pub basis: bool,
+    pub series: bool,
+    /// Whether the account of each degree is told.
+    pub trace: bool,
+}
+
+/// Why it was not all printed.
+#[derive(Debug, Clone, Copy, PartialEq, Eq)]
+pub enum PrintFault {
+    Limit {
+        kind: LimitKind,
+        degree: u32,
+        value: u64,
+    },
+    WriteFault,
+    NoMemory,
+}
+
+impl From<AllocError> for PrintFault {
+    ghost use Rattle.job_steps.specs.declared.print.PrintFault.TheVariants.{NoMemory};
+    ghost use Rattle.std.specs.Prelude.{◌≡◌};
+
+    ghost from_gives = { λ _ fault. fault ≡ NoMemory };
+
+    fn from(_refused: AllocError) -> PrintFault {
+        PrintFault::NoMemory
+    }
+}
+
+/// Computes the degrees up to the bound. The trace of each is told, where it is asked for, and its lines are written
+/// before the next one is asked for; and then the series is written. The first failed write to `out` ends it.
+pub fn print_job<R: Threads + Sync, E: DegreeEngine, K: Sink, T: Sink>(
+    rt: &R,
+    alloc: Global,
+    engine: &mut E,
+    field: &Field,
+    given: &Presentation,
+    asked: Asked,
+    out: &mut K,
+    err: &mut T,
+    failed: &mut bool,
+) -> Result<(), PrintFault>
+    requires small { asked.bound ≤ 64 }
+    requires residues { All (HasResidues field.now) given.now.relations }
+    requires printable { asked.trace ≡ true → ArePrintable (E.may_account engine.old) field.now given.now }
+
+    ensures done { OnOk result (HasPrinted (task_of field.now given.now (E.kinds engine.old) asked) whole (K.held out.old) (K.held out.new)) }
+    ensures told { OnOk result (OfTrace (E.may_account engine.old) (task_of field.now given.now (E.kinds engine.old) asked) asked.trace asked.bound (Tells (T.held err.old) (T.held err.new) (T.faults err.old) (T.faults err.new) failed.old failed.new)) }
+    ensures undone { IfErr result (IsUndone (task_of field.now given.now (E.kinds engine.old) asked) (K.held out.old) (K.held out.new) (K.room out.old) (K.faults out.old) (K.faults out.new)
+        (λ e. OfTrace (E.may_account engine.old) (task_of field.now given.now (E.kinds engine.old) asked) asked.trace e (Tells (T.held err.old) (T.held err.new) (T.faults err.old) (T.faults err.new) failed.old failed.new))) }
+    ensures steady { result ≢ Err PrintFault.WriteFault → K.faults out.new ≡ K.faults out.old }
+{
+    setting_law(field, given);
+    let basis = print_basis(rt, alloc, engine, field, given, asked, out, err, failed)?;
+    if !asked.series {
+        return Ok(());
+    }
+    match print_series(alloc, field, given, &basis, out) {
+        Ok(()) => Ok(()),
+        Err(fault) => Err(fault),
+    }
+}
+
+/// Computes and prints the basis.
+fn print_basis<R: Threads + Sync, E: DegreeEngine, K: Sink, T: Sink>(
+    rt: &R,
+    alloc: Global,
+    engine: &mut E,
+    field: &Field,
+    given: &Presentation,
+    asked: Asked,
+    out: &mut K,
+    err: &mut T,
+    failed: &mut bool,
+) -> Result<Basis, PrintFault>
+    requires small { asked.bound ≤ 64 }
+    requires residues { All (HasResidues field.now) given.now.relations }
+    requires printable { asked.trace ≡ true → ArePrintable (E.may_account engine.old) field.now given.now }
+
+    ensures done { IfOk result (λ basis. basis.done ≡ asked.bound) }
+    ensures weights { IfOk result (λ basis. basis.weights ≡ given.now.alphabet.weights) }
+    ensures reduced { IfOk result (IsReducedUpto field.now given.now.relations) }
+    ensures printed { OnOk result ((text : List ℕ) × IsBasisSoFar (task_of field.now given.now (E.kinds engine.old) asked) asked.bound text
+        × GainsAll (K.held out.old) (K.held out.new) (K.room out.old) (K.room out.new) (K.faults out.old) (K.faults out.new) text) }
+    ensures told { OnOk result (OfTrace (E.may_account engine.old) (task_of field.now given.now (E.kinds engine.old) asked) asked.trace asked.bound (Tells (T.held err.old) (T.held err.new) (T.faults err.old) (T.faults err.new) failed.old failed.new)) }
+    ensures undone { IfErr result (IsBasisUndone (task_of field.now given.now (E.kinds engine.old) asked) (K.held out.old) (K.held out.new) (K.room out.old) (K.faults out.old) (K.faults out.new)
+        (λ e. OfTrace (E.may_account engine.old) (task_of field.now given.now (E.kinds engine.old) asked) asked.trace e (Tells (T.held err.old) (T.held err.new) (T.faults err.old) (T.faults err.new) failed.old failed.new))) }
+    ensures steady { result ≢ Err PrintFault.WriteFault → K.faults out.new ≡ K.faults out.old }
+{
+    let mut basis = Basis::new(alloc, &given.alphabet);
+    for _degree in 0..asked.bound {
+        print_next(
+            rt, alloc, engine, field, given, asked, &mut basis, out, err, failed,
+        )?;
+    }
+    Ok(basis)
+}
+
+/// Computes the next degree, tells its trace and writes its lines, as far as they are asked for.
+fn print_next<R: Threads + Sync, E: DegreeEngine, K: Sink, T: Sink>(
+    rt: &R,
+    alloc: Global,
+    engine: &mut E,
+    field: &Field,
+    given: &Presentation,
+    asked: Asked,
+    basis: &mut Basis,
+    out: &mut K,
+    err: &mut T,
+    failed: &mut bool,
+) -> Result<(), PrintFault>
+    requires small { basis.old.done < 64 }
+    requires weights { basis.old.weights ≡ given.now.alphabet.weights }
+    requires reduced { IsReducedUpto field.now given.now.relations basis.old }
+    requires residues { All (HasResidues field.now) given.now.relations }
+    requires printable { asked.trace ≡ true → ArePrintable (E.may_account engine.old) field.now given.now }
+
+    ensures weights { basis.new.weights ≡ basis.old.weights }
+    ensures kept { IsKept basis.old × IsKept basis.new }
+    ensures done { OnOk result (basis.new.done ≡ basis.old.done + 1) }
+    ensures reduced { OnOk result (IsReducedUpto field.now given.now.relations basis.new) }
+    ensures printed { OnOk result (OfNext field.now given.now.alphabet given.now.relations (E.kinds engine.old) basis.old asked.basis
+        (GainsAll (K.held out.old) (K.held out.new) (K.room out.old) (K.room out.new) (K.faults out.old) (K.faults out.new))) }
+    ensures told { OnOk result (OfNextTrace (E.may_account engine.old) field.now given.now basis.old asked.trace (Tells (T.held err.old) (T.held err.new) (T.faults err.old) (T.faults err.new) failed.old failed.new)) }
+    ensures undone { IfErr result (IsNextUndone field.now given.now.alphabet given.now.relations (E.kinds engine.old) basis.old asked.basis (K.held out.old) (K.held out.new) (K.room out.old) (K.faults out.old) (K.faults out.new)
+        (Tells (T.held err.old) (T.held err.new) (T.faults err.old) (T.faults err.new) failed.old failed.new []) (OfNextTrace (E.may_account engine.old) field.now given.now basis.old asked.trace (Tells (T.held err.old) (T.held err.new) (T.faults err.old) (T.faults err.new) failed.old failed.new))) }
+    ensures steady { result ≢ Err PrintFault.WriteFault → K.faults out.new ≡ K.faults out.old }
+
+    ensures kinds { E.kinds engine.new ≡ E.kinds engine.old }
+    ensures accounts { (p : ℕ) (rs : Presentation) (b : Elements) (e : ℕ) (a : Account) → E.may_account engine.new p rs b e a → E.may_account engine.old p rs b e a }
+{
+    setting_law(field, given);
+    match advance(rt, alloc, engine, field, given, basis) {
+        Err(
+            EngineFault::Limit {
+                kind,
+                degree,
+                value,
+            },
+        ) => Err(PrintFault::Limit {
+            kind,
+            degree,
+            value,
+        }),
+        Err(EngineFault::NoMemory) => Err(PrintFault::NoMemory),
+        Ok(account) => {
+            let d = basis.done();
+            tell_degree(
+                alloc,
+                asked.trace,
+                &given.alphabet,
+                d,
+                &account,
+                err,
+                failed,
+            )?;
+            if !asked.basis {
+                return Ok(());
+            }
+            match write_degree(alloc, &given.alphabet, field, basis, out) {
+                Ok(()) => Ok(()),
+                Err(fault) => Err(fault),
+            }
+        }
+    }
+}
+
+/// Writes the lines of the last degree that is done, each by itself.
+fn write_degree<K: Sink>(
+    alloc: Global,
+    alphabet: &Alphabet,
+    field: &Field,
+    basis: &Basis,
+    out: &mut K,
+) -> Result<(), PrintFault>
+    requires weights { basis.now.weights ≡ alphabet.now.weights }
+    requires residues { All (HasResidues field.now) basis.now.elements }
+
+    ensures written { OnOk result (GainsAll (K.held out.old) (K.held out.new) (K.room out.old) (K.room out.new) (K.faults out.old) (K.faults out.new)
+        (degree_text alphabet.now.names field.now basis.now.done (of_degree basis.now.weights basis.now.done basis.now.elements))) }
+    ensures unwritten { IfErr result (IsUnwritten (K.held out.old) (K.held out.new) (K.room out.old) (K.faults out.old) (K.faults out.new)
+        (degree_text alphabet.now.names field.now basis.now.done (of_degree basis.now.weights basis.now.done basis.now.elements))) }
+    ensures steady { result ≢ Err PrintFault.WriteFault → K.faults out.new ≡ K.faults out.old }
+{
+    let d = basis.done();
+    let (first, end) = basis.of_degree(d);
+    if first == end {
+        return Ok(());
+    }
+    let line = head_line(alloc, d)?;
+    write_text(out, line.as_slice())?;
+    match write_elements(alloc, alphabet, field, basis, first, end, out) {
+        Ok(()) => Ok(()),
+        Err(fault) => Err(fault),
+    }
+}
+
+/// Writes the lines of the elements from one place to before another.
+fn write_elements<K: Sink>(
+    alloc: Global,
+    alphabet: &Alphabet,
+    field: &Field,
+    basis: &Basis,
+    first: u32,
+    end: u32,
+    out: &mut K,
+) -> Result<(), PrintFault>
+    requires rising { first ≤ end }
+    requires within { end ≤ length basis.now.elements }
+    requires weights { basis.now.weights ≡ alphabet.now.weights }
+    requires residues { All (HasResidues field.now) basis.now.elements }
+
+    ensures written { OnOk result (GainsAll (K.held out.old) (K.held out.new) (K.room out.old) (K.room out.new) (K.faults out.old) (K.faults out.new)
+        (flat_map (element_line alphabet.now.names field.now) (slice_range basis.now.elements first end))) }
+    ensures unwritten { IfErr result (IsUnwritten (K.held out.old) (K.held out.new) (K.room out.old) (K.faults out.old) (K.faults out.new)
+        (flat_map (element_line alphabet.now.names field.now) (slice_range basis.now.elements first end))) }
+    ensures steady { result ≢ Err PrintFault.WriteFault → K.faults out.new ≡ K.faults out.old }
+{
+    let _done = basis.done();
+    for place in first..end {
+        write_element(alloc, alphabet, field, basis.element(place), out)?;
+    }
+    Ok(())
+}
+
+/// Writes the line of an element.
+fn write_element<K: Sink>(
+    alloc: Global,
+    alphabet: &Alphabet,
+    field: &Field,
+    element: &Poly,
+    out: &mut K,
+) -> Result<(), PrintFault>
+    requires letters { UsesLetters (length alphabet.now.weights) element.now }
+    requires residues { HasResidues field.now element.now }
+    requires monic { IsMonic element.now }
+
+    ensures written { OnOk result (GainsAll (K.held out.old) (K.held out.new) (K.room out.old) (K.room out.new) (K.faults out.old) (K.faults out.new)
+        (element_line alphabet.now.names field.now element.now)) }
+    ensures unwritten { IfErr result (IsUnwritten (K.held out.old) (K.held out.new) (K.room out.old) (K.faults out.old) (K.faults out.new)
+        (element_line alphabet.now.names field.now element.now)) }
+    ensures steady { result ≢ Err PrintFault.WriteFault → K.faults out.new ≡ K.faults out.old }
+{
+    let line = element_line(alloc, alphabet, field, element)?;
+    match write_text(out, line.as_slice()) {
+        Ok(()) => Ok(()),
+        Err(fault) => Err(fault),
+    }
+}
+
+/// Writes the series of a reduced basis.
+fn print_series<K: Sink>(
+    alloc: Global,
+    field: &Field,
+    given: &Presentation,
+    basis: &Basis,
+    out: &mut K,
+) -> Result<(), PrintFault>
+    requires weights { basis.now.weights ≡ given.now.alphabet.weights }
+    requires reduced { IsReducedUpto field.now given.now.relations basis.now }
+    requires residues { All (HasResidues field.now) given.now.relations }
+
+    ensures printed { OnOk result ((text : List ℕ) × IsWholeSeries field.now given.now.alphabet given.now.relations standard_limits.normal_words basis.now.done text
+        × GainsAll (K.held out.old) (K.held out.new) (K.room out.old) (K.room out.new) (K.faults out.old) (K.faults out.new) text) }
+    ensures undone { IfErr result (IsSeriesUndone field.now given.now.alphabet given.now.relations standard_limits.normal_words basis.now.done (K.held out.old) (K.held out.new) (K.room out.old) (K.faults out.old) (K.faults out.new)) }
+    ensures steady { result ≢ Err PrintFault.WriteFault → K.faults out.new ≡ K.faults out.old }
+{
+    setting_law(field, given);
+    lower_law();
+    count_law();
+    let limits = Limits::standard();
+    match series(alloc, &given.alphabet, basis, basis.done(), &limits) {
+        Ok(numbers) => match write_series(alloc, numbers.as_slice(), out) {
+            Ok(()) => Ok(()),
+            Err(fault) => Err(fault),
+        },
+        Err(
+            SeriesFault::Limit {
+                degree,
+                value,
+                below,
+            },
+        ) => match write_series(alloc, below.as_slice(), out) {
+            Ok(()) => Err(PrintFault::Limit {
+                kind: LimitKind::NormalWords,
+                degree,
+                value,
+            }),
+            Err(fault) => Err(fault),
+        },
+        Err(SeriesFault::NoMemory) => Err(PrintFault::NoMemory),
+    }
+}
+
+/// Writes the text of these numbers of degrees 0, 1 and so on.
+fn write_series<K: Sink>(alloc: Global, numbers: &[u64], out: &mut K) -> Result<(), PrintFault>
+    ensures written { OnOk result (GainsAll (K.held out.old) (K.held out.new) (K.room out.old) (K.room out.new) (K.faults out.old) (K.faults out.new) (series_text numbers.now)) }
+    ensures unwritten { IfErr result (IsUnwritten (K.held out.old) (K.held out.new) (K.room out.old) (K.faults out.old) (K.faults out.new) (series_text numbers.now)) }
+    ensures steady { result ≢ Err PrintFault.WriteFault → K.faults out.new ≡ K.faults out.old }
+{
+    let text = series_text(alloc, numbers)?;
+    match write_text(out, text.as_slice()) {
+        Ok(()) => Ok(()),
+        Err(fault) => Err(fault),
+    }
+}
+
+fn write_text<K: Sink>(out: &mut K, text: &[u8]) -> Result<(), PrintFault>
+    ensures written { OnOk result (GainsAll (K.held out.old) (K.held out.new) (K.room out.old) (K.room out.new) (K.faults out.old) (K.faults out.new) text.now) }
+    ensures unwritten { IfErr result (IsUnwritten (K.held out.old) (K.held out.new) (K.room out.old) (K.faults out.old) (K.faults out.new) text.now) }
+    ensures steady { result ≢ Err PrintFault.WriteFault → K.faults out.new ≡ K.faults out.old }
+{
+    match write_all(out, text) {
+        Ok(()) => Ok(()),
+        Err(_) => Err(PrintFault::WriteFault),
+    }
+}
