@@ -19,3 +19,22 @@ pub struct OpenGate;
 impl Gate for OpenGate {
     fn pass(&self, _seat: u32, _spot: Spot) {}
 }
+
+/// A gate that owns another one, of any type that threads may share; its caller makes the box. A method of a trait
+/// hands this one type to its threads, and no type parameter with methods.
+#[derive(Drop)]
+pub struct AnyGate {
+    gate: Box<dyn Gate + Sync + Drop>,
+}
+
+impl AnyGate {
+    pub fn new(gate: Box<dyn Gate + Sync + Drop>) -> AnyGate {
+        AnyGate { gate }
+    }
+}
+
+impl Gate for AnyGate {
+    fn pass(&self, seat: u32, spot: Spot) {
+        self.gate.pass(seat, spot);
+    }
+}
