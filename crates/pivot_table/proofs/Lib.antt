@@ -1,0 +1,11 @@
+pub mod CellSteps
+pub mod Crews
+pub mod HandSteps
+pub mod HandsKept
+pub mod ShareSteps
+pub mod Turns
+pub mod WorkerSteps
+pub mod Sharing
+pub mod Begin
+pub mod FoundCells
+pub mod Close
