@@ -35,7 +35,7 @@ use Rattle.ideal_laws.proofs.OneBasis.{has_one_basis, minimal_led, monic-led, so
 use Rattle.ideal_laws.proofs.Vectors.{IsProductVector, span_from_ideal}
 use Rattle.ideal_laws.proofs.Vectors as vectors
 use Rattle.plain_engine.specs.Elements.{AreElements, IsElementAt}
-use Rattle.plain_engine.specs.Lists.{AreLists, list_at}
+use Rattle.degree_words.specs.Lists.{AreLists, list_at}
 use Rattle.plain_engine.specs.Products.{coefficients, relation_rows, right_rows, round_rows}
 use Rattle.plain_engine.specs.Table.{IsBuilt, IsLed, IsTable, row_at}
 use Rattle.plain_engine.proofs.Chosen.{element_first}

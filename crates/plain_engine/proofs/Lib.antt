@@ -3,7 +3,6 @@ pub mod Spans
 pub mod Pivots
 pub mod Chosen
 pub mod Degree
-pub mod Listing
 pub mod Building
 pub mod Tables
 pub mod Terms

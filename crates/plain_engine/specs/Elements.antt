@@ -1,5 +1,5 @@
 -- Rows as polynomials, and the elements among them.
-use Rattle.std.specs.Prelude.{ℕ, ◌≡◌, ◌+◌, ◌<◌, ◌≤◌, List, [], ◌∷◌, ◌++◌, All, AllPairs, Contains, length, slice_index, slice_index_or}
+use Rattle.std.specs.Prelude.{ℕ, ◌≡◌, ◌+◌, ◌<◌, ◌≤◌, List, [], All, AllPairs, Contains, length, slice_index, slice_index_or}
 use Rattle.free_poly.specs.declared.term.Term.{Term}
 use Rattle.free_poly.specs.Poly.{element_on}
 use Rattle.ideal_laws.specs.Basis.{HasGreaterLead}

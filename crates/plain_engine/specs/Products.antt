@@ -4,7 +4,7 @@ use Rattle.std.specs.List.{flat_map, range_with_len}
 use Rattle.free_poly.specs.declared.term.Term.{Term}
 use Rattle.free_poly.specs.Terms.{product, total_at}
 use Rattle.ideal_laws.specs.Kept.{lead_degree}
-use Rattle.plain_engine.specs.Lists.{list_at}
+use Rattle.degree_words.specs.Lists.{list_at}
 
 -- the coefficients at the columns
 abbrev pub coefficients : List (List ℕ) → List Term → List ℕ

@@ -1,10 +1,9 @@
 ghost use Rattle.std.specs.Prelude.{◌≡◌, ◌≤◌};
 ghost use Rattle.ideal_laws.specs.Limits.{AreLimits, standard_limits};
 
-use crate::counts::counts_of;
 use crate::elements::elements_of;
-use crate::lists::lists_of;
 use crate::products::table_of;
+use degree_words::{counts_of, lists_of};
 use field_table::Field;
 use ideal_laws::{
     Account, Basis, DegreeEngine, DegreeReport, EngineFault, LimitKind, Limits, Presentation,

@@ -3,10 +3,8 @@
 //! is easy to believe, so faster engines are compared with it.
 #![tactic(auto)]
 
-mod counts;
 mod elements;
 mod engine;
-mod lists;
 mod products;
 mod table;
 #[cfg(test)]

@@ -3,11 +3,12 @@ ghost use Rattle.std.specs.List.{flat_map, range_with_len};
 ghost use Rattle.words.specs.Words.{IsOver, degree_of};
 ghost use Rattle.free_poly.specs.Terms.{HasNoPrefix, HasOneDegree, HasResidues, UsesLetters, product};
 ghost use Rattle.ideal_laws.specs.Kept.{lead_degree};
-ghost use Rattle.plain_engine.specs.Lists.{list_at};
+ghost use Rattle.degree_words.specs.Lists.{list_at};
 ghost use Rattle.plain_engine.specs.Products.{coefficients, relation_rows, right_rows, round_rows};
 ghost use Rattle.plain_engine.specs.Table.{IsBuilt, IsInserted, IsTable};
 
 use crate::table::insert;
+use degree_words::degree_within;
 use field_table::Field;
 use free_poly::{Poly, element_laws};
 use ideal_laws::Presentation;
@@ -98,19 +99,6 @@ fn lead_degree_within(alphabet: &Alphabet, relation: &Poly, most: u32) -> u32
         Some(lead) => degree_within(alphabet, lead.letters(), most),
         None => unreachable!(),
     }
-}
-
-/// The degree of a word, where it is at most this number, and else this number.
-fn degree_within(alphabet: &Alphabet, word: &[u8], most: u32) -> u32
-    requires small { most ≤ 65 }
-    requires letters { IsOver (length alphabet.now.weights) word.now }
-    ensures { result ≡ min (degree_of alphabet.now.weights word.now) most }
-{
-    let mut degree = 0;
-    for letter in word {
-        degree = most.min(degree + u32::from(alphabet.weight(*letter)));
-    }
-    degree
 }
 
 /// Inserts the products of a relation with each of these words before it and each of those behind it.

@@ -2,11 +2,11 @@ use Rattle.std.proofs.Common.{◌≡◌, ◌+◌, ◌-◌, ◌++◌, List, [], �
 use Rattle.std.proofs.lemmas.List.{get_or_read}
 use Rattle.std.specs.List.{flat_map, range_with_len}
 use Rattle.ideal_laws.specs.Kept.{lead_degree}
-use Rattle.plain_engine.specs.Lists.{list_at}
+use Rattle.degree_words.specs.Lists.{list_at}
 use Rattle.plain_engine.specs.Products.{round_rows}
 use Rattle.plain_engine.specs.Table.{IsBuilt, IsTable, begun}
 use Rattle.plain_engine.proofs.Building.{IsBuilt-append}
-use Rattle.plain_engine.proofs.Listing.{flat_map-range}
+use Rattle.degree_words.proofs.Listing.{flat_map-range}
 use Rattle.plain_engine.proofs.products.insert_relation.Goals as goal
 
 pub loop-before-init : goal.loop-before-init

@@ -1,7 +1,7 @@
 use Rattle.std.proofs.Common.{◌-◌, length}
 use Rattle.std.specs.List.{flat_map, range_with_len}
 use Rattle.ideal_laws.specs.Kept.{lead_degree}
-use Rattle.plain_engine.specs.Lists.{list_at}
+use Rattle.degree_words.specs.Lists.{list_at}
 use Rattle.plain_engine.specs.Products.{round_rows}
 use Rattle.plain_engine.specs.Table.{IsBuilt, IsTable}
 use Rattle.plain_engine.proofs.products.insert_relation.Given as goal

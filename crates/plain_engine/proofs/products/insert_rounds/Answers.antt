@@ -3,7 +3,7 @@ use Rattle.std.specs.List.{flat_map}
 use Rattle.plain_engine.specs.Products.{right_rows}
 use Rattle.plain_engine.specs.Table.{IsBuilt, begun}
 use Rattle.plain_engine.proofs.Building.{IsBuilt-append}
-use Rattle.plain_engine.proofs.Listing.{flat_map-take}
+use Rattle.degree_words.proofs.Listing.{flat_map-take}
 use Rattle.plain_engine.proofs.products.insert_rounds.Goals as goal
 
 pub loop-left-init : goal.loop-left-init

@@ -3,11 +3,11 @@ use Rattle.std.proofs.lemmas.List.{get_or_read, take_at}
 use Rattle.std.specs.List.{flat_map}
 use Rattle.free_poly.specs.declared.term.Term.{Term}
 use Rattle.free_poly.specs.Terms.{HasOneDegree}
-use Rattle.plain_engine.specs.Lists.{list_at}
+use Rattle.degree_words.specs.Lists.{list_at}
 use Rattle.plain_engine.specs.Products.{relation_rows}
 use Rattle.plain_engine.specs.Table.{IsBuilt, IsTable, begun}
 use Rattle.plain_engine.proofs.Building.{IsBuilt-append}
-use Rattle.plain_engine.proofs.Listing.{flat_map-take}
+use Rattle.degree_words.proofs.Listing.{flat_map-take}
 use Rattle.plain_engine.proofs.Tables.{empty_table}
 use Rattle.plain_engine.proofs.products.table_of.Goals as goal
 

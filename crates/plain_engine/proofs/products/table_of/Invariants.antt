@@ -1,6 +1,6 @@
 use Rattle.std.proofs.Common.{length, replicate, take, []}
 use Rattle.std.specs.List.{flat_map}
-use Rattle.plain_engine.specs.Lists.{list_at}
+use Rattle.degree_words.specs.Lists.{list_at}
 use Rattle.plain_engine.specs.Products.{relation_rows}
 use Rattle.plain_engine.specs.Table.{IsBuilt, IsTable}
 use Rattle.plain_engine.proofs.products.table_of.Given as goal

@@ -6,7 +6,7 @@ use Rattle.words.proofs.Degrees.{words_of_degree-falling, words_of_degree-says}
 use Rattle.words.proofs.Members.{All-from_members}
 use Rattle.ideal_laws.specs.Basis.{IsReducedBasis}
 use Rattle.plain_engine.specs.Elements.{AreElements}
-use Rattle.plain_engine.specs.Lists.{AreLists, list_at}
+use Rattle.degree_words.specs.Lists.{AreLists, list_at}
 use Rattle.plain_engine.proofs.Degree.{basis_from_elements, columns_are}
 use Rattle.plain_engine.proofs.engine.PlainEngineDegreeEngine.degree.Goals as goal
 

@@ -1,6 +1,6 @@
 use Rattle.std.proofs.Common.{arith}
 use Rattle.words.proofs.Weights.{degree_of-more}
-use Rattle.plain_engine.proofs.products.degree_within.Goals as goal
+use Rattle.degree_words.proofs.within.degree_within.Goals as goal
 
 pub loop-letter-preserved : goal.loop-letter-preserved
 loop-letter-preserved c =

@@ -1,4 +1,4 @@
--- Steps of the numbers and lists of the words of all degrees, and of the rows of products.
+-- Steps of the numbers and lists of the words of all degrees.
 use Rattle.std.proofs.Common.{◌≡◌, ◌≢◌, ◌+◌, ◌-◌, ◌^◌, ◌<◌, ◌≤◌, ℕ, zero, suc, Bool, cond, leb, List, [], ◌∷◌, ◌++◌, map, length, take, get_or, set, min, refl, sym, ap, ◌∙◌, inl, inr, arith, subst, length-append, append-nil, add-one, add-zero, zero-add}
 use Rattle.std.specs.List.{Contains, flat_map, range_with_len}
 use Rattle.std.proofs.lemmas.Bool.{cases_Bool, cases_eq, le-leb, leb-true, lt-leb}
@@ -9,7 +9,7 @@ use Rattle.words.proofs.Degrees.{listed_word, range-bounds, words_of_degree-says
 use Rattle.words.proofs.Members.{Contains-first, Contains-more, Contains-none}
 use Rattle.words.proofs.Weights.{weight_of-bounds}
 use Rattle.std.proofs.lemmas.List.Elements.{All-cons}
-use Rattle.plain_engine.specs.Lists.{AreCounts, AreLists, list_at}
+use Rattle.degree_words.specs.Lists.{AreCounts, AreLists, list_at}
 
 range_suc : (a n : ℕ) → range_with_len a (suc n) ≡ range_with_len a n ++ (a + n) ∷ []
 range_suc a zero = ap (λ (k : ℕ). k ∷ []) (sym (add-zero a))

@@ -1,10 +1,10 @@
 use Rattle.std.proofs.Common.{◌≡◌, ◌+◌, ◌-◌, ◌^◌, ◌<◌, ◌≤◌, ℕ, List, length, get_or, min, sym, ap, ◌∙◌, arith}
 use Rattle.std.specs.List.{flat_map, range_with_len}
 use Rattle.words.specs.Words.{weight_of, with_letter, words_of_degree}
-use Rattle.plain_engine.specs.Lists.{AreCounts}
-use Rattle.plain_engine.proofs.Listing.{before_letter, count_more, count_same, unfolds_at}
-use Rattle.plain_engine.proofs.counts.count_of.Goals as goal
-use Rattle.plain_engine.proofs.counts.count_of.Goals.{then-weight-k, else-weight-k}
+use Rattle.degree_words.specs.Lists.{AreCounts}
+use Rattle.degree_words.proofs.Listing.{before_letter, count_more, count_same, unfolds_at}
+use Rattle.degree_words.proofs.counts.count_of.Goals as goal
+use Rattle.degree_words.proofs.counts.count_of.Goals.{then-weight-k, else-weight-k}
 
 -- the words of one more letter are counted by the number of a lower degree
 counted : (weights counts : List ℕ) (k x weight count next : ℕ) → AreCounts weights counts k → weight ≡ weight_of weights x → 0 < weight → weight ≤ k → count ≡ min (length (before_letter weights (words_of_degree weights) k x x)) (2 ^ 64 - 1)

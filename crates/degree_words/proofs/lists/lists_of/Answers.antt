@@ -2,10 +2,10 @@ use Rattle.std.proofs.Common.{◌≡◌, ◌+◌, ◌-◌, ◌^◌, ◌++◌, �
 use Rattle.std.specs.List.{flat_map, range_with_len}
 use Rattle.std.proofs.lemmas.List.{nil_from_length}
 use Rattle.words.specs.Words.{with_letter, words_of_degree}
-use Rattle.plain_engine.specs.Lists.{AreLists, list_at}
-use Rattle.plain_engine.proofs.Listing.{list_unfolds, lists_more}
-use Rattle.plain_engine.proofs.lists.lists_of.Goals as goal
-use Rattle.plain_engine.proofs.lists.lists_of.Goals.{then-counts-d-eq0, else-counts-d-eq0+then-k-eq0+in_ok-words, else-counts-d-eq0+else-k-eq0+in_ok-words-2}
+use Rattle.degree_words.specs.Lists.{AreLists, list_at}
+use Rattle.degree_words.proofs.Listing.{list_unfolds, lists_more}
+use Rattle.degree_words.proofs.lists.lists_of.Goals as goal
+use Rattle.degree_words.proofs.lists.lists_of.Goals.{then-counts-d-eq0, else-counts-d-eq0+then-k-eq0+in_ok-words, else-counts-d-eq0+else-k-eq0+in_ok-words-2}
 
 pub loop-k-preserved : goal.loop-k-preserved
 loop-k-preserved c =

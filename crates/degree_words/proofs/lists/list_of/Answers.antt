@@ -1,10 +1,10 @@
 use Rattle.std.proofs.Common.{◌≡◌, ◌-◌, ◌<◌, ◌++◌, ◌∷◌, [], ℕ, List, Global, Vec, map, ap, ◌∙◌, arith}
 use Rattle.std.proofs.lemmas.List.{get_or_read}
 use Rattle.words.specs.Words.{weight_of}
-use Rattle.plain_engine.specs.Lists.{list_at}
-use Rattle.plain_engine.proofs.Listing.{list_more, list_same}
-use Rattle.plain_engine.proofs.lists.list_of.Goals as goal
-use Rattle.plain_engine.proofs.lists.list_of.Goals.{then-weight-k+in_ok-push_words, else-weight-k}
+use Rattle.degree_words.specs.Lists.{list_at}
+use Rattle.degree_words.proofs.Listing.{list_more, list_same}
+use Rattle.degree_words.proofs.lists.list_of.Goals as goal
+use Rattle.degree_words.proofs.lists.list_of.Goals.{then-weight-k+in_ok-push_words, else-weight-k}
 
 pub loop-letter-preserved : goal.loop-letter-preserved
 loop-letter-preserved c =

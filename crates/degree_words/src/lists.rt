@@ -1,13 +1,13 @@
 ghost use Rattle.std.specs.Prelude.{◌≡◌, ◌+◌, ◌++◌, ◌<◌, ◌≤◌, ℕ, map, length, IfOk, OnOk, [], ◌∷◌};
 ghost use Rattle.std.specs.List.{flat_map, range_with_len};
 ghost use Rattle.words.specs.Words.{with_letter};
-ghost use Rattle.plain_engine.specs.Lists.{AreCounts, AreLists, list_at};
+ghost use Rattle.degree_words.specs.Lists.{AreCounts, AreLists, list_at};
 
 use std::alloc::Global;
 use words::{Alphabet, Items, NoMemory, Word};
 
 /// The words of each degree up to d that is of use: those of a degree with words that fill it up to d.
-pub(crate) fn lists_of(
+pub fn lists_of(
     alloc: Global,
     alphabet: &Alphabet,
     counts: &[u64; 65],

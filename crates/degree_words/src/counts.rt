@@ -1,12 +1,12 @@
 ghost use Rattle.std.specs.Prelude.{◌≡◌, ◌+◌, ◌-◌, ◌^◌, ◌<◌, ◌≤◌, ℕ, min, length, slice_index};
 ghost use Rattle.std.specs.List.{flat_map, range_with_len};
 ghost use Rattle.words.specs.Words.{with_letter, words_of_degree};
-ghost use Rattle.plain_engine.specs.Lists.{AreCounts};
+ghost use Rattle.degree_words.specs.Lists.{AreCounts};
 
 use words::Alphabet;
 
 /// How many words each degree up to d has, where 2^64 - 1 stands for more, too.
-pub(crate) fn counts_of(alphabet: &Alphabet, d: u32) -> [u64; 65]
+pub fn counts_of(alphabet: &Alphabet, d: u32) -> [u64; 65]
     requires { d ≤ 64 }
     ensures { AreCounts alphabet.now.weights result (d + 1) }
 {
