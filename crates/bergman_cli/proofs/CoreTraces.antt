@@ -10,7 +10,7 @@ use Rattle.degree_loop.proofs.DegreeClosure.{column_words}
 use Rattle.command_words.specs.declared.job.EngineKind.{EngineKind}
 use Rattle.command_words.specs.declared.job.EngineKind.TheVariants.{Core}
 use Rattle.command_words.specs.declared.job.Job.{Job}
-use Rattle.bergman_cli.specs.Run.{IsEngineOf, accounts_in, limits_of}
+use Rattle.bergman_cli.specs.Engines.{IsEngineOf, accounts_in, limits_of}
 use Rattle.job_steps.specs.Traces.{Accounts, ArePrintable}
 
 abbrev core_accounts : ℕ → ℕ → Accounts

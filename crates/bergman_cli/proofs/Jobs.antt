@@ -8,7 +8,7 @@ use Rattle.std.proofs.lemmas.List.Sums.{AllPass-from_list_all}
 use Rattle.field_table.specs.Residues.{IsFieldModulus, listed_moduli}
 use Rattle.words.proofs.Members.{Contains-first, Contains-more}
 use Rattle.command_words.specs.declared.job.Command.{Command}
-use Rattle.command_words.specs.declared.job.Command.TheVariants.{Gb}
+use Rattle.command_words.specs.declared.job.Command.TheVariants.{Gb, Make, Module, Chains, Normal}
 use Rattle.command_words.specs.declared.job.Key.{Key}
 use Rattle.command_words.specs.declared.job.Key.TheVariants as keys
 use Rattle.command_words.specs.declared.job.Job.{Job}
@@ -18,6 +18,7 @@ use Rattle.command_words.specs.JobOf.{HasOneAnswer, IsJob, IsUsageFault, IsValue
 use Rattle.command_words.specs.Keys.{required_of}
 use Rattle.command_words.specs.Refusals.{Stands}
 use Rattle.command_words.specs.Values.{IsValue, value_at}
+use Rattle.bergman_cli.specs.Jobs.{IsSound}
 
 one_count : (m n : ℕ) → Count m ≡ Count n → m ≡ n
 one_count m n e = cc
@@ -41,19 +42,58 @@ workers_range words job j = by_value (j.values keys.Workers)
         (omega (arith, same, value.above), omega (arith, same, value.below))
     by_value (inr d) = let same = one_count job.workers 1 d.1 in (omega (arith, same), omega (arith, same))
 
-module _ (words : List (List ℕ)) (job : Job) (j : IsJob words job) (gb : job.command ≡ Gb) where
-  required : All (Stands j.rest) (keys.Mod ∷ keys.Deg ∷ [])
-  required = subst (λ (command : Command). All (Stands j.rest) (required_of command)) gb j.complete
+module _ (words : List (List ℕ)) (job : Job) (j : IsJob words job) where
+  -- each command has a modulus and a bound
+  modulus_stands : (command : Command) → All (Stands j.rest) (required_of command) → Stands j.rest keys.Mod
+  modulus_stands Gb all = All-contains (Stands j.rest) (required_of Gb) keys.Mod all (Contains-first keys.Mod (keys.Deg ∷ []))
+  modulus_stands Make all = All-contains (Stands j.rest) (required_of Make) keys.Mod all (Contains-first keys.Mod (keys.Deg ∷ keys.Number ∷ keys.Vars ∷ []))
+  modulus_stands Module all = All-contains (Stands j.rest) (required_of Module) keys.Mod all (Contains-first keys.Mod (keys.Deg ∷ keys.Gens ∷ []))
+  modulus_stands Chains all = All-contains (Stands j.rest) (required_of Chains) keys.Mod all (Contains-first keys.Mod (keys.Deg ∷ []))
+  modulus_stands Normal all = All-contains (Stands j.rest) (required_of Normal) keys.Mod all (Contains-first keys.Mod (keys.Deg ∷ keys.Ask ∷ []))
+
+  second : (first key : Key) (others : List Key) → All (Stands j.rest) (first ∷ key ∷ others) → Stands j.rest key
+  second first key others all = All-contains (Stands j.rest) (first ∷ key ∷ others) key all (Contains-more first (key ∷ others) key (Contains-first key others))
+
+  third : (first next key : Key) (others : List Key) → All (Stands j.rest) (first ∷ next ∷ key ∷ others) → Stands j.rest key
+  third first next key others all =
+      All-contains (Stands j.rest) (first ∷ next ∷ key ∷ others) key all (Contains-more first (next ∷ key ∷ others) key (Contains-more next (key ∷ others) key (Contains-first key others)))
+
+  bound_stands : (command : Command) → All (Stands j.rest) (required_of command) → Stands j.rest keys.Deg
+  bound_stands Gb all = second keys.Mod keys.Deg [] all
+  bound_stands Make all = second keys.Mod keys.Deg (keys.Number ∷ keys.Vars ∷ []) all
+  bound_stands Module all = second keys.Mod keys.Deg (keys.Gens ∷ []) all
+  bound_stands Chains all = second keys.Mod keys.Deg [] all
+  bound_stands Normal all = second keys.Mod keys.Deg (keys.Ask ∷ []) all
 
   pub listed : Contains listed_moduli job.modulus
   listed =
-      let t = told words job keys.Mod j (All-contains (Stands j.rest) (keys.Mod ∷ keys.Deg ∷ []) keys.Mod required (Contains-first keys.Mod (keys.Deg ∷ []))) in
+      let t = told words job keys.Mod j (modulus_stands job.command j.complete) in
       subst (Contains listed_moduli) (sym (one_count job.modulus t.1.number t.1.value_is)) t.1.listed
 
-  pub bound_small : job.bound ≤ 64
-  bound_small =
-      let t = told words job keys.Deg j (All-contains (Stands j.rest) (keys.Mod ∷ keys.Deg ∷ []) keys.Deg required (Contains-more keys.Mod (keys.Deg ∷ []) keys.Deg (Contains-first keys.Deg []))) in
-      omega (arith, one_count job.bound t.1.number t.1.value_is, t.1.below)
+  bound_range : (1 ≤ job.bound) × (job.bound ≤ 64)
+  bound_range =
+      let t = told words job keys.Deg j (bound_stands job.command j.complete) in
+      (omega (arith, one_count job.bound t.1.number t.1.value_is, t.1.above), omega (arith, one_count job.bound t.1.number t.1.value_is, t.1.below))
+
+  letters_range : job.command ≡ Make → (2 ≤ job.letters) × (job.letters ≤ 33)
+  letters_range is =
+      let all = subst (λ (command : Command). All (Stands j.rest) (required_of command)) is j.complete in
+      let stands = All-contains (Stands j.rest) (required_of Make) keys.Vars all
+          (Contains-more keys.Mod (keys.Deg ∷ keys.Number ∷ keys.Vars ∷ []) keys.Vars (Contains-more keys.Deg (keys.Number ∷ keys.Vars ∷ []) keys.Vars (Contains-more keys.Number (keys.Vars ∷ []) keys.Vars (Contains-first keys.Vars [])))) in
+      let t = told words job keys.Vars j stands in
+      (omega (arith, one_count job.letters t.1.number t.1.value_is, t.1.above), omega (arith, one_count job.letters t.1.number t.1.value_is, t.1.below))
+
+  gens_range : job.command ≡ Module → (1 ≤ job.gens) × (job.gens ≤ 64)
+  gens_range is =
+      let all = subst (λ (command : Command). All (Stands j.rest) (required_of command)) is j.complete in
+      let t = told words job keys.Gens j (third keys.Mod keys.Deg keys.Gens [] all) in
+      (omega (arith, one_count job.gens t.1.number t.1.value_is, t.1.above), omega (arith, one_count job.gens t.1.number t.1.value_is, t.1.below))
+
+  ask_range : job.command ≡ Normal → (1 ≤ job.ask) × (job.ask ≤ 4096)
+  ask_range is =
+      let all = subst (λ (command : Command). All (Stands j.rest) (required_of command)) is j.complete in
+      let t = told words job keys.Ask j (third keys.Mod keys.Deg keys.Ask [] all) in
+      (omega (arith, one_count job.ask t.1.number t.1.value_is, t.1.above), omega (arith, one_count job.ask t.1.number t.1.value_is, t.1.below))
 
 le_says : (m n : ℕ) → nat_le m n ≡ true → m ≤ n
 le_says m n e = grind (arith, nat_tests)
@@ -62,12 +102,17 @@ le_says m n e = grind (arith, nat_tests)
 listed_small : (p : ℕ) → Contains listed_moduli p → p ≤ 1000003
 listed_small p m = All-contains (λ n. n ≤ 1000003) listed_moduli p (λ k d within. le_says (get_or listed_moduli k d) 1000003 (AllPass-from_list_all (λ n. nat_le n 1000003) listed_moduli refl k d within)) m
 
-module _ (words : List (List ℕ)) (job : Job) (j : IsJob words job) (gb : job.command ≡ Gb) where
-  pub modulus_field : All IsFieldModulus listed_moduli → IsFieldModulus job.modulus
-  modulus_field all = All-contains IsFieldModulus listed_moduli job.modulus all (listed words job j gb)
-
-  pub modulus_small : job.modulus < 2 ^ 31
-  modulus_small = omega (arith, listed_small job.modulus (listed words job j gb))
+-- the numbers of a job are in their ranges
+pub sound_job : (words : List (List ℕ)) (job : Job) → IsJob words job → All IsFieldModulus listed_moduli → IsSound job
+sound_job words job j all = record {
+  modulus = All-contains IsFieldModulus listed_moduli job.modulus all (listed words job j);
+  small = omega (arith, listed_small job.modulus (listed words job j));
+  some_degree = (bound_range words job j).0;
+  few_degrees = (bound_range words job j).1;
+  letters = letters_range words job j;
+  gens = gens_range words job j;
+  ask = ask_range words job j;
+}
 
 pub listed_some : (p : ℕ) → Contains listed_moduli p → 0 < p
 listed_some p m =

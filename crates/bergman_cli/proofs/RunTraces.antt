@@ -1,5 +1,5 @@
 -- The trace of a run is that of the task of its job, or none.
-use Rattle.std.proofs.Common.{◌≡◌, ◌+◌, ℕ, Bool, true, false, List, [], ◌∷◌, refl, ap, inr, subst}
+use Rattle.std.proofs.Common.{◌≡◌, ◌≢◌, ◌+◌, ℕ, Bool, true, false, List, [], ◌∷◌, refl, ap, inr, subst}
 use Rattle.std.specs.declared.option.Option.{Option}
 use Rattle.words.specs.Names.{Letters}
 use Rattle.free_poly.specs.declared.term.Term.{Term}
@@ -9,16 +9,22 @@ use Rattle.ideal_laws.specs.declared.presentation.Presentation.{Presentation}
 use Rattle.ideal_laws.specs.Engine.{Elements}
 use Rattle.ideal_laws.specs.Laws.{IsSetting}
 use Rattle.ideal_laws.specs.Limits.{standard_limits}
+use Rattle.command_words.specs.declared.job.Command.{Command}
+use Rattle.command_words.specs.declared.job.Command.TheVariants as commands
 use Rattle.command_words.specs.declared.job.Job.{Job}
 use Rattle.job_steps.specs.declared.print.Asked.{Asked}
 use Rattle.job_steps.specs.declared.print.PrintFault.{PrintFault}
 use Rattle.job_steps.specs.declared.print.PrintFault.TheVariants as stops
 use Rattle.job_steps.specs.declared.status.Status.{Status}
-use Rattle.job_steps.specs.declared.status.Status.TheVariants.{Done, Usage, Input, Limit, Unbuilt, ReadFault, WriteFault, NoMemory}
+use Rattle.job_steps.specs.declared.status.Status.TheVariants.{Done, Usage, Input, Limit, Chains, Products, Unbuilt, ReadFault, WriteFault, NoMemory}
 use Rattle.job_steps.specs.Gains.{IsUndone}
 use Rattle.job_steps.specs.Printing.{task_of}
 use Rattle.job_steps.specs.Progress.{Task}
-use Rattle.bergman_cli.specs.Run.{IsBuiltJob, IsEngineOf, IsRunTrace, ReadsInput, accounts_of, limits_of, shows_basis, shows_series, task_of_job, traces_of}
+use Rattle.bergman_cli.specs.Engines.{IsEngineOf, accounts_of, limits_of, traces_of}
+use Rattle.bergman_cli.specs.Gb.{gb_task, shows_basis, shows_series}
+use Rattle.bergman_cli.specs.Jobs.{IsBuiltJob}
+use Rattle.bergman_cli.specs.Outcomes.{IsWorkTrace, IsWorkTraceOf}
+use Rattle.bergman_cli.specs.Run.{IsGivenReading, IsRunTrace, OfWork}
 use Rattle.job_steps.specs.Traces.{Accounts, AreAccounts, IsAccountOf, IsTaskTrace, IsTrace, IsTracePart, OfTrace}
 
 -- what a task that ended so has for its trace
@@ -57,7 +63,7 @@ module _ (May Own : Accounts) (t : Task) where
 
 -- the task that is printed is that of the job
 task_is : (p : ℕ) (given : Presentation) (limits : List (LimitKind × ℕ)) (asked : Asked) (job : Job) → p ≡ job.modulus → limits ≡ limits_of job.engine
-    → asked ≡ record { bound = job.bound; basis = shows_basis job.show; series = shows_series job.show; trace = traces_of job } → task_of p given limits asked ≡ task_of_job job given.alphabet given.relations
+    → asked ≡ record { bound = job.bound; basis = shows_basis job.show; series = shows_series job.show; trace = traces_of job } → task_of p given limits asked ≡ gb_task job given.alphabet given.relations
 task_is p given limits asked job field same is = λ i. record {
   modulus = field i;
   letters = given.alphabet;
@@ -73,7 +79,7 @@ task_is p given limits asked job field same is = λ i. record {
 module _ (p : ℕ) (given : Presentation) (limits : List (LimitKind × ℕ)) (asked : Asked) (job : Job) (field : p ≡ job.modulus) (May : Accounts) (engine : IsEngineOf job limits May)
     (is : asked ≡ record { bound = job.bound; basis = shows_basis job.show; series = shows_series job.show; trace = traces_of job }) where
   abbrev task : Task
-  task = task_of_job job given.alphabet given.relations
+  task = gb_task job given.alphabet given.relations
 
   moved : (P : Task → Bool → Type 0) → P (task_of p given limits asked) asked.trace → P task (traces_of job)
   moved P h = subst (λ (t : Task). P t (traces_of job)) (task_is p given limits asked job field engine.same_limits is) (subst (λ (b : Bool). P (task_of p given limits asked) b) (ap (λ (a : Asked). a.trace) is) h)
@@ -101,18 +107,63 @@ module _ (p : ℕ) (given : Presentation) (limits : List (LimitKind × ℕ)) (as
     pub told_memory : (fault : PrintFault) → fault ≡ stops.NoMemory → Undone (task_of p given limits asked) asked.trace fault → Traced NoMemory
     told_memory fault same h = memory_traced May (accounts_of job) task (traces_of job) engine.accounts held more room before now Told (undone_by fault stops.NoMemory same h)
 
+-- a status that can have a trace
+abbrev IsTraced : Status → Type 0
+IsTraced Done = Unit {0}
+IsTraced (Limit kind d value) = Unit {0}
+IsTraced WriteFault = Unit {0}
+IsTraced NoMemory = Unit {0}
+IsTraced status = ⊥
+
+module _ (job : Job) (letters : Letters) (relations : List (List Term)) (held more : Option (List ℕ)) (room : Option ℕ) (trace : List ℕ) where
+  gb_untraced : (status : Status) → (IsTraced status → ⊥) → IsWorkTraceOf commands.Gb job letters relations held more room status trace → trace ≡ []
+  gb_untraced Done none h = absurd (none tt)
+  gb_untraced (Usage fault) none h = absurd h
+  gb_untraced (Input problem) none h = absurd h
+  gb_untraced (Limit kind d value) none h = absurd (none tt)
+  gb_untraced (Chains d value) none h = absurd h
+  gb_untraced (Products d value) none h = absurd h
+  gb_untraced (Unbuilt part) none h = absurd h
+  gb_untraced ReadFault none h = absurd h
+  gb_untraced WriteFault none h = absurd (none tt)
+  gb_untraced NoMemory none h = absurd (none tt)
+
+  -- another status has none
+  untraced : (command : Command) (status : Status) → (IsTraced status → ⊥) → IsWorkTraceOf command job letters relations held more room status trace → trace ≡ []
+  untraced commands.Gb status none h = gb_untraced status none h
+  untraced commands.Make status none h = h
+  untraced commands.Module status none h = h
+  untraced commands.Chains status none h = h
+  untraced commands.Normal status none h = h
+
+  -- a command other than gb has none
+  pub no_trace : (command : Command) (status : Status) → command ≢ commands.Gb → trace ≡ [] → IsWorkTraceOf command job letters relations held more room status trace
+  no_trace commands.Gb status other h = absurd (other refl)
+  no_trace commands.Make status other h = h
+  no_trace commands.Module status other h = h
+  no_trace commands.Chains status other h = h
+  no_trace commands.Normal status other h = h
+
 module _ (words : List (List ℕ)) (left now held more : Option (List ℕ)) (room : Option ℕ) where
   abbrev Traces : Status → List ℕ → Type 0
   Traces status trace = IsRunTrace words left now held more room status trace
 
-  -- where the text was read
-  module _ (job : Job) (is : IsBuiltJob words job) (letters : Letters) (relations : List (List Term)) (reads : ReadsInput job.modulus left now letters relations) (setting : IsSetting job.modulus letters.weights relations) (trace : List ℕ) where
-    pub read_trace : (status : Status) → IsTaskTrace (accounts_of job) (traces_of job) (task_of_job job letters relations) held more room status trace → Traces status trace
-    read_trace Done h = (job, is, record { text = reads.0; is_input = reads.1; letters = letters; relations = relations; reads = reads.2; setting = setting; holds = h })
-    read_trace (Usage fault) h = absurd h
-    read_trace (Input problem) h = absurd h
-    read_trace (Limit kind d value) h = (job, is, record { text = reads.0; is_input = reads.1; letters = letters; relations = relations; reads = reads.2; setting = setting; holds = h })
-    read_trace (Unbuilt part) h = absurd h
-    read_trace ReadFault h = absurd h
-    read_trace WriteFault h = (job, is, record { text = reads.0; is_input = reads.1; letters = letters; relations = relations; reads = reads.2; setting = setting; holds = h })
-    read_trace NoMemory h = inr (job, is, record { text = reads.0; is_input = reads.1; letters = letters; relations = relations; reads = reads.2; setting = setting; holds = h })
+  -- the trace of the work on what was given
+  module _ (job : Job) (is : IsBuiltJob words job) (letters : Letters) (relations : List (List Term)) (reads : IsGivenReading job left now letters relations) (setting : IsSetting job.modulus letters.weights relations) (trace : List ℕ) where
+    given_trace : (status : Status) → IsWorkTrace job letters relations held more room status trace → OfWork words left now (λ own l rs. IsWorkTrace own l rs held more room status trace)
+    given_trace status h = (job, is, record { text = reads.0; is_given = reads.1; letters = letters; relations = relations; reads = reads.2; setting = setting; holds = h })
+
+    none_of : (status : Status) → (IsTraced status → ⊥) → IsWorkTrace job letters relations held more room status trace → trace ≡ []
+    none_of status none h = untraced job letters relations held more room trace job.command status none h
+
+    pub work_trace : (status : Status) → IsWorkTrace job letters relations held more room status trace → Traces status trace
+    work_trace Done h = given_trace Done h
+    work_trace (Usage fault) h = none_of (Usage fault) (λ none. none) h
+    work_trace (Input problem) h = none_of (Input problem) (λ none. none) h
+    work_trace (Limit kind d value) h = given_trace (Limit kind d value) h
+    work_trace (Chains d value) h = none_of (Chains d value) (λ none. none) h
+    work_trace (Products d value) h = none_of (Products d value) (λ none. none) h
+    work_trace (Unbuilt part) h = none_of (Unbuilt part) (λ none. none) h
+    work_trace ReadFault h = none_of ReadFault (λ none. none) h
+    work_trace WriteFault h = given_trace WriteFault h
+    work_trace NoMemory h = inr (given_trace NoMemory h)

@@ -1,1 +1,6 @@
+pub mod Engines
+pub mod Jobs
+pub mod Gb
+pub mod Make
+pub mod Outcomes
 pub mod Run

@@ -1,5 +1,5 @@
 use crate::run::bergman;
-use crate::status::{InputProblem, Part, Status};
+use job_steps::{InputProblem, Part, Status};
 use bg_io::{FixedSink, MemorySink, MemorySource, OpenGate, SteadySource};
 use command_words::{Key, UsageFault};
 use ideal_laws::LimitKind;

@@ -19,7 +19,7 @@ use Rattle.job_steps.specs.Progress.{AreSmallBelow}
 
 module _ (law : CountsCoefficients) (p : ℕ) (letters : Letters) (relations : List (List Term)) (basis : Elements) (st : IsSetting p letters.weights relations) (same : basis.weights ≡ letters.weights) (kept : IsKept basis)
     (reduced : IsReducedUpto p relations basis) (limit : ℕ) where
-  coefficient : (d n : ℕ) → d ≤ basis.done → IsCount basis.weights basis.elements d n → IsHilbertCoefficient p letters.weights relations d n
+  pub coefficient : (d n : ℕ) → d ≤ basis.done → IsCount basis.weights basis.elements d n → IsHilbertCoefficient p letters.weights relations d n
   coefficient d n le c =
       subst (λ (ws : List ℕ). IsHilbertCoefficient p ws relations d n) same
       (law p relations basis (subst (λ (ws : List ℕ). IsSetting p ws relations) (sym same) st) kept reduced d n le c)

@@ -5,3 +5,4 @@ pub mod Reaches
 pub mod Ended
 pub mod DegreeLines
 pub mod Counted
+pub mod Statuses

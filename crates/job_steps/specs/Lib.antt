@@ -5,3 +5,4 @@ pub mod Status
 pub mod Inputs
 pub mod Lines
 pub mod Traces
+pub mod Statuses

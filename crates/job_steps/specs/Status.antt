@@ -1,5 +1,6 @@
 -- What a status says by itself.
 use Rattle.std.specs.Prelude.{ℕ}
+use Rattle.job_steps.specs.declared.status.InputProblem.TheVariants.{TooLong, Text}
 use Rattle.job_steps.specs.declared.status.Status.{Status}
 use Rattle.job_steps.specs.declared.status.Status.TheVariants.{Done, Usage, Input, Limit, Chains, Products, Unbuilt, ReadFault, WriteFault, NoMemory}
 
@@ -21,6 +22,13 @@ abbrev pub ReadsNothing : Status → Type 0
 ReadsNothing (Usage fault) = Unit {0}
 ReadsNothing (Unbuilt part) = Unit {0}
 ReadsNothing status = ⊥
+
+-- a status of runs that had no reading of a text
+abbrev pub IsOfInput : Status → Type 0
+IsOfInput (Input TooLong) = Unit {0}
+IsOfInput (Input (Text fault)) = Unit {0}
+IsOfInput ReadFault = Unit {0}
+IsOfInput status = ⊥
 
 -- a status of runs that write nothing to their output
 abbrev pub PrintsNothing : Status → Type 0

@@ -3,6 +3,7 @@
 //! a failed write leaves a prefix.
 #![tactic(auto)]
 
+mod answer;
 mod input;
 #[cfg(test)]
 mod line_tests;
@@ -11,6 +12,7 @@ mod print;
 mod status;
 mod telling;
 
+pub use answer::{Answer, write_answer};
 pub use input::read_input;
 pub use print::{Asked, PrintFault, print_job};
 pub use status::{InputProblem, Part, Status};

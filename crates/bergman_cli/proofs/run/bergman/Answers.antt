@@ -1,11 +1,12 @@
 use Rattle.std.proofs.Common.{false, map, refl, string_bytes}
-use Rattle.bergman_cli.proofs.Causes.{command_exactly, completes, end_done, end_limit, end_memory, end_part, end_read, end_text, end_write, engine_exactly, refuses_text, stops_there, usage_exactly}
 use Rattle.job_steps.specs.Lines.{fault_line}
 use Rattle.job_steps.proofs.Traced.{tells_behind, told_end}
+use Rattle.bergman_cli.proofs.Causes.{command_exactly, end_input, end_memory, end_own, end_part, end_write, engine_exactly, usage_exactly}
+use Rattle.bergman_cli.proofs.Completing.{completes}
 use Rattle.bergman_cli.proofs.run.bergman.Goals as goal
 
-pub returns-clause-done : goal.returns-clause-done
-returns-clause-done g c = end_done (map string_bytes c.args.words.now) _ _ _ _ _ _ _ _ _ c.run_words-status.result c.run_words-status.ensures.end
+pub returns-clause-ended : goal.returns-clause-ended
+returns-clause-ended g c = end_own (map string_bytes c.args.words.now) _ _ _ _ _ _ _ _ _ c.run_words-status.result c.run_words-status.ensures.end
 
 pub returns-clause-usage : goal.returns-clause-usage
 returns-clause-usage g c = λ fault. usage_exactly (map string_bytes c.args.words.now) _ _ _ _ _ _ _ _ _ (c.words_law.ensures (map string_bytes c.args.words.now)) fault c.run_words-status.result c.run_words-status.ensures.end
@@ -16,14 +17,8 @@ returns-clause-command g c = command_exactly (map string_bytes c.args.words.now)
 pub returns-clause-engine : goal.returns-clause-engine
 returns-clause-engine g c = engine_exactly (map string_bytes c.args.words.now) _ _ _ _ _ _ _ _ _ (c.words_law.ensures (map string_bytes c.args.words.now)) c.run_words-status.result c.run_words-status.ensures.end
 
-pub returns-clause-read : goal.returns-clause-read
-returns-clause-read g c = end_read (map string_bytes c.args.words.now) _ _ _ _ _ _ _ _ _ c.run_words-status.result c.run_words-status.ensures.end
-
-pub returns-clause-text : goal.returns-clause-text
-returns-clause-text g c = end_text (map string_bytes c.args.words.now) _ _ _ _ _ _ _ _ _ c.run_words-status.result c.run_words-status.ensures.end
-
-pub returns-clause-limit : goal.returns-clause-limit
-returns-clause-limit g c = end_limit (map string_bytes c.args.words.now) _ _ _ _ _ _ _ _ _ c.run_words-status.result c.run_words-status.ensures.end
+pub returns-clause-input : goal.returns-clause-input
+returns-clause-input g c = end_input (map string_bytes c.args.words.now) _ _ _ _ _ _ _ _ _ c.run_words-status.result c.run_words-status.ensures.end
 
 pub returns-clause-write : goal.returns-clause-write
 returns-clause-write g c = end_write (map string_bytes c.args.words.now) _ _ _ _ _ _ _ _ _ c.run_words-status.result c.run_words-status.ensures.end
@@ -42,11 +37,3 @@ returns-clause-told g c =
 pub returns-clause-complete : goal.returns-clause-complete
 returns-clause-complete g c =
     completes (map string_bytes c.args.words.now) _ _ _ _ _ _ _ _ _ (c.words_law.ensures (map string_bytes c.args.words.now)) c.reading_laws.ensures.reading c.run_words-status.result c.run_words-status.ensures.end
-
-pub returns-clause-refuses : goal.returns-clause-refuses
-returns-clause-refuses g c =
-    refuses_text (map string_bytes c.args.words.now) _ _ _ _ _ _ _ _ _ (c.words_law.ensures (map string_bytes c.args.words.now)) c.reading_laws.ensures.reading c.run_words-status.result c.run_words-status.ensures.end
-
-pub returns-clause-stops : goal.returns-clause-stops
-returns-clause-stops g c =
-    stops_there (map string_bytes c.args.words.now) _ _ _ _ _ _ _ _ _ (c.words_law.ensures (map string_bytes c.args.words.now)) c.reading_laws.ensures.reading c.run_words-status.result c.run_words-status.ensures.end

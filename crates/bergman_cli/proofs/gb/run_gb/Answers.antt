@@ -2,7 +2,7 @@ use Rattle.std.proofs.Common.{◌∙◌, ap, sym}
 use Rattle.job_steps.specs.declared.print.Asked.{Asked}
 use Rattle.job_steps.specs.Traces.{Tells}
 use Rattle.bergman_cli.proofs.RunTraces.{told_done, told_limit, told_memory, told_write}
-use Rattle.bergman_cli.proofs.run.print_input.Goals as goal
+use Rattle.bergman_cli.proofs.gb.run_gb.Goals as goal
 
 pub print_job-requires-clause-printable : goal.print_job-requires-clause-printable
 print_job-requires-clause-printable g c κs within = λ traces.

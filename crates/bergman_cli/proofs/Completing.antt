@@ -1,0 +1,151 @@
+-- A status comes where its cause stands, or a mishap in its place.
+use Rattle.std.proofs.Common.{◌≡◌, ◌≢◌, ◌⊎◌, ◌<◌, ◌≤◌, ℕ, List, [], length, refl, sym, ap, ◌∙◌, inl, inr, arith, subst}
+use Rattle.std.specs.declared.option.Option.{Option}
+use Rattle.std.specs.declared.option.Option.TheVariants.{None, Some}
+use Rattle.words.specs.Names.{Letters}
+use Rattle.free_poly.specs.declared.term.Term.{Term}
+use Rattle.ideal_laws.specs.Laws.{IsSetting}
+use Rattle.relation_reader.specs.declared.fault.InputFault.{InputFault}
+use Rattle.relation_reader.specs.Meaning.{FirstFault, HasOneReading, Reads}
+use Rattle.command_words.specs.declared.job.Command.{Command}
+use Rattle.command_words.specs.declared.job.Job.{Job}
+use Rattle.command_words.specs.JobOf.{HasOneAnswer}
+use Rattle.job_steps.specs.declared.status.InputProblem.TheVariants.{TooLong, Text, TooFewNames, Shape, TooFewRelations, AboveBound}
+use Rattle.job_steps.specs.declared.status.Part.{Part}
+use Rattle.job_steps.specs.declared.status.Part.TheVariants as parts
+use Rattle.job_steps.specs.declared.status.Status.{Status}
+use Rattle.job_steps.specs.declared.status.Status.TheVariants.{Done, Usage, Input, Limit, Chains, Products, Unbuilt, ReadFault, WriteFault, NoMemory}
+use Rattle.job_steps.specs.Inputs.{IsInput}
+use Rattle.job_steps.specs.Status.{ReadsNothing}
+use Rattle.job_steps.specs.Statuses.{IsOwn}
+use Rattle.bergman_cli.specs.Engines.{IsBuilt}
+use Rattle.bergman_cli.specs.Jobs.{IsBuiltCommand, IsBuiltJob, OfBuiltJob}
+use Rattle.bergman_cli.specs.Outcomes.{IsDue, IsWorkEnd, IsWorkEndOf}
+use Rattle.bergman_cli.specs.Run.{Completes, IsCaused, IsDueTo, IsEnd, IsJobEnd, IsMishap, IsUngivenTo, OfGiven, ReadsSource}
+use Rattle.bergman_cli.proofs.Given.{fault_mishap, given_input, given_is, input_is, long_mishap, make_or_reads, no_text_fault, one_reading, read_mishap, told_input, ungiven_input}
+use Rattle.bergman_cli.proofs.Jobs.{listed, listed_some, no_fault, one_job}
+use Rattle.bergman_cli.proofs.Works.{due_is_one, failed_writes, never, outcome_due, work_gained, work_memory, work_write}
+
+module _ (job : Job) (law : HasOneReading) (some : 0 < job.modulus) (left now : Option (List ℕ)) (b a : ℕ) (held more : Option (List ℕ)) (room : Option ℕ) (before after : ℕ) where
+  abbrev Ends : Status → Type 0
+  Ends = IsJobEnd job left now b a held more room before after
+
+  abbrev Comes : Status → Status → Type 0
+  Comes own status = (status ≡ own) ⊎ IsMishap job.command own b a before after status
+
+  -- the text of a job that reads its source is too long
+  too_long : (status : Status) → Ends status → ReadsSource job.command → (text : List ℕ) → left ≡ Some text → 1048576 < length text → Comes (Input TooLong) status
+  too_long status (inl h) reads text told long = long_mishap job.modulus left now b a before after text told job.command reads long status (ungiven_input job.modulus left now b a status job.command reads h.0)
+  too_long status (inr h) reads text told long =
+      let input = given_input job left now h.text job.command reads h.is_given in
+      absurd (omega (arith, long, input.short, ap length (input_is left now text h.text told input)))
+
+  -- it has a first fault
+  faulty : (status : Status) → Ends status → ReadsSource job.command → (text : List ℕ) → left ≡ Some text → length text ≤ 1048576 → (fault : InputFault) → FirstFault text job.modulus fault → Comes (Input (Text fault)) status
+  faulty status (inl h) reads text told short fault first =
+      fault_mishap job.modulus left now b a before after text told job.command reads law some short fault first status (ungiven_input job.modulus left now b a status job.command reads h.0)
+  faulty status (inr h) reads text told short fault first =
+      let input = given_input job left now h.text job.command reads h.is_given in
+      let same = input_is left now text h.text told input in
+      absurd (no_text_fault law text job.modulus some h.letters h.relations fault (subst (λ (t : List ℕ). Reads t job.modulus h.letters h.relations) (sym same) h.reads) first)
+
+  -- it has a reading, and this status is due on it
+  module _ (own : Status) (due : IsDueTo job left own) where
+    ungiven_mishap : (status : Status) → IsUngivenTo job.command job.modulus left now b a status → IsMishap job.command own b a before after status
+    ungiven_mishap status h = elim (make_or_reads job.command) [
+      | inl make ↦ subst (IsMishap job.command own b a before after) (sym (subst (λ (c : Command). IsUngivenTo c job.modulus left now b a status) make h)) tt
+      | inr reads ↦
+          let told = told_input job left now due.text job.command reads due.is_told in
+          read_mishap job.modulus left now b a before after due.text told.0 job.command reads told.1
+          (λ fault first. no_text_fault law due.text job.modulus some due.letters due.relations fault due.reads first) own status (ungiven_input job.modulus left now b a status job.command reads h)
+    ]
+
+    same_reading : (text : List ℕ) (letters : Letters) (relations : List (List Term)) → due.text ≡ text → Reads text job.modulus letters relations → (due.letters ≡ letters) × (due.relations ≡ relations)
+    same_reading text letters relations same reads =
+        one_reading law due.text job.modulus some due.letters letters due.relations relations due.reads (subst (λ (t : List ℕ). Reads t job.modulus letters relations) (sym same) reads)
+
+    due_of : (letters : Letters) (relations : List (List Term)) → (due.letters ≡ letters) × (due.relations ≡ relations) → IsDue job letters relations own
+    due_of letters relations same = subst (λ (ls : Letters). IsDue job ls relations own) same.0 (subst (λ (rs : List (List Term)). IsDue job due.letters rs own) same.1 due.due)
+
+    worked : (status : Status) (letters : Letters) (relations : List (List Term)) → IsSetting job.modulus letters.weights relations → IsDue job letters relations own → IsWorkEnd job letters relations held more room before after status → Comes own status
+    worked status letters relations st is end = by_status status end
+      where
+        own_comes : (s : Status) → IsOwn s → IsWorkEnd job letters relations held more room before after s → Comes own s
+        own_comes s is_own e =
+            let gained = work_gained job letters relations held more room before after job.command s e is_own in
+            inl (due_is_one job letters relations job.command s own st (outcome_due job letters relations job.command s gained.0 gained.1) is)
+
+        not_comes : (s : Status) → (IsOwn s → ⊥) → s ≢ WriteFault → s ≢ NoMemory → IsWorkEnd job letters relations held more room before after s → Comes own s
+        not_comes s none write memory e = absurd (never job letters relations held more room before after job.command s none write memory e)
+
+        by_status : (s : Status) → IsWorkEnd job letters relations held more room before after s → Comes own s
+        by_status Done e = own_comes Done tt e
+        by_status (Usage fault) e = not_comes (Usage fault) (λ none. none) (λ same. cc) (λ same. cc) e
+        by_status (Input TooLong) e = not_comes (Input TooLong) (λ none. none) (λ same. cc) (λ same. cc) e
+        by_status (Input (Text fault)) e = not_comes (Input (Text fault)) (λ none. none) (λ same. cc) (λ same. cc) e
+        by_status (Input (TooFewNames names)) e = own_comes (Input (TooFewNames names)) tt e
+        by_status (Input (Shape relation)) e = own_comes (Input (Shape relation)) tt e
+        by_status (Input (TooFewRelations number)) e = own_comes (Input (TooFewRelations number)) tt e
+        by_status (Input (AboveBound relation)) e = own_comes (Input (AboveBound relation)) tt e
+        by_status (Limit kind d value) e = own_comes (Limit kind d value) tt e
+        by_status (Chains d value) e = own_comes (Chains d value) tt e
+        by_status (Products d value) e = own_comes (Products d value) tt e
+        by_status (Unbuilt part) e = not_comes (Unbuilt part) (λ none. none) (λ same. cc) (λ same. cc) e
+        by_status ReadFault e = not_comes ReadFault (λ none. none) (λ same. cc) (λ same. cc) e
+        by_status WriteFault e = inr (failed_writes job letters relations held more room before after job.command own st is e, (work_write job letters relations held more room before after job.command e).0)
+        by_status NoMemory e = inr tt
+
+    due_comes : (status : Status) → Ends status → Comes own status
+    due_comes status (inl h) = inr (ungiven_mishap status h.0)
+    due_comes status (inr h) =
+        let same = same_reading h.text h.letters h.relations (given_is job.command job left now due.text h.text due.is_told h.is_given) h.reads in
+        worked status h.letters h.relations h.setting (due_of h.letters h.relations same) h.holds
+
+  -- each cause
+  pub caused_comes : (own status : Status) → Ends status → IsCaused job left own → Comes own status
+  caused_comes Done status end c = due_comes Done c status end
+  caused_comes (Usage fault) status end c = due_comes (Usage fault) c status end
+  caused_comes (Input TooLong) status end c = too_long status end c.0 c.1.0 c.1.1 c.1.2
+  caused_comes (Input (Text fault)) status end c = faulty status end c.0 c.1.0 c.1.1 c.1.2 fault c.1.3
+  caused_comes (Input (TooFewNames names)) status end c = due_comes (Input (TooFewNames names)) c status end
+  caused_comes (Input (Shape relation)) status end c = due_comes (Input (Shape relation)) c status end
+  caused_comes (Input (TooFewRelations relations)) status end c = due_comes (Input (TooFewRelations relations)) c status end
+  caused_comes (Input (AboveBound relation)) status end c = due_comes (Input (AboveBound relation)) c status end
+  caused_comes (Limit kind d value) status end c = due_comes (Limit kind d value) c status end
+  caused_comes (Chains d value) status end c = due_comes (Chains d value) c status end
+  caused_comes (Products d value) status end c = due_comes (Products d value) c status end
+  caused_comes (Unbuilt part) status end c = due_comes (Unbuilt part) c status end
+  caused_comes ReadFault status end c = due_comes ReadFault c status end
+  caused_comes WriteFault status end c = due_comes WriteFault c status end
+  caused_comes NoMemory status end c = due_comes NoMemory c status end
+
+module _ (words : List (List ℕ)) (left now : Option (List ℕ)) (b a : ℕ) (held more : Option (List ℕ)) (room : Option ℕ) (before after : ℕ) (one : HasOneAnswer words) (job : Job) (is : IsBuiltJob words job) where
+  abbrev End : Status → Type 0
+  End = IsEnd words left now b a held more room before after
+
+  abbrev JobEnds : Status → Type 0
+  JobEnds = IsJobEnd job left now b a held more room before after
+
+  same_job : (status : Status) → OfBuiltJob words (λ own. IsJobEnd own left now b a held more room before after status) → JobEnds status
+  same_job status h = subst (λ (j : Job). IsJobEnd j left now b a held more room before after status) (one_job words one h.0 job h.1.is_job is.is_job) h.2
+
+  -- the run of a job ends as the job does
+  ends_of : (status : Status) → End status → JobEnds status
+  ends_of Done end = same_job Done end
+  ends_of (Usage fault) end = absurd (no_fault words one job fault is.is_job end)
+  ends_of (Input problem) end = same_job (Input problem) end
+  ends_of (Limit kind d value) end = same_job (Limit kind d value) end
+  ends_of (Chains d value) end = same_job (Chains d value) end
+  ends_of (Products d value) end = same_job (Products d value) end
+  ends_of (Unbuilt parts.Command) end = absurd (end.2 (subst (λ (j : Job). IsBuiltCommand j.command) (one_job words one job end.0 is.is_job end.1) is.command))
+  ends_of (Unbuilt parts.Engine) end = absurd (end.3 (subst (λ (j : Job). IsBuilt j.engine) (one_job words one job end.0 is.is_job end.1) is.engine))
+  ends_of ReadFault end = same_job ReadFault end
+  ends_of WriteFault end = same_job WriteFault end
+  ends_of NoMemory end = same_job NoMemory end
+
+  pub job_completes : HasOneReading → (own status : Status) → End status → IsCaused job left own → (status ≡ own) ⊎ IsMishap job.command own b a before after status
+  job_completes law own status end cause = caused_comes job law (listed_some job.modulus (listed words job is.is_job)) left now b a held more room before after own status (ends_of status end) cause
+
+pub completes : (words : List (List ℕ)) (left now : Option (List ℕ)) (b a : ℕ) (held more : Option (List ℕ)) (room : Option ℕ) (before after : ℕ) → HasOneAnswer words → HasOneReading
+    → (status : Status) → IsEnd words left now b a held more room before after status → Completes words left b a before after status
+completes words left now b a held more room before after one law status end job own is cause = job_completes words left now b a held more room before after one job is law own status end cause

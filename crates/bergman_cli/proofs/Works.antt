@@ -1,0 +1,171 @@
+-- Command by command: what the end of the work says.
+use Rattle.std.proofs.Common.{◌≡◌, ◌≢◌, ◌⊎◌, ℕ, List, [], refl, inl, inr, subst}
+use Rattle.std.specs.declared.option.Option.{Option}
+use Rattle.std.specs.Io.KnownBytes.{Appends}
+use Rattle.words.specs.Names.{Letters}
+use Rattle.free_poly.specs.declared.term.Term.{Term}
+use Rattle.bg_io.specs.Ends.{Rose}
+use Rattle.ideal_laws.specs.Laws.{IsSetting}
+use Rattle.command_words.specs.declared.job.Command.{Command}
+use Rattle.command_words.specs.declared.job.Command.TheVariants.{Gb, Make, Module, Chains, Normal}
+use Rattle.command_words.specs.declared.job.Job.{Job}
+use Rattle.job_steps.specs.declared.status.Status.{Status}
+use Rattle.job_steps.specs.declared.status.Status.TheVariants as statuses
+use Rattle.job_steps.specs.Status.{PrintsNothing}
+use Rattle.job_steps.specs.Statuses.{HasGained, HasGainedPart, IsAnswered, IsOwn, IsTaskEnd, IsTaskStatus, IsThis}
+use Rattle.job_steps.proofs.Statuses.{answered_by, answered_gained, cut_is_some, one_task_status, task_gained, task_outcome_status, task_status_own, task_status_prints}
+use Rattle.bergman_cli.specs.Gb.{gb_task}
+use Rattle.bergman_cli.specs.Make.{IsMakeText, make_task}
+use Rattle.bergman_cli.specs.Outcomes.{HasWrittenPartOf, HasWrittenSomeOf, IsDueOf, IsOutcomeOf, IsWorkEndOf, Writes}
+
+module _ (job : Job) (letters : Letters) (relations : List (List Term)) where
+  abbrev Due : Command → Status → Type 0
+  Due command = IsDueOf command job letters relations
+
+  abbrev Outcome : Command → Status → List ℕ → Type 0
+  Outcome command = IsOutcomeOf command job letters relations
+
+  -- one status is due
+  pub due_is_one : (command : Command) (status other : Status) → IsSetting job.modulus letters.weights relations → Due command status → Due command other → status ≡ other
+  due_is_one Gb status other st a b = one_task_status (gb_task job letters relations) st status other a b
+  due_is_one Make status other st a b = one_task_status (make_task job letters relations) st status other a b
+  due_is_one Module status other st a b = absurd a
+  due_is_one Chains status other st a b = absurd a
+  due_is_one Normal status other st a b = absurd a
+
+  -- an outcome has the status that is due
+  pub outcome_due : (command : Command) (status : Status) (text : List ℕ) → Outcome command status text → Due command status
+  outcome_due Gb status text h = task_outcome_status (gb_task job letters relations) status text h
+  outcome_due Make status text h = h.0
+  outcome_due Module status text h = absurd h
+  outcome_due Chains status text h = absurd h
+  outcome_due Normal status text h = absurd h
+
+  pub due_own : (command : Command) (status : Status) → Due command status → IsOwn status
+  due_own Gb status h = task_status_own (gb_task job letters relations) status h
+  due_own Make status h = task_status_own (make_task job letters relations) status h
+  due_own Module status h = absurd h
+  due_own Chains status h = absurd h
+  due_own Normal status h = absurd h
+
+  -- where nothing may be printed the text is empty
+  pub quiet : (command : Command) (status : Status) (text : List ℕ) → Outcome command status text → PrintsNothing status → text ≡ []
+  quiet Gb status text h none = absurd (task_status_prints (gb_task job letters relations) status (task_outcome_status (gb_task job letters relations) status text h) none)
+  quiet Make status text h none = absurd (task_status_prints (make_task job letters relations) status h.0 none)
+  quiet Module status text h none = absurd h
+  quiet Chains status text h none = absurd h
+  quiet Normal status text h none = absurd h
+
+  gb_writes : (status : Status) → IsTaskStatus (gb_task job letters relations) status → Writes Gb status
+  gb_writes statuses.Done h = tt
+  gb_writes (statuses.Usage fault) h = absurd h
+  gb_writes (statuses.Input problem) h = absurd h
+  gb_writes (statuses.Limit kind d value) h = tt
+  gb_writes (statuses.Chains d value) h = absurd h
+  gb_writes (statuses.Products d value) h = absurd h
+  gb_writes (statuses.Unbuilt part) h = absurd h
+  gb_writes statuses.ReadFault h = absurd h
+  gb_writes statuses.WriteFault h = absurd h
+  gb_writes statuses.NoMemory h = absurd h
+
+  make_writes : (status : Status) (text : List ℕ) → IsTaskStatus (make_task job letters relations) status → IsMakeText job letters relations status text → text ≢ [] → Writes Make status
+  make_writes statuses.Done text due h some = tt
+  make_writes (statuses.Usage fault) text due h some = absurd due
+  make_writes (statuses.Input problem) text due h some = absurd due
+  make_writes (statuses.Limit kind d value) text due h some = some h
+  make_writes (statuses.Chains d value) text due h some = absurd due
+  make_writes (statuses.Products d value) text due h some = absurd due
+  make_writes (statuses.Unbuilt part) text due h some = absurd due
+  make_writes statuses.ReadFault text due h some = absurd due
+  make_writes statuses.WriteFault text due h some = absurd due
+  make_writes statuses.NoMemory text due h some = absurd due
+
+  -- a text that is not empty is written
+  pub some_writes : (command : Command) (status : Status) (text : List ℕ) → Outcome command status text → text ≢ [] → Writes command status
+  some_writes Gb status text h some = gb_writes status (task_outcome_status (gb_task job letters relations) status text h)
+  some_writes Make status text h some = make_writes status text h.0 h.1 some
+  some_writes Module status text h some = absurd h
+  some_writes Chains status text h some = absurd h
+  some_writes Normal status text h some = absurd h
+
+  module _ (held more : Option (List ℕ)) (room : Option ℕ) (before after : ℕ) where
+    abbrev Ends : Command → Status → Type 0
+    Ends command = IsWorkEndOf command job letters relations held more room before after
+
+    -- an answer that was written ends the work
+    pub answer_ends : (command : Command) → command ≢ Gb → (own : Status) (text : List ℕ) → Outcome command own text → (status : Status) → IsAnswered (IsThis own text) held more room before after status → Ends command status
+    answer_ends Gb other own text is status h = absurd (other refl)
+    answer_ends Make other own text is status h = answered_by (Outcome Make) held more room before after own text is status h
+    answer_ends Module other own text is status h = answered_by (Outcome Module) held more room before after own text is status h
+    answer_ends Chains other own text is status h = answered_by (Outcome Chains) held more room before after own text is status h
+    answer_ends Normal other own text is status h = answered_by (Outcome Normal) held more room before after own text is status h
+
+    -- work that ended by itself has gained the text of an outcome
+    pub work_gained : (command : Command) (status : Status) → Ends command status → IsOwn status → HasGained held more (Outcome command status)
+    work_gained Gb status h own = task_gained (gb_task job letters relations) held more room before after status h own
+    work_gained Make status h own = answered_gained (Outcome Make) held more room before after status h own
+    work_gained Module status h own = answered_gained (Outcome Module) held more room before after status h own
+    work_gained Chains status h own = answered_gained (Outcome Chains) held more room before after status h own
+    work_gained Normal status h own = answered_gained (Outcome Normal) held more room before after status h own
+
+    pub work_write : (command : Command) → Ends command statuses.WriteFault → Rose before after × HasWrittenPartOf command job letters relations held more room
+    work_write Gb h = h
+    work_write Make h = h
+    work_write Module h = h
+    work_write Chains h = h
+    work_write Normal h = h
+
+    pub work_memory : (command : Command) → Ends command statuses.NoMemory → Appends held more [] ⊎ HasWrittenSomeOf command job letters relations held more
+    work_memory Gb h = inr h
+    work_memory Make h = inl h
+    work_memory Module h = inl h
+    work_memory Chains h = inl h
+    work_memory Normal h = inl h
+
+    part_writes : (command : Command) (own : Status) → IsSetting job.modulus letters.weights relations → Due command own → HasGainedPart held more room (Outcome command) → Writes command own
+    part_writes command own st due h =
+        let same = due_is_one command h.0 own st (outcome_due command h.0 h.1 h.2) due in
+        subst (Writes command) same (some_writes command h.0 h.1 h.2 (cut_is_some h.3.gained h.1 h.3.cut_short))
+
+    -- a write fails only where the status that is due has something written
+    pub failed_writes : (command : Command) (own : Status) → IsSetting job.modulus letters.weights relations → Due command own → Ends command statuses.WriteFault → Writes command own
+    failed_writes Gb own st due h = gb_writes own due
+    failed_writes Make own st due h = part_writes Make own st due h.1
+    failed_writes Module own st due h = part_writes Module own st due h.1
+    failed_writes Chains own st due h = part_writes Chains own st due h.1
+    failed_writes Normal own st due h = part_writes Normal own st due h.1
+
+    gb_never : (status : Status) → (IsOwn status → ⊥) → status ≢ statuses.WriteFault → status ≢ statuses.NoMemory → IsTaskEnd (gb_task job letters relations) held more room before after status → ⊥
+    gb_never statuses.Done own write memory h = own tt
+    gb_never (statuses.Usage fault) own write memory h = h
+    gb_never (statuses.Input problem) own write memory h = h
+    gb_never (statuses.Limit kind d value) own write memory h = own tt
+    gb_never (statuses.Chains d value) own write memory h = h
+    gb_never (statuses.Products d value) own write memory h = h
+    gb_never (statuses.Unbuilt part) own write memory h = h
+    gb_never statuses.ReadFault own write memory h = h
+    gb_never statuses.WriteFault own write memory h = write refl
+    gb_never statuses.NoMemory own write memory h = memory refl
+
+    gained_own : (command : Command) (status : Status) → HasGained held more (Outcome command status) → IsOwn status
+    gained_own command status h = due_own command status (outcome_due command status h.0 h.1)
+
+    answered_never : (command : Command) (status : Status) → (IsOwn status → ⊥) → status ≢ statuses.WriteFault → status ≢ statuses.NoMemory → IsAnswered (Outcome command) held more room before after status → ⊥
+    answered_never command statuses.Done own write memory h = own tt
+    answered_never command (statuses.Usage fault) own write memory h = own (gained_own command (statuses.Usage fault) h)
+    answered_never command (statuses.Input problem) own write memory h = own (gained_own command (statuses.Input problem) h)
+    answered_never command (statuses.Limit kind d value) own write memory h = own tt
+    answered_never command (statuses.Chains d value) own write memory h = own tt
+    answered_never command (statuses.Products d value) own write memory h = own tt
+    answered_never command (statuses.Unbuilt part) own write memory h = own (gained_own command (statuses.Unbuilt part) h)
+    answered_never command statuses.ReadFault own write memory h = own (gained_own command statuses.ReadFault h)
+    answered_never command statuses.WriteFault own write memory h = write refl
+    answered_never command statuses.NoMemory own write memory h = memory refl
+
+    -- a status that the work does not end with
+    pub never : (command : Command) (status : Status) → (IsOwn status → ⊥) → status ≢ statuses.WriteFault → status ≢ statuses.NoMemory → Ends command status → ⊥
+    never Gb status own write memory h = gb_never status own write memory h
+    never Make status own write memory h = answered_never Make status own write memory h
+    never Module status own write memory h = answered_never Module status own write memory h
+    never Chains status own write memory h = answered_never Chains status own write memory h
+    never Normal status own write memory h = answered_never Normal status own write memory h

@@ -1,0 +1,33 @@
+-- What the command gb asks of letters and relations.
+use Rattle.std.specs.Prelude.{ℕ, Bool, true, false, List}
+use Rattle.words.specs.Names.{Letters}
+use Rattle.free_poly.specs.declared.term.Term.{Term}
+use Rattle.ideal_laws.specs.Limits.{standard_limits}
+use Rattle.command_words.specs.declared.job.Job.{Job}
+use Rattle.command_words.specs.declared.job.Show.{Show}
+use Rattle.command_words.specs.declared.job.Show.TheVariants.{Basis, Series, Both}
+use Rattle.job_steps.specs.Progress.{Task}
+use Rattle.bergman_cli.specs.Engines.{limits_of}
+
+abbrev pub shows_basis : Show → Bool
+shows_basis Basis = true
+shows_basis Series = false
+shows_basis Both = true
+
+abbrev pub shows_series : Show → Bool
+shows_series Basis = false
+shows_series Series = true
+shows_series Both = true
+
+-- the basis and the series up to the bound, as far as they are shown
+abbrev pub gb_task : Job → Letters → List (List Term) → Task
+gb_task job letters relations = record {
+  modulus = job.modulus;
+  letters = letters;
+  relations = relations;
+  limits = limits_of job.engine;
+  normal_words = standard_limits.normal_words;
+  bound = job.bound;
+  shows_basis = shows_basis job.show;
+  shows_series = shows_series job.show;
+}

@@ -1,0 +1,49 @@
+ghost use Rattle.std.specs.Prelude.{◌≡◌, ◌≢◌, []};
+ghost use Rattle.job_steps.specs.declared.status.Status.TheVariants.{Limit};
+ghost use Rattle.job_steps.specs.Statuses.{IsAnswered, IsOwn, IsThis};
+
+use crate::status::Status;
+use bg_io::{Sink, write_all};
+use ideal_laws::LimitKind;
+use std::alloc::Global;
+use words::Items;
+
+/// What a command answers that computes all of its text first: the status of its job, and the text.
+#[derive(Drop)]
+pub struct Answer {
+    pub status: Status,
+    pub text: Items<u8>,
+}
+
+impl Answer {
+    /// A limit stops the work, and there is no text.
+    pub fn limit(alloc: Global, kind: LimitKind, degree: u32, value: u64) -> Answer
+        ensures { result ≡ record { status = Limit kind degree value; text = [] } }
+    {
+        Answer {
+            status: Status::Limit {
+                kind,
+                degree,
+                value,
+            },
+            text: Items::from_vec(Vec::new(alloc)),
+        }
+    }
+}
+
+/// Writes the text of an answer.
+pub fn write_answer<K: Sink>(answer: Answer, out: &mut K) -> Status
+    requires { IsOwn answer.status }
+    ensures end { IsAnswered (IsThis answer.status answer.text) (K.held out.old) (K.held out.new) (K.room out.old) (K.faults out.old) (K.faults out.new) result }
+    ensures nothing { answer.text ≡ [] → out.new ≡ out.old }
+    ensures steady { result ≢ Status.WriteFault → K.faults out.new ≡ K.faults out.old }
+{
+    let text = answer.text.as_slice();
+    if text.is_empty() {
+        return answer.status;
+    }
+    match write_all(out, text) {
+        Ok(()) => answer.status,
+        Err(_) => Status::WriteFault,
+    }
+}
