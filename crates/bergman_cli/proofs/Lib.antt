@@ -5,3 +5,4 @@ pub mod Causes
 pub mod Completing
 pub mod RunTraces
 pub mod CoreTraces
+pub mod Made
