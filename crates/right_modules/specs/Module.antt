@@ -1,0 +1,71 @@
+-- Right modules. The letters below `free` are those of the algebra, and the others are the generators.
+use Rattle.std.specs.Prelude.{ℕ, ◌≡◌, ◌⊎◌, ◌≤◌, ◌&&◌, Bool, true, ltb, List, [], ◌∷◌, All, Some, filter}
+use Rattle.std.specs.List.{flat_map}
+use Rattle.words.specs.Words.{IsFactor, IsOver, IsProperPrefix, degree_of}
+use Rattle.free_poly.specs.declared.term.Term.{Term}
+use Rattle.free_poly.specs.Terms.{IsSame, UsesLetters}
+use Rattle.free_poly.specs.Poly.{lead_of}
+use Rattle.ideal_laws.specs.Ideal.{IsElement, IsLeadingWord, IsMultiple, Multiple, terms_of}
+
+-- a generator, and then letters that are none
+abbrev pub IsModuleWord : ℕ → List ℕ → Type 0
+IsModuleWord free [] = ⊥
+IsModuleWord free (x ∷ w) = (free ≤ x) × IsOver free w
+
+-- no generator stands in its words
+abbrev pub IsIdealRelation : ℕ → List Term → Type 0
+IsIdealRelation free r = UsesLetters free r
+
+-- each of its words is a module word
+abbrev pub IsModuleRelation : ℕ → List Term → Type 0
+IsModuleRelation free r = All (λ t. IsModuleWord free t.word) r
+
+-- a relation of the one kind or the other
+abbrev pub IsShaped : ℕ → List Term → Type 0
+IsShaped free r = IsIdealRelation free r ⊎ IsModuleRelation free r
+
+-- whether no generator stands in the word
+abbrev pub is_free : ℕ → List ℕ → Bool
+is_free free [] = true
+is_free free (x ∷ w) = ltb x free && is_free free w
+
+-- whether none stands in the words
+abbrev pub has_free_words : ℕ → List Term → Bool
+has_free_words free [] = true
+has_free_words free (t ∷ f) = is_free free t.word && has_free_words free f
+
+-- the relations of the algebra
+abbrev pub ideal_relations : ℕ → List (List Term) → List (List Term)
+ideal_relations free relations = filter (has_free_words free) relations
+
+-- of degree d: a module relation with a free word behind it, or an ideal relation between a module word and a free word
+pub record IsModuleMultiple (p : ℕ) (weights : List ℕ) (free : ℕ)
+    (relations : List (List Term)) (d : ℕ) (m : Multiple) : Type 0 where
+  pub multiple : IsMultiple p weights relations d m
+  pub before : ((m.left ≡ []) × IsModuleRelation free m.relation)
+      ⊎ (IsModuleWord free m.left × IsIdealRelation free m.relation)
+  pub behind : IsOver free m.right
+
+-- K(d): f is the sum of some of these
+pub record IsInModule (p : ℕ) (weights : List ℕ) (free : ℕ)
+    (relations : List (List Term)) (d : ℕ) (f : List Term) : Type 0 where
+  pub element : IsElement p weights d f
+  pub multiples : List Multiple
+  pub each : All (IsModuleMultiple p weights free relations d) multiples
+  pub sum : IsSame p f (flat_map terms_of multiples)
+
+-- LK(d): the leading word of a member other than 0
+pub record IsModuleLead (p : ℕ) (weights : List ℕ) (free : ℕ)
+    (relations : List (List Term)) (d : ℕ) (w : List ℕ) : Type 0 where
+  pub member : List Term
+  pub inside : IsInModule p weights free relations d member
+  pub lead : lead_of member ≡ Some w
+
+-- a leading word of the module, no proper prefix of which is one; and no factor behind its generator is a leading word
+-- of the ideal of the ideal relations
+pub record IsModuleMinimal (p : ℕ) (weights : List ℕ) (free : ℕ)
+    (relations : List (List Term)) (w : List ℕ) : Type 0 where
+  pub leading : IsModuleLead p weights free relations (degree_of weights w) w
+  pub no_prefix : (v : List ℕ) → IsProperPrefix v w → IsModuleLead p weights free relations (degree_of weights v) v → ⊥
+  pub no_factor : (x : ℕ) (u v : List ℕ) → w ≡ x ∷ u → IsFactor v u
+      → IsLeadingWord p weights (ideal_relations free relations) (degree_of weights v) v → ⊥

@@ -1,0 +1,20 @@
+-- The reduced module basis of a degree.
+use Rattle.std.specs.Prelude.{ℕ, ◌≡◌, ◌↔◌, List, All, AllPairs, Contains, Some}
+use Rattle.free_poly.specs.declared.term.Term.{Term}
+use Rattle.free_poly.specs.Poly.{IsMonic, lead_of}
+use Rattle.ideal_laws.specs.Basis.{HasGreaterLead, below_lead}
+use Rattle.right_modules.specs.Module.{IsInModule, IsModuleLead, IsModuleMinimal}
+
+-- monic, with a minimal leading word, and no other word is a leading word of the module
+pub record IsModuleReduced (p : ℕ) (weights : List ℕ) (free : ℕ)
+    (relations : List (List Term)) (d : ℕ) (f : List Term) : Type 0 where
+  pub inside : IsInModule p weights free relations d f
+  pub monic : IsMonic f
+  pub minimal : (w : List ℕ) → lead_of f ≡ Some w → IsModuleMinimal p weights free relations w
+  pub others : All (λ t. IsModuleLead p weights free relations d t.word → ⊥) (below_lead f)
+
+-- exactly the reduced members, by falling leading word
+pub record IsModuleBasis (p : ℕ) (weights : List ℕ) (free : ℕ)
+    (relations : List (List Term)) (d : ℕ) (basis : List (List Term)) : Type 0 where
+  pub exactly : (f : List Term) → Contains basis f ↔ IsModuleReduced p weights free relations d f
+  pub falling : AllPairs HasGreaterLead basis
