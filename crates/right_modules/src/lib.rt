@@ -2,6 +2,8 @@
 //! front alone, the module's leading words and reduced elements are those of the ideal that lead with a module word.
 #![tactic(auto)]
 
+mod laws;
 mod module;
 
+pub use laws::module_laws;
 pub use module::{ModuleBasis, ModuleDegree, ModuleFault};
