@@ -1,11 +1,12 @@
 -- What a call tells of a right module up to a degree.
-use Rattle.std.specs.Prelude.{ℕ, ◌≡◌, ◌+◌, ◌-◌, ◌<◌, ◌≤◌, List, [], All, length, slice_index, slice_index_or, take}
+use Rattle.std.specs.Prelude.{ℕ, ◌≡◌, ◌+◌, ◌-◌, ◌<◌, ◌≤◌, List, [], All, filter, length, slice_index, slice_index_or, take}
 use Rattle.free_poly.specs.declared.term.Term.{Term}
 use Rattle.ideal_laws.specs.declared.presentation.Presentation.{Presentation}
+use Rattle.ideal_laws.specs.Engine.{Elements, of_degree}
 use Rattle.right_modules.specs.declared.module.ModuleDegree.{ModuleDegree}
 use Rattle.right_modules.specs.Laws.{AreOutside}
 use Rattle.right_modules.specs.Module.{IsShaped}
-use Rattle.right_modules.specs.ModuleBasis.{IsModuleBasis}
+use Rattle.right_modules.specs.ModuleBasis.{IsModuleBasis, leads_module}
 use Rattle.right_modules.specs.ModuleDimension.{IsModuleCoefficient}
 
 -- how many letters are no generators, which are the last so many
@@ -26,6 +27,13 @@ pub record AreModuleDegrees (p : ℕ) (given : Presentation) (gens bound : ℕ) 
   pub numbered : (k : ℕ) (m : ModuleDegree) → k < bound → (slice_index_or degrees k m).degree ≡ k + 1
   pub each : (k : ℕ) (m : ModuleDegree) → k < bound
       → IsModuleBasisOf p given gens (k + 1) (slice_index_or degrees k m).elements
+
+-- degrees 1 to the bound, in order, each with the elements of a basis that lead with a module word
+pub record ArePartsUpto (free : ℕ) (basis : Elements) (bound : ℕ) (degrees : List ModuleDegree) : Type 0 where
+  pub size : length degrees ≡ bound
+  pub numbered : (k : ℕ) (m : ModuleDegree) → k < bound → (slice_index_or degrees k m).degree ≡ k + 1
+  pub each : (k : ℕ) (m : ModuleDegree) → k < bound
+      → (slice_index_or degrees k m).elements ≡ filter (leads_module free) (of_degree basis.weights (k + 1) basis.elements)
 
 -- the coefficients of degrees 0 to the bound
 pub record AreModuleNumbers (p : ℕ) (given : Presentation) (gens bound : ℕ) (numbers : List ℕ) : Type 0 where

@@ -1,5 +1,5 @@
 -- Right modules. The letters below `free` are those of the algebra, and the others are the generators.
-use Rattle.std.specs.Prelude.{ℕ, ◌≡◌, ◌⊎◌, ◌≤◌, ◌&&◌, Bool, true, ltb, List, [], ◌∷◌, All, Some, filter}
+use Rattle.std.specs.Prelude.{ℕ, ◌≡◌, ◌⊎◌, ◌≤◌, ◌&&◌, Bool, true, false, leb, ltb, List, [], ◌∷◌, All, Some, filter}
 use Rattle.std.specs.List.{flat_map}
 use Rattle.words.specs.Words.{IsFactor, IsOver, IsProperPrefix, degree_of}
 use Rattle.free_poly.specs.declared.term.Term.{Term}
@@ -29,7 +29,12 @@ abbrev pub is_free : ℕ → List ℕ → Bool
 is_free free [] = true
 is_free free (x ∷ w) = ltb x free && is_free free w
 
--- whether none stands in the words
+-- whether a word is a module word
+abbrev pub is_module_word : ℕ → List ℕ → Bool
+is_module_word free [] = false
+is_module_word free (x ∷ w) = leb free x && is_free free w
+
+-- whether no generator stands in the words of a polynomial
 abbrev pub has_free_words : ℕ → List Term → Bool
 has_free_words free [] = true
 has_free_words free (t ∷ f) = is_free free t.word && has_free_words free f

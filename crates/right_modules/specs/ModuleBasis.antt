@@ -1,9 +1,14 @@
 -- The reduced module basis of a degree.
-use Rattle.std.specs.Prelude.{ℕ, ◌≡◌, ◌↔◌, List, All, AllPairs, Contains, Some}
+use Rattle.std.specs.Prelude.{ℕ, ◌≡◌, ◌↔◌, Bool, false, List, [], ◌∷◌, All, AllPairs, Contains, Some}
 use Rattle.free_poly.specs.declared.term.Term.{Term}
 use Rattle.free_poly.specs.Poly.{IsMonic, lead_of}
 use Rattle.ideal_laws.specs.Basis.{HasGreaterLead, below_lead}
-use Rattle.right_modules.specs.Module.{IsInModule, IsModuleLead, IsModuleMinimal}
+use Rattle.right_modules.specs.Module.{IsInModule, IsModuleLead, IsModuleMinimal, is_module_word}
+
+-- whether the first word is a module word
+abbrev pub leads_module : ℕ → List Term → Bool
+leads_module free [] = false
+leads_module free (t ∷ f) = is_module_word free t.word
 
 -- monic, with a minimal leading word, and no other word is a leading word of the module
 pub record IsModuleReduced (p : ℕ) (weights : List ℕ) (free : ℕ)

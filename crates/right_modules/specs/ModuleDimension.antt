@@ -1,15 +1,10 @@
 -- Dimension and coefficient of a right module in a degree.
-use Rattle.std.specs.Prelude.{ℕ, ◌≡◌, ◌+◌, ◌&&◌, Bool, false, leb, List, [], ◌∷◌, All, length, filter}
+use Rattle.std.specs.Prelude.{ℕ, ◌≡◌, ◌+◌, List, All, length, filter}
 use Rattle.words.specs.Words.{words_of_degree}
 use Rattle.free_poly.specs.declared.term.Term.{Term}
 use Rattle.free_poly.specs.Terms.{IsSame}
 use Rattle.ideal_laws.specs.Dimension.{AreFactors, IsIndependent, combination}
-use Rattle.right_modules.specs.Module.{IsInModule, is_free}
-
--- whether a word is a module word
-abbrev pub is_module_word : ℕ → List ℕ → Bool
-is_module_word free [] = false
-is_module_word free (x ∷ w) = leb free x && is_free free w
+use Rattle.right_modules.specs.Module.{IsInModule, is_module_word}
 
 -- the module words of a degree
 abbrev pub module_words : List ℕ → ℕ → ℕ → List (List ℕ)

@@ -2,8 +2,10 @@
 //! front alone, the module's leading words and reduced elements are those of the ideal that lead with a module word.
 #![tactic(auto)]
 
+mod elements;
 mod laws;
 mod module;
+mod shape;
 
 pub use laws::module_laws;
 pub use module::{ModuleBasis, ModuleDegree, ModuleFault};
