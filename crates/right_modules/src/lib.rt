@@ -3,6 +3,7 @@
 #![tactic(auto)]
 
 mod elements;
+mod extended;
 mod laws;
 mod module;
 mod shape;

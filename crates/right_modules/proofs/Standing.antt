@@ -1,0 +1,110 @@
+-- Whether a word of an index stands in a word, and the words in which none does.
+use Rattle.std.proofs.Common.{◌≡◌, ◌+◌, ◌++◌, ◌<◌, ◌≤◌, ◌∙◌, ℕ, zero, suc, Bool, true, false, cond, List, [], ◌∷◌, ap, append_assoc, arith, get_or, inl, inr, length, length-append, refl, subst, sym, take}
+use Rattle.std.specs.List.{Contains, flat_map}
+use Rattle.std.proofs.lemmas.Bool.{cases_Bool}
+use Rattle.std.proofs.lemmas.Grind.{flat_map-append}
+use Rattle.std.proofs.lemmas.List.{append-nil, take_more}
+use Rattle.std.proofs.lemmas.List.Elements.{All-contains}
+use Rattle.std.proofs.lemmas.List.Folds.{length-flat_map-take}
+use Rattle.words.specs.Words.{OccursAt}
+use Rattle.words.proofs.Members.{All-from_members, Contains-cases, Contains-first, Contains-flat_map, Contains-flat_map_cases, Contains-none}
+use Rattle.lead_index.specs.declared.lead.Lead.{Lead}
+use Rattle.lead_index.specs.Leads.{IsFirstReducer, IsFree}
+use Rattle.normal_words.specs.Block.{begins}
+use Rattle.normal_words.proofs.Blocks.{IsFree-cons, IsFree-tail, begins_free, free_of_begins}
+use Rattle.right_modules.specs.Extended.{extended, stands, unless_stands}
+
+-- in a free word no word of the index stands
+pub stands-free : (leads : List Lead) (w : List ℕ) → IsFree leads w → stands leads w ≡ false
+stands-free leads [] h = begins_free leads [] (h 0)
+stands-free leads (x ∷ w) h = ap (λ (b : Bool). cond b true (stands leads w)) (begins_free leads (x ∷ w) (h 0)) ∙ stands-free leads w (IsFree-tail leads x w h)
+
+none-free : (leads : List Lead) → begins leads [] ≡ false → IsFree leads []
+none-free leads e zero = free_of_begins leads [] e
+none-free leads e (suc k) = All-from_members (λ l. OccursAt l.word [] (suc k) → ⊥) leads (λ l m o. omega (arith, o.within))
+
+-- and a word in which none stands is free
+pub free_from_stands : (leads : List Lead) (w : List ℕ) → stands leads w ≡ false → IsFree leads w
+free_from_stands leads [] e = none-free leads e
+free_from_stands leads (x ∷ w) e = elim (cases_Bool (begins leads (x ∷ w))) [
+  | inl is ↦ let no : true ≡ false = sym (ap (λ (b : Bool). cond b true (stands leads w)) is) ∙ e in cc no
+  | inr other ↦
+      IsFree-cons leads x w (free_of_begins leads (x ∷ w) other) (free_from_stands leads w (sym (ap (λ (b : Bool). cond b true (stands leads w)) other) ∙ e))
+]
+
+-- a free word is kept
+pub unless_stands-free : (leads : List Lead) (w : List ℕ) → IsFree leads w → unless_stands leads w ≡ w ∷ []
+unless_stands-free leads w h = ap (λ (b : Bool). cond b [] (w ∷ [])) (stands-free leads w h)
+
+-- a word with a reducer is not
+pub unless_stands-met : (leads : List Lead) (w : List ℕ) (at element : ℕ) → IsFirstReducer leads w at element → unless_stands leads w ≡ []
+unless_stands-met leads w at element r = elim (cases_Bool (stands leads w)) [
+  | inl is ↦ ap (λ (b : Bool). cond b [] (w ∷ [])) is
+  | inr other ↦ absurd (All-contains (λ l. OccursAt l.word w at → ⊥) leads r.starts.lead (free_from_stands leads w other at) r.starts.among r.starts.here)
+]
+
+one_cases : (b : Bool) (v w : List ℕ) → Contains (cond b [] (v ∷ [])) w → (b ≡ false) × (v ≡ w)
+one_cases true v w m = absurd (Contains-none w m)
+one_cases false v w m = elim (Contains-cases v [] w m) [
+  | inl e ↦ (refl, e)
+  | inr n ↦ absurd (Contains-none w n)
+]
+
+-- what is kept is free
+pub unless_stands-says : (leads : List Lead) (v w : List ℕ) → Contains (unless_stands leads v) w → IsFree leads v × (v ≡ w)
+unless_stands-says leads v w m = let r = one_cases (stands leads v) v w m in (free_from_stands leads v r.0, r.1)
+
+-- what is free is kept
+pub unless_stands-has : (leads : List Lead) (w : List ℕ) → IsFree leads w → Contains (unless_stands leads w) w
+unless_stands-has leads w h = subst (λ (ws : List (List ℕ)). Contains ws w) (sym (unless_stands-free leads w h)) (Contains-first w [])
+
+module _ (leads : List Lead) (x : ℕ) where
+  -- a word that is extended by the letter
+  pub record IsExtended (fronts : List (List ℕ)) (w : List ℕ) : Type 0 where
+    pub front : List ℕ
+    pub among : Contains fronts front
+    pub is : front ++ x ∷ [] ≡ w
+    pub free : IsFree leads w
+
+  -- what the extended words are
+  pub extended-says : (fronts : List (List ℕ)) (w : List ℕ) → Contains (extended leads x fronts) w → IsExtended fronts w
+  extended-says fronts w m =
+      let r = Contains-flat_map_cases (λ v. unless_stands leads (v ++ x ∷ [])) fronts w m in
+      let s = unless_stands-says leads (r.0 ++ x ∷ []) w r.2 in
+      record { front = r.0; among = r.1; is = s.1; free = subst (IsFree leads) s.1 s.0 }
+
+  -- and which words they have
+  pub extended-has : (fronts : List (List ℕ)) (v : List ℕ) → Contains fronts v → IsFree leads (v ++ x ∷ []) → Contains (extended leads x fronts) (v ++ x ∷ [])
+  extended-has fronts v m h =
+      Contains-flat_map (λ u. unless_stands leads (u ++ x ∷ [])) fronts v (v ++ x ∷ []) m (unless_stands-has leads (v ++ x ∷ []) h)
+
+  extended-more : (fronts : List (List ℕ)) (i : ℕ) (v : List ℕ) → i < length fronts → v ≡ get_or fronts i v
+      → extended leads x (take (i + 1) fronts) ≡ extended leads x (take i fronts) ++ unless_stands leads (v ++ x ∷ [])
+  extended-more fronts i v lt e =
+      ap (extended leads x) (take_more fronts i v lt ∙ ap (λ (u : List ℕ). take i fronts ++ u ∷ []) (sym e))
+      ∙ flat_map-append (λ u. unless_stands leads (u ++ x ∷ [])) (take i fronts) (v ∷ [])
+      ∙ ap (λ (us : List (List ℕ)). extended leads x (take i fronts) ++ us) (append-nil (unless_stands leads (v ++ x ∷ [])))
+
+  -- the words so far, with what one more word gives
+  pub extended-step : (old words new fronts : List (List ℕ)) (i : ℕ) (v w : List ℕ) → i < length fronts → v ≡ get_or fronts i v → w ≡ v ++ x ∷ []
+      → words ≡ old ++ extended leads x (take i fronts) → new ≡ words ++ unless_stands leads w → new ≡ old ++ extended leads x (take (i + 1) fronts)
+  extended-step old words new fronts i v w lt e is so_far grown =
+      grown ∙ ap (λ (us : List (List ℕ)). us ++ unless_stands leads w) so_far ∙ append_assoc old (extended leads x (take i fronts)) (unless_stands leads w)
+      ∙ ap (λ (us : List (List ℕ)). old ++ us) (ap (λ (u : List ℕ). extended leads x (take i fronts) ++ unless_stands leads u) is ∙ sym (extended-more fronts i v lt e))
+
+  -- all extended words are no fewer than those so far with one more
+  pub extended-longer : (old words fronts : List (List ℕ)) (i most : ℕ) (v w : List ℕ) → i < length fronts → v ≡ get_or fronts i v → w ≡ v ++ x ∷ []
+      → words ≡ old ++ extended leads x (take i fronts) → most < length (words ++ unless_stands leads w) → most < length (old ++ extended leads x fronts)
+  extended-longer old words fronts i most v w lt e is so_far more =
+      let one : length (unless_stands leads w) ≡ length (unless_stands leads (get_or fronts i v ++ x ∷ [])) =
+      ap (λ (u : List ℕ). length (unless_stands leads u)) (is ∙ ap (λ (u : List ℕ). u ++ x ∷ []) e) in
+      omega (
+        arith,
+        ap length so_far,
+        length-append old (extended leads x (take i fronts)),
+        length-append old (extended leads x fronts),
+        length-append words (unless_stands leads w),
+        length-flat_map-take (λ u. unless_stands leads (u ++ x ∷ [])) fronts i v lt,
+        one,
+        more,
+      )

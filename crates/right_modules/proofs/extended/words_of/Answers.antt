@@ -1,0 +1,41 @@
+use Rattle.std.proofs.Common.{◌≡◌, ◌∙◌, Err, ap, arith, length, subst, sym, take}
+use Rattle.std.specs.List.{flat_map, range_with_len}
+use Rattle.std.proofs.lemmas.List.{take_all}
+use Rattle.std.proofs.lemmas.List.FromFn.{length-range_with_len}
+use Rattle.std.proofs.lemmas.Result.{err_from_is_err_and}
+use Rattle.normal_words.proofs.Blocks.{one_fault}
+use Rattle.right_modules.specs.Extended.{AreNormal, ending}
+use Rattle.right_modules.proofs.Endings.{endings, endings-longer, endings-step, endings_normal, held_short}
+use Rattle.right_modules.proofs.extended.words_of.Goals as goal
+
+pub push_ending-requires-clause-room : goal.push_ending-requires-clause-room
+push_ending-requires-clause-room c =
+    let a = c.args in
+    held_short a.alphabet.now.weights c.len-letters.ensures.alphabet.weights a.free a.index.now a.d a.held.now c.requires.held c.requires.room
+
+pub returns-in_err-push_ending-clause-many : goal.returns-in_err-push_ending-clause-many
+returns-in_err-push_ending-clause-many c = λ e.
+    let a = c.args in
+    let aw = c.len-letters.ensures.alphabet.weights in
+    let p = err_from_is_err_and c.from_residual.result c.from_residual.ensures.1 in
+    let more = c.in_err-push_ending.ensures.many (ap Err (sym p.2 ∙ one_fault c.from_residual.result _ _ p.1 e)) in (
+      endings a.alphabet.now.weights a.free a.index.now a.d a.held.now,
+      endings_normal a.alphabet.now.weights aw a.free a.index.now a.d a.held.now c.requires.held,
+      endings-longer a.alphabet.now.weights aw a.free a.index.now a.d a.held.now c.requires.held a.most _ c.loop-letter.letter (omega (arith, c.len-letters.ensures.count)) c.loop-letter.invariant.0 more,
+    )
+
+pub loop-letter-preserved : goal.loop-letter-preserved
+loop-letter-preserved c =
+    let a = c.args in (
+      endings-step a.alphabet.now.weights c.len-letters.ensures.alphabet.weights a.free a.index.now a.d a.held.now c.requires.held _ _ c.loop-letter.letter
+          (omega (arith, c.len-letters.ensures.count)) c.loop-letter.invariant.0 c.in_ok-push_ending.ensures.words,
+      c.in_ok-push_ending.ensures.within,
+    )
+
+pub returns-clause-words : goal.returns-clause-words
+returns-clause-words c =
+    let a = c.args in
+    let weights = a.alphabet.now.weights in
+    let last = take_all c.loop-letter.letter (range_with_len 0 (length weights)) (omega (arith, c.len-letters.ensures.count, length-range_with_len 0 (length weights))) in
+    subst (AreNormal weights a.free a.index.now a.d) (sym (c.loop-letter.invariant.0 ∙ ap (flat_map (ending weights a.free a.index.now a.d a.held.now)) last))
+    (endings_normal weights c.len-letters.ensures.alphabet.weights a.free a.index.now a.d a.held.now c.requires.held)

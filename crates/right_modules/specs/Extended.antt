@@ -1,0 +1,36 @@
+-- The normal module words of a degree, by those of the degrees before and their last letter.
+use Rattle.std.specs.Prelude.{ℕ, ◌≡◌, ◌≢◌, ◌+◌, ◌-◌, ◌==◌, ◌<◌, ◌↔◌, Bool, true, cond, ltb, min, List, [], ◌∷◌, ◌++◌, AllPairs, Contains, length, slice_index_or}
+use Rattle.std.specs.List.{flat_map}
+use Rattle.words.specs.Words.{weight_of}
+use Rattle.lead_index.specs.declared.lead.Lead.{Lead}
+use Rattle.lead_index.specs.Leads.{IsFree}
+use Rattle.normal_words.specs.Block.{begins}
+use Rattle.right_modules.specs.ModuleDimension.{module_words}
+
+-- exactly the module words of the degree in which no word of the index stands, each once
+pub record AreNormal (weights : List ℕ) (free : ℕ) (leads : List Lead) (d : ℕ) (words : List (List ℕ)) : Type 0 where
+  pub exactly : (w : List ℕ) → Contains words w ↔ (Contains (module_words weights free d) w × IsFree leads w)
+  pub apart : AllPairs (λ v w. v ≢ w) words
+
+-- those of the degrees before d, at most 8 of them, the last one first
+pub record AreHeld (weights : List ℕ) (free : ℕ) (leads : List Lead) (d : ℕ) (held : List (List (List ℕ))) : Type 0 where
+  pub count : length held ≡ min d 8
+  pub each : (k e : ℕ) → k < length held → e + k + 1 ≡ d → AreNormal weights free leads e (slice_index_or held k [])
+
+-- whether a word of the index stands in the word
+abbrev pub stands : List Lead → List ℕ → Bool
+stands leads [] = begins leads []
+stands leads (x ∷ w) = cond (begins leads (x ∷ w)) true (stands leads w)
+
+-- the word, where no word of the index stands in it
+abbrev pub unless_stands : List Lead → List ℕ → List (List ℕ)
+unless_stands leads w = cond (stands leads w) [] (w ∷ [])
+
+-- each of the words with the letter behind it, but for those in which a word of the index stands
+abbrev pub extended : List Lead → ℕ → List (List ℕ) → List (List ℕ)
+extended leads x words = flat_map (λ w. unless_stands leads (w ++ x ∷ [])) words
+
+-- the words of degree d that end with the letter: a generator alone, or a word before it with a free letter
+abbrev pub ending : List ℕ → ℕ → List Lead → ℕ → List (List (List ℕ)) → ℕ → List (List ℕ)
+ending weights free leads d held x = cond (ltb x free) (extended leads x (slice_index_or held (weight_of weights x - 1) []))
+    (cond (weight_of weights x == d) (unless_stands leads (x ∷ [])) [])
