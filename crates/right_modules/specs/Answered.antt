@@ -1,13 +1,22 @@
 -- What a call tells of a right module up to a degree.
 use Rattle.std.specs.Prelude.{ℕ, ◌≡◌, ◌+◌, ◌-◌, ◌<◌, ◌≤◌, List, [], All, filter, length, slice_index, slice_index_or, take}
 use Rattle.free_poly.specs.declared.term.Term.{Term}
+use Rattle.ideal_laws.specs.declared.engine.EngineFault.{EngineFault}
+use Rattle.ideal_laws.specs.declared.engine.EngineFault.TheVariants as engine
 use Rattle.ideal_laws.specs.declared.presentation.Presentation.{Presentation}
 use Rattle.ideal_laws.specs.Engine.{Elements, of_degree}
 use Rattle.right_modules.specs.declared.module.ModuleDegree.{ModuleDegree}
+use Rattle.right_modules.specs.declared.module.ModuleFault.{ModuleFault}
+use Rattle.right_modules.specs.declared.module.ModuleFault.TheVariants as own
 use Rattle.right_modules.specs.Laws.{AreOutside}
 use Rattle.right_modules.specs.Module.{IsShaped}
 use Rattle.right_modules.specs.ModuleBasis.{IsModuleBasis, leads_module}
 use Rattle.right_modules.specs.ModuleDimension.{IsModuleCoefficient}
+
+-- what a fault of the engine is for the module
+abbrev pub fault_of : EngineFault → ModuleFault
+fault_of (engine.Limit kind degree value) = own.Limit kind degree value
+fault_of engine.NoMemory = own.NoMemory
 
 -- how many letters are no generators, which are the last so many
 abbrev pub free_letters : Presentation → ℕ → ℕ

@@ -1,10 +1,14 @@
 -- The normal module words of a degree, by those of the degrees before and their last letter.
-use Rattle.std.specs.Prelude.{ℕ, ◌≡◌, ◌≢◌, ◌+◌, ◌-◌, ◌==◌, ◌<◌, ◌↔◌, Bool, true, cond, ltb, min, List, [], ◌∷◌, ◌++◌, AllPairs, Contains, length, slice_index_or}
+use Rattle.std.specs.Prelude.{ℕ, ◌≡◌, ◌≢◌, ◌+◌, ◌-◌, ◌==◌, ◌<◌, ◌≤◌, ◌↔◌, Bool, true, cond, ltb, min, List, [], ◌∷◌, ◌++◌, AllPairs, Contains, length, slice_index_or}
 use Rattle.std.specs.List.{flat_map}
 use Rattle.words.specs.Words.{weight_of}
+use Rattle.ideal_laws.specs.declared.presentation.Presentation.{Presentation}
 use Rattle.lead_index.specs.declared.lead.Lead.{Lead}
 use Rattle.lead_index.specs.Leads.{IsFree}
 use Rattle.normal_words.specs.Block.{begins}
+use Rattle.right_modules.specs.Answered.{free_letters}
+use Rattle.right_modules.specs.Laws.{IsModuleSetting}
+use Rattle.right_modules.specs.Module.{IsModuleLead}
 use Rattle.right_modules.specs.ModuleDimension.{module_words}
 
 -- exactly the module words of the degree in which no word of the index stands, each once
@@ -16,6 +20,12 @@ pub record AreNormal (weights : List ℕ) (free : ℕ) (leads : List Lead) (d : 
 pub record AreHeld (weights : List ℕ) (free : ℕ) (leads : List Lead) (d : ℕ) (held : List (List (List ℕ))) : Type 0 where
   pub count : length held ≡ min d 8
   pub each : (k e : ℕ) → k < length held → e + k + 1 ≡ d → AreNormal weights free leads e (slice_index_or held k [])
+
+-- up to the bound the module words that are no leading words of the module are those in which no word of the index stands
+pub record TellsOutside (p : ℕ) (given : Presentation) (gens bound : ℕ) (leads : List Lead) : Type 0 where
+  pub setting : IsModuleSetting p given.alphabet.weights (free_letters given gens) given.relations
+  pub says : (d : ℕ) (w : List ℕ) → d ≤ bound → Contains (module_words given.alphabet.weights (free_letters given gens) d) w
+      → (IsModuleLead p given.alphabet.weights (free_letters given gens) given.relations d w → ⊥) ↔ IsFree leads w
 
 -- whether a word of the index stands in the word
 abbrev pub stands : List Lead → List ℕ → Bool

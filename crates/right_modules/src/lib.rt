@@ -6,6 +6,7 @@ mod elements;
 mod extended;
 mod laws;
 mod module;
+mod numbers;
 mod shape;
 
 pub use laws::module_laws;

@@ -1,5 +1,9 @@
+ghost use Rattle.std.specs.Prelude.{◌≡◌};
+ghost use Rattle.right_modules.specs.Answered.{fault_of};
+
 use free_poly::Poly;
-use ideal_laws::LimitKind;
+use ideal_laws::{EngineFault, LimitKind};
+use std::alloc::AllocError;
 use words::Items;
 
 /// The elements of a degree, by falling leading word.
@@ -29,4 +33,33 @@ pub enum ModuleFault {
         value: u64,
     },
     NoMemory,
+}
+
+impl From<AllocError> for ModuleFault {
+    ghost use Rattle.right_modules.specs.declared.module.ModuleFault.TheVariants.{NoMemory};
+
+    ghost from_gives = { λ _ fault. fault ≡ NoMemory };
+
+    fn from(_error: AllocError) -> ModuleFault {
+        ModuleFault::NoMemory
+    }
+}
+
+impl From<EngineFault> for ModuleFault {
+    ghost from_gives = { λ fault own. own ≡ fault_of fault };
+
+    fn from(fault: EngineFault) -> ModuleFault {
+        match fault {
+            EngineFault::Limit {
+                kind,
+                degree,
+                value,
+            } => ModuleFault::Limit {
+                kind,
+                degree,
+                value,
+            },
+            EngineFault::NoMemory => ModuleFault::NoMemory,
+        }
+    }
 }
