@@ -1,10 +1,10 @@
 -- The words of all last letters are the normal module words of the degree.
-use Rattle.std.proofs.Common.{◌≡◌, ◌≢◌, ◌+◌, ◌-◌, ◌==◌, ◌++◌, ◌<◌, ◌≤◌, ◌∙◌, ℕ, zero, suc, min, Bool, true, false, cond, ltb, List, [], ◌∷◌, All, AllPairs, ap, arith, drop, eq-eqb, get_or, inl, inr, length, length-append, refl, subst, sym, take}
+use Rattle.std.proofs.Common.{◌≡◌, ◌≢◌, ◌+◌, ◌-◌, ◌==◌, ◌++◌, ◌<◌, ◌≤◌, ◌∙◌, ℕ, Bool, true, false, cond, ltb, List, [], ◌∷◌, All, AllPairs, ap, arith, drop, eq-eqb, get_or, inl, inr, length, length-append, refl, subst, sym, take}
 use Rattle.std.specs.List.{Contains, flat_map, range_with_len}
 use Rattle.std.proofs.lemmas.Bool.{cases_lt, eqb-true, le-ltb, lt-ltb, ltb-false, ltb-true}
 use Rattle.std.proofs.lemmas.Grind.{flat_map-append}
 use Rattle.std.proofs.lemmas.List.{append-nil, drop-append-le, get_or_default, get_or_past, length-drop, take-append-le, take_more}
-use Rattle.std.proofs.lemmas.List.Elements.{All-append, All-cons, All-contains, All-head, All-nil, All-tail}
+use Rattle.std.proofs.lemmas.List.Elements.{All-append, All-cons, All-contains, All-head, All-nil}
 use Rattle.std.proofs.lemmas.List.Folds.{length-flat_map-take}
 use Rattle.std.proofs.lemmas.List.FromFn.{get_or-range_with_len, length-range_with_len}
 use Rattle.std.proofs.lemmas.List.Kept.{AllPairs-cons}
@@ -21,7 +21,7 @@ use Rattle.right_modules.specs.Module.{IsModuleWord, is_module_word}
 use Rattle.right_modules.specs.ModuleDimension.{module_words}
 use Rattle.right_modules.proofs.Filters.{filter-says, in_filter}
 use Rattle.right_modules.proofs.Shapes.{is_module_word-is, is_module_word-says}
-use Rattle.right_modules.proofs.Standing.{IsExtended, extended-has, extended-says, unless_stands-has, unless_stands-says}
+use Rattle.right_modules.proofs.Standing.{extended-has, extended-says, unless_stands-has, unless_stands-says}
 
 -- two words with a letter behind them are one where the words and the letters are
 pub same_ends : (u v : List ℕ) (x y : ℕ) → u ++ x ∷ [] ≡ v ++ y ∷ [] → (u ≡ v) × (x ≡ y)

@@ -10,4 +10,4 @@ mod numbers;
 mod shape;
 
 pub use laws::module_laws;
-pub use module::{ModuleBasis, ModuleDegree, ModuleFault};
+pub use module::{ModuleBasis, ModuleDegree, ModuleFault, module_basis};
