@@ -1,0 +1,13 @@
+pub mod Ends
+pub mod Tips
+pub mod Mates
+pub mod EvenOdd
+pub mod Minimals
+pub mod Stands
+pub mod Extensions
+pub mod ChainOrder
+pub mod BasisChains
+pub mod BasisTips
+pub mod Members
+pub mod Fitting
+pub mod Nexts
