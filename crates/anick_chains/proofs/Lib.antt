@@ -11,3 +11,5 @@ pub mod BasisTips
 pub mod Members
 pub mod Fitting
 pub mod Nexts
+pub mod Indexed
+pub mod Runs

@@ -71,3 +71,7 @@ module _ (tips : List (List ℕ)) where
   pub stands-free : (w : List ℕ) → stands tips w ≡ false → HasTip (Contains tips) w → ⊥
   stands-free w e h =
       let t : stands tips w ≡ true = ap (stands tips) h.inside.joined ∙ stands-is h.inside.before h.tip h.inside.after h.is_tip in cc
+
+  -- where a tip stands the test says so
+  pub stands-has : (w : List ℕ) → HasTip (Contains tips) w → stands tips w ≡ true
+  stands-has w h = ap (stands tips) h.inside.joined ∙ stands-is h.inside.before h.tip h.inside.after h.is_tip

@@ -3,6 +3,8 @@
 #![tactic(auto)]
 
 mod listing;
+mod next;
+mod place;
 
 ghost use Rattle.anick_chains.specs.BasisTips.{HasMinimalChains};
 ghost use Rattle.anick_chains.specs.Laws.{HasExtensions, HasListedMates, HasMates, IsPairing};
