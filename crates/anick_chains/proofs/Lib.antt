@@ -13,3 +13,5 @@ pub mod Fitting
 pub mod Nexts
 pub mod Indexed
 pub mod Runs
+pub mod LastPieces
+pub mod ChainsAt

@@ -56,7 +56,8 @@ module _ (T : List ℕ → Type 0) (names : ℕ) where
       (next_of_last p e.front e.last q (subst (λ (rs : List (List ℕ)). AreNext T names p (rs ++ q ∷ [])) e.is h.1))
 
   module _ (tips : AreTips T) where
-    letter_free : (x : ℕ) → (T (x ∷ []) → ⊥) → HasTip T (x ∷ []) → ⊥
+    -- a letter that is no tip contains none
+    pub letter_free : (x : ℕ) → (T (x ∷ []) → ⊥) → HasTip T (x ∷ []) → ⊥
     letter_free x other h = by_parts h.inside.before h.tip h.inside.after h.is_tip h.inside.joined
       where
         by_parts : (u v w : List ℕ) → T v → x ∷ [] ≡ u ++ v ++ w → ⊥

@@ -49,21 +49,25 @@ last_piece [] = []
 last_piece (q ∷ []) = q
 last_piece (q ∷ r ∷ qs) = last_piece (r ∷ qs)
 
--- the letter as a chain, in a list, if it has the degree d and is no tip
-abbrev pub letter_chain : List ℕ → List (List Term) → ℕ → ℕ → List (List (List ℕ))
-letter_chain weights G d x =
-    cond ((weight_of weights x == d) && not (stands (leads_of G) (x ∷ []))) (((x ∷ []) ∷ []) ∷ []) []
+-- the letter as a word, in a list, if it has the degree d and is no tip
+abbrev pub free_letter : List ℕ → List (List Term) → ℕ → ℕ → List (List ℕ)
+free_letter weights G d x =
+    cond ((weight_of weights x == d) && not (stands (leads_of G) (x ∷ []))) ((x ∷ []) ∷ []) []
 
--- the letters of degree d that are no tips, as chains
-abbrev pub letter_chains : List ℕ → List (List Term) → ℕ → List (List (List ℕ))
-letter_chains weights G d = flat_map (letter_chain weights G d) (range_with_len 0 (length weights))
+-- the letters of degree d that are no tips, as words
+abbrev pub free_letters : List ℕ → List (List Term) → ℕ → List (List ℕ)
+free_letters weights G d = flat_map (free_letter weights G d) (range_with_len 0 (length weights))
 
--- the chains of degree d that have one piece more than this one
-abbrev pub longer : List ℕ → List (List Term) → ℕ → List (List ℕ) → List (List (List ℕ))
-longer weights G d c =
-    map (λ r. c ++ r ∷ [])
-    (next_pieces weights G (last_piece c) (degree_of weights (last_piece c) + (d - chain_degree weights c)))
+-- a list of pieces with one more, for each of these
+abbrev pub continued : List (List ℕ) → List (List ℕ) → List (List (List ℕ))
+continued front next = map (λ r. front ++ r ∷ []) next
+
+-- the pieces with which a chain has the degree d
+abbrev pub next_of : List ℕ → List (List Term) → ℕ → List (List ℕ) → List (List ℕ)
+next_of weights G d c =
+    next_pieces weights G (last_piece c) (degree_of weights (last_piece c) + (d - chain_degree weights c))
 
 -- the chains of degree d, from all chains of lower degrees
 abbrev pub chains_at : List ℕ → List (List Term) → ℕ → List (List (List ℕ)) → List (List (List ℕ))
-chains_at weights G d below = letter_chains weights G d ++ flat_map (longer weights G d) below
+chains_at weights G d below =
+    continued [] (free_letters weights G d) ++ flat_map (λ c. continued c (next_of weights G d c)) below
