@@ -15,3 +15,6 @@ pub mod Indexed
 pub mod Runs
 pub mod LastPieces
 pub mod ChainsAt
+pub mod Letters
+pub mod Sorted
+pub mod Steps

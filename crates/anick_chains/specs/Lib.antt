@@ -5,3 +5,4 @@ pub mod BasisTips
 pub mod Listing
 pub mod Listed
 pub mod Walk
+pub mod Compare

@@ -1,57 +1,126 @@
-ghost use Rattle.std.specs.Prelude.{◌≡◌, ◌≤◌, List, ℕ, Contains, IfOk, IsErrOf, length};
+ghost use Rattle.std.specs.Prelude.{◌≡◌, ◌-◌, ◌<◌, ◌≤◌, List, ℕ, Contains, IfOk, IsErrOf, OnOk, length};
+ghost use Rattle.std.specs.List.Sorted.{IsPermutation, IsSorted};
 ghost use Rattle.free_poly.specs.declared.term.Term.{Term};
 ghost use Rattle.ideal_laws.specs.Closure.{IsFactorFree};
 ghost use Rattle.ideal_laws.specs.Engine.{IsReducedUpto};
 ghost use Rattle.ideal_laws.specs.Ideal.{IsMinimal};
 ghost use Rattle.ideal_laws.specs.Laws.{IsSetting};
+ghost use Rattle.lead_index.specs.Leads.{IsIndexOf};
 ghost use Rattle.anick_chains.specs.BasisTips.{leads_of};
+ghost use Rattle.anick_chains.specs.Compare.{pieces_cmp};
 ghost use Rattle.anick_chains.specs.Listed.{AreListed};
-ghost use Rattle.anick_chains.specs.Listing.{IsFirstMany};
+ghost use Rattle.anick_chains.specs.Listing.{IsFirstMany, IsNumber};
 
+use crate::chain::{Chain, ChainFault};
+use crate::longer::{free_letters, push_continued, push_longer};
+use crate::order::compare;
 use ideal_laws::Basis;
+use lead_index::{LeadIndex, index_of};
 use std::alloc::Global;
-use words::{Alphabet, Items, Word};
-
-/// The pieces of a chain, and the sum of their degrees.
-#[derive(Debug, Drop)]
-pub struct Chain {
-    pub degree: u32,
-    pub pieces: Items<Word>,
-}
-
-/// Why the chains are not listed.
-#[derive(Debug, Drop)]
-pub enum ChainFault {
-    /// The first degree up to which there are more chains than were asked for.
-    TooMany { degree: u32 },
-    NoMemory,
-}
+use words::{Alphabet, Items, NoMemory};
 
 /// The chains up to the bound over the leading words of the basis, by degree, by length, and then by falling pieces.
 /// After Anick 1986, whose chains have their pieces in one word.
 pub fn chains(
-    _alloc: Global,
-    _alphabet: &Alphabet,
+    alloc: Global,
+    alphabet: &Alphabet,
     basis: &Basis,
     bound: u32,
     most: u32,
-) -> Result<Vec<Chain>, ChainFault>
+) -> Result<Items<Chain>, ChainFault>
     requires some { 1 ≤ bound }
     requires done { bound ≤ basis.now.done }
-    requires weights { basis.now.weights ≡ _alphabet.now.weights }
+    requires weights { basis.now.weights ≡ alphabet.now.weights }
     requires factor_free { IsFactorFree basis.now.elements }
 
-    ensures listed { IfOk result (λ found. AreListed (Contains (leads_of basis.now.elements)) (length basis.now.weights) basis.now.weights bound found.items) }
-    ensures within { IfOk result (λ found. length found.items ≤ most) }
+    ensures listed { IfOk result (λ found.
+        AreListed (Contains (leads_of basis.now.elements)) (length basis.now.weights) basis.now.weights bound found) }
+    ensures within { IfOk result (λ found. length found ≤ most) }
 
     // Where the basis is reduced, the tips are the minimal words.
-    ensures minimal { IfOk result (λ found. (p : ℕ) (relations : List (List Term)) → IsSetting p basis.now.weights relations → IsReducedUpto p relations basis.now
-        → AreListed (IsMinimal p basis.now.weights relations) (length basis.now.weights) basis.now.weights bound found.items) }
+    ensures minimal { IfOk result (λ found.
+        (p : ℕ) (relations : List (List Term)) → IsSetting p basis.now.weights relations
+        → IsReducedUpto p relations basis.now
+        → AreListed (IsMinimal p basis.now.weights relations) (length basis.now.weights) basis.now.weights bound found) }
 
     ensures many { (degree : ℕ) → IsErrOf result (ChainFault.TooMany degree)
         → IsFirstMany (Contains (leads_of basis.now.elements)) (length basis.now.weights) basis.now.weights bound most degree }
 {
+    let _letters = alphabet.len();
     let _done = basis.done();
-    let _numbers = (bound, most);
-    Err(ChainFault::NoMemory)
+    let index = index_of(alloc, basis)?;
+    let weights = weights_of(alloc, basis)?;
+    let mut found = Vec::new(alloc);
+    for degree in 1..bound + 1 {
+        push_degree(
+            alloc,
+            basis,
+            &index,
+            weights.as_slice(),
+            degree,
+            most,
+            &mut found,
+        )?;
+    }
+    Ok(Items::from_vec(found))
+}
+
+/// The weights of the letters.
+fn weights_of(alloc: Global, basis: &Basis) -> Result<Vec<u8>, NoMemory>
+    ensures { IfOk result (λ weights. weights.items ≡ basis.now.weights) }
+{
+    let mut weights = Vec::new(alloc);
+    for letter in 0..basis.letters() {
+        weights.push(basis.weight(letter as u8))?;
+    }
+    Ok(weights)
+}
+
+/// Appends the chains of a degree to those of the lower degrees.
+fn push_degree(
+    alloc: Global,
+    basis: &Basis,
+    index: &LeadIndex,
+    weights: &[u8],
+    degree: u32,
+    most: u32,
+    found: &mut Vec<Chain>,
+) -> Result<(), ChainFault>
+    requires index { IsIndexOf basis.now.elements index.now }
+    requires weights { weights.now ≡ basis.now.weights }
+    requires factor_free { IsFactorFree basis.now.elements }
+    requires some { 1 ≤ degree }
+    requires room { degree ≤ 64 }
+    requires below { AreListed (Contains (leads_of basis.now.elements)) (length basis.now.weights) basis.now.weights
+        (degree - 1) found.old.items }
+    requires few { length found.old.items ≤ most }
+
+    ensures listed { OnOk result
+        (AreListed (Contains (leads_of basis.now.elements)) (length basis.now.weights) basis.now.weights degree found.new.items) }
+    ensures within { OnOk result (length found.new.items ≤ most) }
+
+    ensures many { (d : ℕ) → IsErrOf result (ChainFault.TooMany d) → (d ≡ degree) × (n : ℕ)
+        × IsNumber (Contains (leads_of basis.now.elements)) (length basis.now.weights) basis.now.weights degree n × (most < n) }
+{
+    let _done = basis.done();
+    let room = most as usize - found.len();
+    let mut block = Vec::new(alloc);
+    let letters = free_letters(alloc, basis, index, degree)?;
+    push_continued(alloc, &[], letters, degree, room, &mut block)?;
+    for chain in found.as_slice() {
+        push_longer(
+            alloc, basis, index, weights, chain, degree, room, &mut block,
+        )?;
+    }
+    sort(weights, &mut block);
+    found.append(&mut block)?;
+    Ok(())
+}
+
+/// By length, and then by falling pieces.
+fn sort(weights: &[u8], block: &mut Vec<Chain>)
+    ensures same { IsPermutation block.old.items block.new.items }
+    ensures sorted { IsSorted (λ a b. pieces_cmp weights.now a.pieces b.pieces) block.new.items }
+{
+    block.sort_unstable_by(|a, b| compare(weights, a.pieces.as_slice(), b.pieces.as_slice()));
 }

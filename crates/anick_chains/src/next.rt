@@ -79,11 +79,11 @@ fn push_end(
     let both = Word::joined(alloc, piece, &next[..next.len().saturating_sub(1)])?;
     match index.first_reducer(both.letters()) {
         Some(_) => Ok(()),
-        None => push(alloc, next, found),
+        None => push_word(alloc, next, found),
     }
 }
 
-fn push(alloc: Global, word: &[u8], found: &mut Vec<Word>) -> Result<(), NoMemory>
+pub(crate) fn push_word(alloc: Global, word: &[u8], found: &mut Vec<Word>) -> Result<(), NoMemory>
     ensures { OnOk result (found.new.items ≡ found.old.items ++ word.now ∷ []) }
 {
     let word = Word::from_letters(alloc, word)?;

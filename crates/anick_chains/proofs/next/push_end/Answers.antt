@@ -19,4 +19,4 @@ returns c =
     let word : c.letters.result.now ≡ c.args.piece.now ++ take (length c.args.next.now - 1) c.args.next.now = search rules in
     let none : stands (leads_of b.elements) (c.args.piece.now ++ take (length c.args.next.now - 1) c.args.next.now) ≡ false =
     ap (stands (leads_of b.elements)) (sym word) ∙ stands-index b c.done-done.ensures.kept c.args.index.now c.requires.index c.letters.result.now c.in-None.ensures.place in
-    subst (λ (t : Bool). OnOk c.push.result (c.push.new.found.items ≡ c.args.found.now.items ++ cond t [] (c.args.next.now ∷ []))) (sym none) c.push.ensures
+    subst (λ (t : Bool). OnOk c.push_word.result (c.push_word.new.found.items ≡ c.args.found.now.items ++ cond t [] (c.args.next.now ∷ []))) (sym none) c.push_word.ensures
