@@ -13,7 +13,7 @@ use Rattle.overlaps.specs.Walk.{lead_word}
 use Rattle.anick_chains.specs.BasisTips.{leads_of}
 use Rattle.anick_chains.specs.Chains.{HasTip, IsChain, IsFirst, chain_degree}
 use Rattle.anick_chains.specs.Laws.{AreListedTips, IsExtension}
-use Rattle.anick_chains.specs.Walk.{chains_at, continued, free_letter, free_letters, last_piece, next_of, next_pieces, stands}
+use Rattle.anick_chains.specs.Walk.{chains_at, continued, free_letter, free_letters, last_piece, next_of, next_pieces, onward, stands}
 use Rattle.anick_chains.proofs.Ends.{IsEnded, same_ends}
 use Rattle.anick_chains.proofs.Extensions.{are_tips, extension_to_next, next_to_extension}
 use Rattle.anick_chains.proofs.LastPieces.{chain_ended, last_piece-is}
@@ -123,18 +123,15 @@ module _ (weights : List ℕ) (G : List (List Term)) (tips : AreListedTips (leng
           (omega (arith, e, chain_degree-ended weights c r, degree_of-positive weights aw r n.some))
 
   module _ (aw : AreWeights weights) (d : ℕ) (below : List (List (List ℕ))) (exactly : (c : List (List ℕ)) → Contains below c ↔ (IsChain T names c × (chain_degree weights c < d))) where
-    abbrev onward : List (List ℕ) → List (List (List ℕ))
-    onward c = continued c (next_of weights G d c)
-
     -- what is listed is a chain of the degree
     pub chains_at-says : (c : List (List ℕ)) → Contains (chains_at weights G d below) c → IsChain T names c × (chain_degree weights c ≡ d)
-    chains_at-says c m = elim (Contains-append_cases (continued [] (free_letters weights G d)) (flat_map onward below) c m) [
+    chains_at-says c m = elim (Contains-append_cases (continued [] (free_letters weights G d)) (flat_map (onward weights G d) below) c m) [
       | inl n ↦
           let r = continued-says [] (free_letters weights G d) c n in
           let f = free_letters-says d r.0 r.1 in
           subst (λ (x : List (List ℕ)). IsChain T names x × (chain_degree weights x ≡ d)) r.2 ((f.0, tt), omega (arith, f.1))
       | inr n ↦
-          let b = Contains-flat_map_cases onward below c n in
+          let b = Contains-flat_map_cases (onward weights G d) below c n in
           let r = continued-says b.0 (next_of weights G d b.0) c b.2 in
           let h = (exactly b.0).0 b.1 in
           subst (λ (x : List (List ℕ)). IsChain T names x × (chain_degree weights x ≡ d)) r.2 (next_of-says d b.0 h.0 h.1 r.0 r.1)
@@ -147,15 +144,15 @@ module _ (weights : List ℕ) (G : List (List Term)) (tips : AreListedTips (leng
         by_last : (f : List (List ℕ)) (r : List ℕ) → c ≡ f ++ r ∷ [] → IsChain T names (f ++ r ∷ []) → IsLast T names f r → Contains (chains_at weights G d below) c
         by_last f r is chain (alone none first) =
             let own : (r ∷ []) ≡ c = ap (λ (x : List (List ℕ)). x ++ r ∷ []) (sym none) ∙ sym is in
-            Contains-append_left (continued [] (free_letters weights G d)) (flat_map onward below) c
+            Contains-append_left (continued [] (free_letters weights G d)) (flat_map (onward weights G d) below) c
             (subst (Contains (continued [] (free_letters weights G d))) own
             (Contains-map (λ s. [] ++ s ∷ []) (free_letters weights G d) r (free_letters-is d r first (omega (arith, e, ap (chain_degree weights) own)))))
         by_last f r is chain (after rs q at k n) =
             let whole : chain_degree weights (f ++ r ∷ []) ≡ d = ap (chain_degree weights) (sym is) ∙ e in
             let less : chain_degree weights f < d = omega (arith, whole, chain_degree-ended weights f r, degree_of-positive weights aw r n.some) in
-            Contains-append_right (continued [] (free_letters weights G d)) (flat_map onward below) c
-            (Contains-flat_map onward below f c ((exactly f).1 (k, less))
-            (subst (Contains (onward f)) (sym is) (Contains-map (λ s. f ++ s ∷ []) (next_of weights G d f) r (next_of-is aw d f r k chain whole))))
+            Contains-append_right (continued [] (free_letters weights G d)) (flat_map (onward weights G d) below) c
+            (Contains-flat_map (onward weights G d) below f c ((exactly f).1 (k, less))
+            (subst (Contains (onward weights G d f)) (sym is) (Contains-map (λ s. f ++ s ∷ []) (next_of weights G d f) r (next_of-is aw d f r k chain whole))))
 
         by_end : IsEnded c → Contains (chains_at weights G d below) c
         by_end l =
@@ -166,16 +163,16 @@ module _ (weights : List ℕ) (G : List (List Term)) (tips : AreListedTips (leng
     pub chains_at-apart : ((i j : ℕ) → i < length G → j < length G → lead_word G i ≡ lead_word G j → i ≡ j) → AllPairs (λ a b. a ≢ b) below
         → AllPairs (λ a b. a ≢ b) (chains_at weights G d below)
     chains_at-apart distinct apart =
-        AllPairs-append (λ a b. a ≢ b) (continued [] (free_letters weights G d)) (flat_map onward below) (continued-apart [] (free_letters weights G d) (free_letters-apart d))
-        (AllPairs-joined onward (λ a b. a ≢ b) (λ a b. a ≢ b) below apart
+        AllPairs-append (λ a b. a ≢ b) (continued [] (free_letters weights G d)) (flat_map (onward weights G d) below) (continued-apart [] (free_letters weights G d) (free_letters-apart d))
+        (AllPairs-joined (onward weights G d) (λ a b. a ≢ b) (λ a b. a ≢ b) below apart
         (λ c m. continued-apart c (next_of weights G d c) (next_pieces-apart weights G tips (last_piece c) distinct (degree_of weights (last_piece c) + (d - chain_degree weights c))))
         (λ a b u v m n ne i j e.
         let r = continued-says a (next_of weights G d a) u i in
         let s = continued-says b (next_of weights G d b) v j in
         ne (same_ends a b r.0 s.0 (r.2 ∙ e ∙ sym s.2)).0))
-        (λ a m. All-from_members (λ b. a ≢ b) (flat_map onward below) (λ b n e.
+        (λ a m. All-from_members (λ b. a ≢ b) (flat_map (onward weights G d) below) (λ b n e.
         let r = continued-says [] (free_letters weights G d) a m in
-        let k = Contains-flat_map_cases onward below b n in
+        let k = Contains-flat_map_cases (onward weights G d) below b n in
         let s = continued-says k.0 (next_of weights G d k.0) b k.2 in
         let none = (same_ends [] k.0 r.0 s.0 (r.2 ∙ e ∙ sym s.2)).0 in
         subst (IsChain T names) (sym none) ((exactly k.0).0 k.1).0))

@@ -7,7 +7,6 @@ use Rattle.anick_chains.specs.BasisTips.{leads_of}
 use Rattle.anick_chains.specs.Walk.{free_letter, stands}
 
 module _ (weights : List ℕ) (G : List (List Term)) (d x : ℕ) where
-
   -- a letter of another degree is not listed
   pub free_letter-other : weight_of weights x ≢ d → free_letter weights G d x ≡ []
   free_letter-other ne = ap (λ (a : Bool). cond (a && not (stands (leads_of G) (x ∷ []))) ((x ∷ []) ∷ []) []) (not_eqb (weight_of weights x) d ne)

@@ -18,3 +18,5 @@ pub mod ChainsAt
 pub mod Letters
 pub mod Sorted
 pub mod Steps
+pub mod Onward
+pub mod MinimalChains

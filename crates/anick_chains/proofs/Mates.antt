@@ -74,7 +74,8 @@ module _ (T : List ℕ → Type 0) (names : ℕ) where
     last_free qs q (alone e f) h = letter_free f.letter (λ t. f.no_tip (subst T (sym f.is) t)) (subst (HasTip T) f.is h)
     last_free qs q (after rs r e c n) h = n.free h
 
-    last_over : (qs : List (List ℕ)) (q : List ℕ) → IsLast qs q → IsOver names q
+    -- a piece is over the letters
+    pub last_over : (qs : List (List ℕ)) (q : List ℕ) → IsLast qs q → IsOver names q
     last_over qs q (alone e f) = subst (IsOver names) (sym f.is) (All-cons (λ x. x < names) f.letter [] f.within (All-nil (λ x. x < names)))
     last_over qs q (after rs r e c n) = n.over
 

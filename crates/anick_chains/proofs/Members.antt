@@ -1,7 +1,8 @@
 -- Lists joined of the lists of members, and words by a member of them.
-use Rattle.std.proofs.Common.{◌≡◌, ◌≢◌, ◌+◌, ◌-◌, ◌<◌, ◌≤◌, ℕ, zero, suc, List, [], ◌∷◌, ◌++◌, refl, sym, ap, ◌∙◌, arith, AllPairs}
+use Rattle.std.proofs.Common.{◌≡◌, ◌≢◌, ◌+◌, ◌-◌, ◌<◌, ◌≤◌, ℕ, zero, suc, List, [], ◌∷◌, ◌++◌, length, take, drop, get_or, refl, sym, ap, ◌∙◌, arith, AllPairs, length-append}
 use Rattle.std.specs.List.{Contains, flat_map, range_with_len}
-use Rattle.std.proofs.lemmas.List.{append-nil}
+use Rattle.std.proofs.lemmas.List.{append-nil, take-append-drop, take_more}
+use Rattle.std.proofs.lemmas.Grind.{flat_map-append}
 use Rattle.std.proofs.lemmas.List.Elements.{All-contains}
 use Rattle.words.proofs.Members.{AllPairs-append, AllPairs-first, AllPairs-nil, AllPairs-rest, All-from_members, Contains-first, Contains-flat_map_cases, Contains-more}
 use Rattle.overlaps.proofs.Sums.{joined-more}
@@ -41,3 +42,21 @@ module _ {X : Type 0} (f : ℕ → List X) where
   joined-same k end le empty =
       let whole : k + (end - k) ≡ end = omega (arith, le) in
       ap joined (sym whole) ∙ joined-skip (end - k) k (λ i from under. empty i from (omega (arith, under, whole)))
+
+module _ {X Y : Type 0} (f : X → List Y) where
+  -- what the next member gives goes behind what those before it give
+  pub flat_map-take : (xs : List X) (i : ℕ) (x : X) → i < length xs → x ≡ get_or xs i x
+      → flat_map f (take (i + 1) xs) ≡ flat_map f (take i xs) ++ f x
+  flat_map-take xs i x within is =
+      ap (flat_map f) (take_more xs i x within ∙ ap (λ (y : X). take i xs ++ y ∷ []) (sym is)) ∙ flat_map-append f (take i xs) (x ∷ [])
+      ∙ ap (λ (r : List Y). flat_map f (take i xs) ++ r) (append-nil (f x))
+
+  -- the first members give no more than all
+  pub flat_map-most : (xs : List X) (i : ℕ) → length (flat_map f (take i xs)) ≤ length (flat_map f xs)
+  flat_map-most xs i =
+      omega (
+        arith,
+        ap (λ (ys : List X). length (flat_map f ys)) (take-append-drop i xs),
+        ap length (flat_map-append f (take i xs) (drop i xs)),
+        length-append (flat_map f (take i xs)) (flat_map f (drop i xs)),
+      )

@@ -22,7 +22,8 @@ use Rattle.anick_chains.specs.Listing.{StandsBefore}
 use Rattle.anick_chains.proofs.ChainOrder.{less_stands, pieces_cmp_total, pieces_ties}
 
 module _ (weights : List ℕ) (aw : AreWeights weights) where
-  found_cmp : Chain → Chain → Ordering
+  -- the comparison of two chains of the list
+  abbrev pub found_cmp : Chain → Chain → Ordering
   found_cmp x y = pieces_cmp weights x.pieces y.pieces
 
   found_total : IsTotalOrder found_cmp
@@ -91,7 +92,7 @@ module _ (weights : List ℕ) (aw : AreWeights weights) where
         AllPairs-map (λ (x : Chain). x.pieces) (λ x y. StandsBefore weights x.pieces y.pieces) (StandsBefore weights) (λ x y s. s) sorted
         (λ i j e before within. inr (
           each (get_or sorted i e) (i, omega (arith, before, within), get_or_default sorted i (get_or sorted i e) e (omega (arith, before, within)))
-          ∙ sym (each (get_or sorted j e) (j, within, get_or_default sorted j (get_or sorted j e) e within)),
+              ∙ sym (each (get_or sorted j e) (j, within, get_or_default sorted j (get_or sorted j e) e within)),
           less_stands weights aw (get_or sorted i e).pieces (get_or sorted j e).pieces (pairs i j e before within),
         ))
       where

@@ -1,6 +1,6 @@
 -- The list of chains grows by the chains of one more degree.
 use Rattle.std.proofs.Common.{◌≡◌, ◌≢◌, ◌↔◌, ◌+◌, ◌-◌, ◌<◌, ◌≤◌, ℕ, List, [], ◌∷◌, ◌++◌, length, map, get_or, refl, sym, ap, ◌∙◌, inl, inr, arith, AllPairs, All, subst, length-append}
-use Rattle.std.specs.List.{Contains}
+use Rattle.std.specs.List.{Contains, flat_map}
 use Rattle.std.specs.List.Sorted.{IsPermutation, IsSorted}
 use Rattle.std.proofs.lemmas.Bool.{cases_lt}
 use Rattle.std.proofs.lemmas.List.{length-map, map-append}
@@ -21,7 +21,8 @@ use Rattle.anick_chains.specs.Chains.{IsChain, chain_degree}
 use Rattle.anick_chains.specs.Compare.{pieces_cmp}
 use Rattle.anick_chains.specs.Listed.{AreListed, pieces_of, with_degree}
 use Rattle.anick_chains.specs.Listing.{AreChains, IsNumber, StandsBefore}
-use Rattle.anick_chains.specs.Walk.{chains_at}
+use Rattle.anick_chains.specs.Laws.{AreListedTips}
+use Rattle.anick_chains.specs.Walk.{chains_at, continued, free_letters, onward}
 use Rattle.anick_chains.proofs.BasisTips.{listed_tips}
 use Rattle.anick_chains.proofs.ChainOrder.{before_differs}
 use Rattle.anick_chains.proofs.ChainsAt.{chains_at-apart, chains_at-is, chains_at-says}
@@ -74,34 +75,41 @@ module _ (b : Elements) (kept : IsKept b) (free : IsFactorFree b.elements) where
       abbrev all : List (List (List ℕ))
       all = chains_at weights b.elements d below
 
-      exactly : (c : List (List ℕ)) → Contains below c ↔ (IsChain T names c × (chain_degree weights c < d))
-      exactly c = (
+      chains_below : (c : List (List ℕ)) → Contains below c ↔ (IsChain T names c × (chain_degree weights c < d))
+      chains_below c = (
         λ m. let r = (h.chains.exactly c).0 m in (r.0, omega (arith, r.1, next)),
         λ r. (h.chains.exactly c).1 (r.0, omega (arith, r.1, next)),
       )
 
+      tips : AreListedTips names (leads_of b.elements)
       tips = listed_tips b kept free
 
       says : (c : List (List ℕ)) → Contains all c → IsChain T names c × (chain_degree weights c ≡ d)
-      says c m = chains_at-says weights b.elements tips kept.weights d below exactly c m
+      says c m = chains_at-says weights b.elements tips kept.weights d below chains_below c m
 
       has : (c : List (List ℕ)) → IsChain T names c → chain_degree weights c ≡ d → Contains all c
-      has c k deg = chains_at-is weights b.elements tips kept.weights d below exactly c k deg
+      has c k deg = chains_at-is weights b.elements tips kept.weights d below chains_below c k deg
 
       apart : AllPairs (λ x y. x ≢ y) all
-      apart = chains_at-apart weights b.elements tips kept.weights d below exactly lead_distinct below_apart
+      apart = chains_at-apart weights b.elements tips kept.weights d below chains_below lead_distinct below_apart
 
       cases : (c : List (List ℕ)) → IsChain T names c × (chain_degree weights c ≤ d) → (rest : List (List (List ℕ))) → (Contains all c → Contains rest c) → Contains (below ++ rest) c
       cases c k rest at = elim (cases_lt (chain_degree weights c) d) [
-        | inl lt ↦ Contains-append_left below rest c ((exactly c).1 (k.0, lt))
+        | inl lt ↦ Contains-append_left below rest c ((chains_below c).1 (k.0, lt))
         | inr le ↦ Contains-append_right below rest c (at (has c k.0 (omega (arith, le, k.1))))
       ]
 
       both : (c : List (List ℕ)) (rest : List (List (List ℕ))) → (Contains rest c → Contains all c) → Contains (below ++ rest) c → IsChain T names c × (chain_degree weights c ≤ d)
       both c rest at m = elim (Contains-append_cases below rest c m) [
-        | inl n ↦ let r = (exactly c).0 n in (r.0, omega (arith, r.1))
+        | inl n ↦ let r = (chains_below c).0 n in (r.0, omega (arith, r.1))
         | inr n ↦ let r = says c (at n) in (r.0, omega (arith, r.1))
       ]
+
+      -- so many letters and longer chains
+      pub all_length : length all ≡ length (free_letters weights b.elements d) + length (flat_map (onward weights b.elements d) below)
+      all_length =
+          length-append (continued [] (free_letters weights b.elements d)) (flat_map (onward weights b.elements d) below)
+          ∙ ap (λ (n : ℕ). n + length (flat_map (onward weights b.elements d) below)) (length-map (free_letters weights b.elements d) (λ (r : List ℕ). [] ++ r ∷ []))
 
       -- the number up to the degree is that below and that of the degree
       pub number_more : IsNumber T names weights d (length found + length all)
@@ -109,7 +117,7 @@ module _ (b : Elements) (kept : IsKept b) (free : IsFactorFree b.elements) where
         chains = below ++ all;
         exactly = λ c. ((λ m. both c all (λ n. n) m), (λ k. cases c k all (λ n. n)));
         apart = AllPairs-append (λ x y. x ≢ y) below all below_apart apart
-            (λ x m. All-from_members (λ y. x ≢ y) all (λ y n same. omega (arith, ((exactly x).0 m).1, (says y n).1, ap (chain_degree weights) same)));
+            (λ x m. All-from_members (λ y. x ≢ y) all (λ y n same. omega (arith, ((chains_below x).0 m).1, (says y n).1, ap (chain_degree weights) same)));
         count = sym (length-append below all ∙ ap (λ (n : ℕ). n + length all) (length-map found (λ (c : Chain). c.pieces)));
       }
 
@@ -128,6 +136,6 @@ module _ (b : Elements) (kept : IsKept b) (free : IsFactorFree b.elements) where
               );
               ordered = AllPairs-append (StandsBefore weights) below (pieces_of sorted) h.chains.ordered (sorted_stands weights kept.weights d all apart degree block sorted is moved up)
                   (λ x m. All-from_members (StandsBefore weights x) (pieces_of sorted) (λ y n.
-                  inl (omega (arith, ((exactly x).0 m).1, (says y (sorted_says weights kept.weights d all apart degree block sorted is moved y n)).1))));
+                  inl (omega (arith, ((chains_below x).0 m).1, (says y (sorted_says weights kept.weights d all apart degree block sorted is moved y n)).1))));
             });
           }

@@ -67,7 +67,10 @@ abbrev pub next_of : List ℕ → List (List Term) → ℕ → List (List ℕ) �
 next_of weights G d c =
     next_pieces weights G (last_piece c) (degree_of weights (last_piece c) + (d - chain_degree weights c))
 
+-- the chains of degree d that have one piece more than this one
+abbrev pub onward : List ℕ → List (List Term) → ℕ → List (List ℕ) → List (List (List ℕ))
+onward weights G d c = continued c (next_of weights G d c)
+
 -- the chains of degree d, from all chains of lower degrees
 abbrev pub chains_at : List ℕ → List (List Term) → ℕ → List (List (List ℕ)) → List (List (List ℕ))
-chains_at weights G d below =
-    continued [] (free_letters weights G d) ++ flat_map (λ c. continued c (next_of weights G d c)) below
+chains_at weights G d below = continued [] (free_letters weights G d) ++ flat_map (onward weights G d) below

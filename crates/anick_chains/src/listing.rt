@@ -12,7 +12,7 @@ ghost use Rattle.anick_chains.specs.Listed.{AreListed};
 ghost use Rattle.anick_chains.specs.Listing.{IsFirstMany, IsNumber};
 
 use crate::chain::{Chain, ChainFault};
-use crate::longer::{free_letters, push_continued, push_longer};
+use crate::longer::{free_letters, push_continued, push_onward};
 use crate::order::compare;
 use ideal_laws::Basis;
 use lead_index::{LeadIndex, index_of};
@@ -107,11 +107,16 @@ fn push_degree(
     let mut block = Vec::new(alloc);
     let letters = free_letters(alloc, basis, index, degree)?;
     push_continued(alloc, &[], letters, degree, room, &mut block)?;
-    for chain in found.as_slice() {
-        push_longer(
-            alloc, basis, index, weights, chain, degree, room, &mut block,
-        )?;
-    }
+    push_onward(
+        alloc,
+        basis,
+        index,
+        weights,
+        found.as_slice(),
+        degree,
+        room,
+        &mut block,
+    )?;
     sort(weights, &mut block);
     found.append(&mut block)?;
     Ok(())

@@ -1,9 +1,12 @@
-ghost use Rattle.std.specs.Prelude.{◌≡◌, ◌+◌, ◌++◌, ◌∷◌, ◌<◌, ◌≤◌, [], ℕ, IfOk, IsErrOf, OnOk, length};
+ghost use Rattle.std.specs.Prelude.{◌≡◌, ◌+◌, ◌-◌, ◌++◌, ◌∷◌, ◌<◌, ◌≤◌, [], ℕ, Contains, IfOk, IsErrOf, OnOk, length};
+ghost use Rattle.std.specs.List.{flat_map};
+ghost use Rattle.ideal_laws.specs.Closure.{IsFactorFree};
+ghost use Rattle.anick_chains.specs.BasisTips.{leads_of};
 ghost use Rattle.words.specs.Words.{IsOver};
 ghost use Rattle.lead_index.specs.Leads.{IsIndexOf};
 ghost use Rattle.anick_chains.specs.Chains.{chain_degree};
-ghost use Rattle.anick_chains.specs.Listed.{with_degree};
-ghost use Rattle.anick_chains.specs.Walk.{continued, free_letter, free_letters, last_piece, next_of};
+ghost use Rattle.anick_chains.specs.Listed.{AreListed, pieces_of, with_degree};
+ghost use Rattle.anick_chains.specs.Walk.{continued, free_letter, free_letters, last_piece, next_of, onward};
 
 use crate::chain::{Chain, ChainFault};
 use crate::next::{next_pieces, push_word};
@@ -53,8 +56,41 @@ fn push_letter(
     }
 }
 
+/// Appends the chains of a degree that have one piece more than a chain of a lower degree.
+pub(crate) fn push_onward(
+    alloc: Global,
+    basis: &Basis,
+    index: &LeadIndex,
+    weights: &[u8],
+    found: &[Chain],
+    degree: u32,
+    room: usize,
+    block: &mut Vec<Chain>,
+) -> Result<(), ChainFault>
+    requires index { IsIndexOf basis.now.elements index.now }
+    requires weights { weights.now ≡ basis.now.weights }
+    requires factor_free { IsFactorFree basis.now.elements }
+    requires some { 1 ≤ degree }
+    requires room { degree ≤ 64 }
+    requires below { AreListed (Contains (leads_of basis.now.elements)) (length basis.now.weights) basis.now.weights
+        (degree - 1) found.now }
+    requires few { length block.old.items ≤ room }
+
+    ensures onward { OnOk result (block.new.items ≡ block.old.items
+        ++ with_degree degree (flat_map (onward basis.now.weights basis.now.elements degree) (pieces_of found.now))) }
+    ensures within { OnOk result (length block.new.items ≤ room) }
+    ensures many { (d : ℕ) → IsErrOf result (ChainFault.TooMany d) → (d ≡ degree) × (room < length block.old.items
+        + length (flat_map (onward basis.now.weights basis.now.elements degree) (pieces_of found.now))) }
+{
+    let _done = basis.done();
+    for chain in found {
+        push_longer(alloc, basis, index, weights, chain, degree, room, block)?;
+    }
+    Ok(())
+}
+
 /// Appends the chains of a degree that have one piece more than this one.
-pub(crate) fn push_longer(
+fn push_longer(
     alloc: Global,
     basis: &Basis,
     index: &LeadIndex,

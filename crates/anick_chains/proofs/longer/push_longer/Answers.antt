@@ -39,9 +39,9 @@ returns c =
     record {
       longer =
           subst (λ (f : List (List ℕ)). OnOk c.push_continued.result (c.push_continued.new.block.items ≡ c.args.block.now.items
-              ++ with_degree c.args.degree (continued f (next_of b.weights b.elements c.args.degree c.args.chain.now.pieces)))) front
+          ++ with_degree c.args.degree (continued f (next_of b.weights b.elements c.args.degree c.args.chain.now.pieces)))) front
           (subst (λ (n : List (List ℕ)). OnOk c.push_continued.result (c.push_continued.new.block.items ≡ c.args.block.now.items
-              ++ with_degree c.args.degree (continued c.as_slice-pieces.result.now n))) next c.push_continued.ensures.continued);
+          ++ with_degree c.args.degree (continued c.as_slice-pieces.result.now n))) next c.push_continued.ensures.continued);
       within = c.push_continued.ensures.within;
       many = λ d e. let m = c.push_continued.ensures.many d e in (m.0, omega (arith, m.1, ap length next));
     }
