@@ -28,7 +28,6 @@ pub fn chains(
     bound: u32,
     most: u32,
 ) -> Result<Items<Chain>, ChainFault>
-    requires some { 1 ≤ bound }
     requires done { bound ≤ basis.now.done }
     requires weights { basis.now.weights ≡ alphabet.now.weights }
     requires factor_free { IsFactorFree basis.now.elements }

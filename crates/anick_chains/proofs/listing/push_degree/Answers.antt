@@ -19,18 +19,20 @@ returns-in_err-push_continued-clause-many c = λ d e.
     let next : c.args.degree ≡ (c.args.degree - 1) + 1 = omega (arith, c.requires.some) in
     let p = err_from_is_err_and c.from_residual-in_err-push_continued.result c.from_residual-in_err-push_continued.ensures.1 in
     let m = c.in_err-push_continued.ensures.many d (ap Err (sym p.2 ∙ one_fault c.from_residual-in_err-push_continued.result _ _ p.1 e)) in
-    let kept = c.done-done.ensures.kept in
-    (m.0, length c.args.found.now.items + length (chains_at b.weights b.elements c.args.degree (pieces_of c.args.found.now.items)),
-    number_more b kept c.requires.factor_free (c.args.degree - 1) c.args.found.now.items c.requires.below c.args.degree next,
-    omega (
-      arith,
-      m.1,
-      c.requires.few,
-      c.len.ensures,
-      ap length c.new-block.ensures.items,
-      ap length c.in_ok-letters.ensures,
-      all_length b kept c.requires.factor_free (c.args.degree - 1) c.args.found.now.items c.requires.below c.args.degree next,
-    ))
+    let kept = c.done-done.ensures.kept in (
+      m.0,
+      length c.args.found.now.items + length (chains_at b.weights b.elements c.args.degree (pieces_of c.args.found.now.items)),
+      number_more b kept c.requires.factor_free (c.args.degree - 1) c.args.found.now.items c.requires.below c.args.degree next,
+      omega (
+        arith,
+        m.1,
+        c.requires.few,
+        c.len.ensures,
+        ap length c.new-block.ensures.items,
+        ap length c.in_ok-letters.ensures,
+        all_length b kept c.requires.factor_free (c.args.degree - 1) c.args.found.now.items c.requires.below c.args.degree next,
+      ),
+    )
 
 pub returns-in_err-push_onward-clause-many : goal.returns-in_err-push_onward-clause-many
 returns-in_err-push_onward-clause-many c = λ d e.
@@ -39,23 +41,25 @@ returns-in_err-push_onward-clause-many c = λ d e.
     let p = err_from_is_err_and c.from_residual-in_err-push_onward.result c.from_residual-in_err-push_onward.ensures.1 in
     let m = c.in_err-push_onward.ensures.many d (ap Err (sym p.2 ∙ one_fault c.from_residual-in_err-push_onward.result _ _ p.1 e)) in
     let kept = c.done-done.ensures.kept in
-    let letters = continued [] c.in_ok-letters.letters.items in
-    (m.0, length c.args.found.now.items + length (chains_at b.weights b.elements c.args.degree (pieces_of c.args.found.now.items)),
-    number_more b kept c.requires.factor_free (c.args.degree - 1) c.args.found.now.items c.requires.below c.args.degree next,
-    omega (
-      arith,
-      m.1,
-      c.requires.few,
-      c.len.ensures,
-      ap length c.new-block.ensures.items,
-      ap length c.in_ok-letters.ensures,
-      ap length c.in_ok-push_continued.ensures.continued,
-      length-append c.new-block.result.items (with_degree c.args.degree letters),
-      length-map {B = Chain} letters (λ (x : List (List ℕ)). record { degree = c.args.degree; pieces = x }),
-      length-map c.in_ok-letters.letters.items (λ (r : List ℕ). [] ++ r ∷ []),
-      ap (λ (found : List Chain). length (flat_map (onward b.weights b.elements c.args.degree) (pieces_of found))) c.as_slice.ensures.value,
-      all_length b kept c.requires.factor_free (c.args.degree - 1) c.args.found.now.items c.requires.below c.args.degree next,
-    ))
+    let letters = continued [] c.in_ok-letters.letters.items in (
+      m.0,
+      length c.args.found.now.items + length (chains_at b.weights b.elements c.args.degree (pieces_of c.args.found.now.items)),
+      number_more b kept c.requires.factor_free (c.args.degree - 1) c.args.found.now.items c.requires.below c.args.degree next,
+      omega (
+        arith,
+        m.1,
+        c.requires.few,
+        c.len.ensures,
+        ap length c.new-block.ensures.items,
+        ap length c.in_ok-letters.ensures,
+        ap length c.in_ok-push_continued.ensures.continued,
+        length-append c.new-block.result.items (with_degree c.args.degree letters),
+        length-map {B = Chain} letters (λ (x : List (List ℕ)). record { degree = c.args.degree; pieces = x }),
+        length-map c.in_ok-letters.letters.items (λ (r : List ℕ). [] ++ r ∷ []),
+        ap (λ (found : List Chain). length (flat_map (onward b.weights b.elements c.args.degree) (pieces_of found))) c.as_slice.ensures.value,
+        all_length b kept c.requires.factor_free (c.args.degree - 1) c.args.found.now.items c.requires.below c.args.degree next,
+      ),
+    )
 
 pub returns-clause-listed : goal.returns-clause-listed
 returns-clause-listed c =

@@ -13,9 +13,11 @@ pub returns-in_err-push_longer-clause-many : goal.returns-in_err-push_longer-cla
 returns-in_err-push_longer-clause-many c = λ d e.
     let b = c.args.basis.now in
     let p = err_from_is_err_and c.from_residual.result c.from_residual.ensures.1 in
-    let m = c.in_err-push_longer.ensures.many d (ap Err (sym p.2 ∙ one_fault c.from_residual.result _ _ p.1 e)) in
-    (m.0, onward_many b.weights b.elements c.args.degree c.args.found.now c.args.block.now.items c.loop-chain.block.items c.args.room c.loop-chain.chain-index c.chain-item.result c.loop-chain-test.true c.chain-item.is
-    c.loop-chain.invariant.so_far m.1)
+    let m = c.in_err-push_longer.ensures.many d (ap Err (sym p.2 ∙ one_fault c.from_residual.result _ _ p.1 e)) in (
+      m.0,
+      onward_many b.weights b.elements c.args.degree c.args.found.now c.args.block.now.items c.loop-chain.block.items c.args.room c.loop-chain.chain-index c.chain-item.result c.loop-chain-test.true c.chain-item.is
+          c.loop-chain.invariant.so_far m.1,
+    )
 
 pub returns-clause-onward : goal.returns-clause-onward
 returns-clause-onward c =
