@@ -9,6 +9,8 @@ mod law;
 mod race;
 mod share;
 mod steps;
+#[cfg(test)]
+mod tests;
 mod worker;
 
 pub use finish::Finish;
