@@ -10,5 +10,6 @@ pub mod ScheduledRuns
 pub mod CoreAccounts
 pub mod LeadingColumns
 pub mod PivotLeads
+pub mod RaceAccounts
 pub mod WonCalls
 pub mod ClaimHistories

@@ -1,18 +1,15 @@
-ghost use Rattle.std.specs.Prelude.{◌≡◌, ◌≤◌, IfOk};
+ghost use Rattle.std.specs.Prelude.{◌≡◌, ◌≤◌};
 ghost use Rattle.ideal_laws.specs.Limits.{AreLimits};
-ghost use Rattle.pivot_core.specs.History.{merged};
-ghost use Rattle.degree_loop.specs.Accounts.{crew_of};
 
 use crate::account::account_of;
+use crate::calls::{crew_for, merged_calls};
 use crate::elements::elements_of;
 use crate::matrix::{Matrix, matrix_of};
 use crate::schedule::scheduled_pivots;
 use field_table::Field;
-use ideal_laws::{Basis, Call, DegreeEngine, DegreeReport, EngineFault, Limits, Presentation};
-use pivot_core::{CorePivots, merge};
+use ideal_laws::{Basis, DegreeEngine, DegreeReport, EngineFault, Limits, Presentation};
 use std::alloc::Global;
 use std::thread::Threads;
-use words::{Items, NoMemory};
 
 /// The matrix engine whose pivots the machine of claims finds on one thread, where a generator chooses the seat of each
 /// step. In each degree it begins with `schedule`.
@@ -63,9 +60,9 @@ impl DegreeEngine for CoreEngine {
         let matrix = matrix_of(rt, alloc, field, presentation, below, d, &self.limits)?;
         let Matrix { closed, problem } = matrix;
         let rows = problem.n;
-        let crew = crew(self.workers, rows);
+        let crew = crew_for(self.workers, rows);
         let pivots = scheduled_pivots(alloc, field, problem, crew, self.schedule)?;
-        let calls = merged_calls(alloc, &pivots)?;
+        let calls = merged_calls(alloc, pivots.logs())?;
         let account = account_of(alloc, &closed, rows, calls)?;
         let elements = elements_of(
             rt,
@@ -80,20 +77,4 @@ impl DegreeEngine for CoreEngine {
         )?;
         Ok(DegreeReport { elements, account })
     }
-}
-
-/// The crew of a degree of so many rows.
-fn crew(workers: u32, rows: u32) -> u32
-    ensures { result ≡ crew_of workers rows }
-{
-    workers.min(rows).max(1)
-}
-
-/// All calls, by rising stamp and then by rising seat.
-fn merged_calls(alloc: Global, pivots: &CorePivots) -> Result<Items<Call>, NoMemory>
-    ensures { IfOk result (λ calls. calls ≡ merged pivots.now.logs) }
-{
-    let history = merge(alloc, pivots.logs())?;
-    let calls = Vec::from_slice(alloc, history.calls())?;
-    Ok(Items::from_vec(calls))
 }

@@ -4,10 +4,12 @@
 #![tactic(auto)]
 
 mod account;
+mod calls;
 mod core_engine;
 mod elements;
 mod laws;
 mod matrix;
+mod race_engine;
 mod relations;
 mod rows;
 mod schedule;
@@ -20,5 +22,6 @@ pub use core_engine::CoreEngine;
 pub use elements::elements_of;
 pub use laws::{claim_history_law, schedule_law};
 pub use matrix::{Matrix, matrix_of};
+pub use race_engine::RaceEngine;
 pub use seq_engine::SeqEngine;
 pub use sequential::sequential_degree;

@@ -1,6 +1,7 @@
-use Rattle.std.proofs.Common.{[], ◌∷◌, refl, ◌∙◌}
+use Rattle.std.proofs.Common.{[], ◌∷◌, ap, refl, ◌∙◌}
 use Rattle.ideal_laws.specs.declared.limits.LimitKind.TheVariants.{Terms}
 use Rattle.ideal_laws.specs.Quantities.{IsQuantity}
+use Rattle.pivot_core.specs.History.{merged}
 use Rattle.degree_loop.specs.Limits.{matrix_limits}
 use Rattle.degree_loop.proofs.Asked.{handed_behind, handed_first}
 use Rattle.degree_loop.proofs.CoreAccounts.{core_account}
@@ -24,5 +25,5 @@ returns-clause-account g c =
     let engine = c.args.self.now in
     let matrix = c.in_ok-matrix.matrix in
     core_account c.args.field.now presentation.alphabet.weights presentation.relations c.args.below.now.elements c.args.d matrix.closed matrix.problem c.in_ok-matrix.ensures.matrix
-    engine.workers engine.schedule c.crew-crew.result c.crew-crew.ensures c.in_ok-pivots.pivots c.in_ok-pivots.ensures c.in_ok-account.account
-    c.in_ok-account.ensures.rows c.in_ok-account.ensures.columns (c.in_ok-account.ensures.calls ∙ c.in_ok-calls.ensures)
+    engine.workers engine.schedule c.crew_for-crew.result c.crew_for-crew.ensures c.in_ok-pivots.pivots c.in_ok-pivots.ensures c.in_ok-account.account
+    c.in_ok-account.ensures.rows c.in_ok-account.ensures.columns (c.in_ok-account.ensures.calls ∙ c.in_ok-calls.ensures ∙ ap merged c.logs.ensures)
