@@ -79,7 +79,7 @@ module _ (words : List (List ℕ)) (job : Job) (j : IsJob words job) where
   letters_range is =
       let all = subst (λ (command : Command). All (Stands j.rest) (required_of command)) is j.complete in
       let stands = All-contains (Stands j.rest) (required_of Make) keys.Vars all
-          (Contains-more keys.Mod (keys.Deg ∷ keys.Number ∷ keys.Vars ∷ []) keys.Vars (Contains-more keys.Deg (keys.Number ∷ keys.Vars ∷ []) keys.Vars (Contains-more keys.Number (keys.Vars ∷ []) keys.Vars (Contains-first keys.Vars [])))) in
+      (Contains-more keys.Mod (keys.Deg ∷ keys.Number ∷ keys.Vars ∷ []) keys.Vars (Contains-more keys.Deg (keys.Number ∷ keys.Vars ∷ []) keys.Vars (Contains-more keys.Number (keys.Vars ∷ []) keys.Vars (Contains-first keys.Vars [])))) in
       let t = told words job keys.Vars j stands in
       (omega (arith, one_count job.letters t.1.number t.1.value_is, t.1.above), omega (arith, one_count job.letters t.1.number t.1.value_is, t.1.below))
 

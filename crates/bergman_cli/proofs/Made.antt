@@ -36,7 +36,7 @@ module _ (job : Job) (letters : Letters) (relations : List (List Term)) where
         → IsMakeOutcome job letters relations answer.status answer.text
     refused_outcome answer kind d value is first =
         let own = subst (λ (m : ℕ). IsFirstRefused m letters.weights relations (limits_of job.engine) job.bound kind d value) field
-            (subst (λ (l : List (LimitKind × ℕ)). IsFirstRefused p letters.weights relations l job.bound kind d value) same first) in
+        (subst (λ (l : List (LimitKind × ℕ)). IsFirstRefused p letters.weights relations l job.bound kind d value) same first) in
         made_limit answer kind d value is (refused kind d value, own, (refl, refl, refl))
 
     own_none : NonePassesUpto p letters.weights relations limits job.bound → NonePassesUpto job.modulus letters.weights relations (limits_of job.engine) job.bound

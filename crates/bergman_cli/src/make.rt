@@ -47,7 +47,13 @@ pub fn make_answer<R: Threads + Sync, E: DegreeEngine>(
         ) => return Ok(Answer::limit(alloc, kind, degree, value)),
         Err(EngineFault::NoMemory) => return Err(AllocError),
     };
-    match series(alloc, &given.alphabet, &basis, job.bound, &Limits::standard()) {
+    match series(
+        alloc,
+        &given.alphabet,
+        &basis,
+        job.bound,
+        &Limits::standard(),
+    ) {
         Ok(numbers) => {
             let coefficient = numbers[job.bound as usize];
             let relations = given.relations.as_slice().len();

@@ -1,8 +1,8 @@
 use crate::run::bergman;
-use job_steps::{InputProblem, Part, Status};
 use bg_io::{FixedSink, MemorySink, MemorySource, OpenGate, SteadySource};
 use command_words::{Key, UsageFault};
 use ideal_laws::LimitKind;
+use job_steps::{InputProblem, Part, Status};
 use relation_reader::{InputFault, Want};
 use std::alloc::Global;
 use std::process::Abort;
@@ -613,4 +613,64 @@ fn a_told_room_is_enough_or_not(rt: HostRuntime) -> Result<(), Fail> {
         assert_eq!(rt; Some(out.held()), COMMUTING_ANSWER.as_bytes().get(..room));
     }
     Ok(())
+}
+
+/// The text of two letters is worked by hand: x1*x2-71*x2*x1 for the number 0 modulo 101.
+#[test]
+fn a_generated_ideal_is_summed_up(rt: HostRuntime) -> Result<(), Fail> {
+    // The first read fails, and none is made.
+    let failing = Failing {
+        read: 1,
+        write: 0,
+        told: 0,
+    };
+    for (line, output) in [
+        (
+            "make mod=101 deg=4 number=0 vars=3 engine=seq",
+            "% make 0\nrelations 3\nelements 3\nterms 6\nsum 108\ncoefficient 4 15\n",
+        ),
+        (
+            "make mod=101 deg=3 number=0 vars=2 engine=plain",
+            "% make 0\nrelations 1\nelements 1\nterms 2\nsum 31\ncoefficient 3 4\n",
+        ),
+        (
+            "make mod=101 deg=1 number=0 vars=2 engine=core workers=2",
+            "% make 0\nrelations 1\nelements 0\nterms 0\nsum 0\ncoefficient 1 2\n",
+        ),
+    ] {
+        expect_run(&rt, line, b"", failing, Status::Done, output, "")?;
+    }
+    let line = "make mod=101 deg=3 number=0 vars=17 engine=plain";
+    let limit = Status::Limit {
+        kind: LimitKind::PlainWords,
+        degree: 3,
+        value: 4913,
+    };
+    let told = "bergman: limit: plain words 4913 in degree 3\n";
+    expect_run(&rt, line, b"", failing, limit, "", told)?;
+    let missing = Status::Usage(UsageFault::MissingKey { key: Key::Vars });
+    let line = "make mod=101 deg=4 number=0";
+    expect_run(
+        &rt,
+        line,
+        b"",
+        failing,
+        missing,
+        "",
+        "bergman: usage: missing vars\n",
+    )?;
+    let failing = Failing {
+        read: 0,
+        write: 3,
+        told: 0,
+    };
+    expect_run(
+        &rt,
+        "make mod=101 deg=4 number=0 vars=3",
+        b"",
+        failing,
+        Status::WriteFault,
+        "% make",
+        "bergman: write fault\n",
+    )
 }
