@@ -10,7 +10,7 @@ use Rattle.degree_loop.proofs.DegreeClosure.{column_words}
 use Rattle.command_words.specs.declared.job.EngineKind.{EngineKind}
 use Rattle.command_words.specs.declared.job.EngineKind.TheVariants.{Core}
 use Rattle.command_words.specs.declared.job.Job.{Job}
-use Rattle.bergman_cli.specs.Engines.{IsEngineOf, accounts_in, limits_of}
+use Rattle.bergman_cli.specs.Engines.{IsEngineOf, TellsHistory, accounts_in, limits_of}
 use Rattle.job_steps.specs.Traces.{Accounts, ArePrintable}
 
 abbrev core_accounts : ℕ → ℕ → Accounts
@@ -31,8 +31,11 @@ module _ (tell : RunAccountsTell) (list : ListsLower) where
       → IsEngineOf job limits (core_accounts workers schedule)
   core_engine job limits workers schedule is same same_workers same_schedule some few = record {
     same_limits = same;
-    accounts = λ _ p given below d account may.
+    accounts = λ _ p given below d account setting is_below may.
         let own = subst (λ (s : ℕ). core_accounts job.workers s p given below d account) same_schedule (subst (λ (w : ℕ). core_accounts w schedule p given below d account) same_workers may) in
-        subst (λ (e : EngineKind). accounts_in e job.workers job.schedule p given below d account) (sym is) own;
+        let lower = list p given.alphabet.weights given.relations setting d below is_below in
+        let history : TellsHistory job.workers p given below d account =
+            λ elements reduced. tell job.workers p given.alphabet.weights given.relations setting some few d below.elements lower account own.run elements reduced in
+        subst (λ (e : EngineKind). accounts_in e job.workers job.schedule p given below d account) (sym is) (own, history);
     printable = λ _ p given. core_printable workers schedule (subst (λ (w : ℕ). 1 ≤ w) (sym same_workers) some) (subst (λ (w : ℕ). w ≤ 64) (sym same_workers) few) p given;
   }

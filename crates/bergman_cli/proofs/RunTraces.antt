@@ -1,5 +1,5 @@
 -- The trace of a run is that of the task of its job, or none.
-use Rattle.std.proofs.Common.{◌≡◌, ◌≢◌, ◌+◌, ℕ, Bool, true, false, List, [], ◌∷◌, refl, ap, inr, subst}
+use Rattle.std.proofs.Common.{◌≡◌, ◌≢◌, ◌+◌, ℕ, Bool, true, false, List, [], ◌∷◌, refl, sym, ap, inl, inr, subst}
 use Rattle.std.specs.declared.option.Option.{Option}
 use Rattle.words.specs.Names.{Letters}
 use Rattle.free_poly.specs.declared.term.Term.{Term}
@@ -7,6 +7,7 @@ use Rattle.ideal_laws.specs.declared.account.Account.{Account}
 use Rattle.ideal_laws.specs.declared.limits.LimitKind.{LimitKind}
 use Rattle.ideal_laws.specs.declared.presentation.Presentation.{Presentation}
 use Rattle.ideal_laws.specs.Engine.{Elements}
+use Rattle.ideal_laws.specs.Kept.{IsBelow}
 use Rattle.ideal_laws.specs.Laws.{IsSetting}
 use Rattle.ideal_laws.specs.Limits.{standard_limits}
 use Rattle.command_words.specs.declared.job.Command.{Command}
@@ -20,7 +21,7 @@ use Rattle.job_steps.specs.declared.status.Status.TheVariants.{Done, Usage, Inpu
 use Rattle.job_steps.specs.Gains.{IsUndone}
 use Rattle.job_steps.specs.Printing.{task_of}
 use Rattle.job_steps.specs.Progress.{Task}
-use Rattle.bergman_cli.specs.Engines.{IsEngineOf, accounts_of, limits_of, traces_of}
+use Rattle.bergman_cli.specs.Engines.{AreAmong, IsEngineOf, accounts_of, limits_of, traces_of}
 use Rattle.bergman_cli.specs.Gb.{gb_task, shows_basis, shows_series}
 use Rattle.bergman_cli.specs.Jobs.{IsBuiltJob}
 use Rattle.bergman_cli.specs.Outcomes.{IsWorkTrace, IsWorkTraceOf}
@@ -28,23 +29,35 @@ use Rattle.bergman_cli.specs.Run.{IsGivenReading, IsRunTrace, OfWork}
 use Rattle.job_steps.specs.Traces.{Accounts, AreAccounts, IsAccountOf, IsTaskTrace, IsTrace, IsTracePart, OfTrace}
 
 -- what a task that ended so has for its trace
-module _ (May Own : Accounts) (t : Task) where
-  module _ (own : (p : ℕ) (given : Presentation) (below : Elements) (d : ℕ) (account : Account) → May p given below d account → Own p given below d account) where
+module _ (May Own : Accounts) (t : Task) (st : IsSetting t.modulus t.letters.weights t.relations) where
+  module _ (own : AreAmong May Own) where
+    own_account : (d : ℕ) (x : Account) → IsAccountOf May t d x → IsAccountOf Own t d x
+    own_account d x first =
+        let setting = subst (λ (l : Letters). IsSetting t.modulus l.weights first.given.relations) (sym first.letters) (subst (λ (rs : List (List Term)). IsSetting t.modulus t.letters.weights rs) (sym first.relations) st) in
+        let below = subst (λ (l : Letters). IsBelow t.modulus l.weights first.given.relations d first.below) (sym first.letters)
+            (subst (λ (rs : List (List Term)). IsBelow t.modulus t.letters.weights rs d first.below) (sym first.relations) first.is_below) in
+        record {
+          given = first.given;
+          letters = first.letters;
+          relations = first.relations;
+          below = first.below;
+          is_below = first.is_below;
+          may = own t.modulus first.given first.below d x setting below first.may;
+        }
+
     own_accounts : (d : ℕ) (accounts : List Account) → AreAccounts May t d accounts → AreAccounts Own t d accounts
     own_accounts d [] all = tt
     own_accounts d (x ∷ xs) all =
-        let first = all.0 in
-        let one : IsAccountOf Own t d x = record { given = first.given; letters = first.letters; relations = first.relations; below = first.below; is_below = first.is_below; may = own t.modulus first.given first.below d x first.may } in
-        (one, own_accounts (d + 1) xs all.1)
+        (own_account d x all.0, own_accounts (d + 1) xs all.1)
 
     own_trace : (e : ℕ) (text : List ℕ) → IsTrace May t e text → IsTrace Own t e text
     own_trace e text h = record { accounts = h.accounts; count = h.count; each = own_accounts 1 h.accounts h.each; printed = h.printed }
 
-  module _ (traces : Bool) (own : traces ≡ true → (p : ℕ) (given : Presentation) (below : Elements) (d : ℕ) (account : Account) → May p given below d account → Own p given below d account) where
+  module _ (traces : Bool) (own : traces ≡ true → AreAmong May Own) where
     own_part : (e : ℕ) (text : List ℕ) → IsTracePart May t traces e text → IsTracePart Own t traces e text
     own_part e text h = by_traces traces own h
       where
-        by_traces : (b : Bool) → (b ≡ true → (p : ℕ) (given : Presentation) (below : Elements) (d : ℕ) (account : Account) → May p given below d account → Own p given below d account) → IsTracePart May t b e text → IsTracePart Own t b e text
+        by_traces : (b : Bool) → (b ≡ true → AreAmong May Own) → IsTracePart May t b e text → IsTracePart Own t b e text
         by_traces true each k = own_trace (each refl) e text k
         by_traces false each k = k
 
@@ -77,9 +90,12 @@ task_is p given limits asked job field same is = λ i. record {
 
 -- what is told of the job's task
 module _ (p : ℕ) (given : Presentation) (limits : List (LimitKind × ℕ)) (asked : Asked) (job : Job) (field : p ≡ job.modulus) (May : Accounts) (engine : IsEngineOf job limits May)
-    (is : asked ≡ record { bound = job.bound; basis = shows_basis job.show; series = shows_series job.show; trace = traces_of job }) where
+    (is : asked ≡ record { bound = job.bound; basis = shows_basis job.show; series = shows_series job.show; trace = traces_of job }) (st : IsSetting p given.alphabet.weights given.relations) where
   abbrev task : Task
   task = gb_task job given.alphabet given.relations
+
+  own_setting : IsSetting job.modulus given.alphabet.weights given.relations
+  own_setting = subst (λ (m : ℕ). IsSetting m given.alphabet.weights given.relations) field st
 
   moved : (P : Task → Bool → Type 0) → P (task_of p given limits asked) asked.trace → P task (traces_of job)
   moved P h = subst (λ (t : Task). P t (traces_of job)) (task_is p given limits asked job field engine.same_limits is) (subst (λ (b : Bool). P (task_of p given limits asked) b) (ap (λ (a : Asked). a.trace) is) h)
@@ -92,20 +108,20 @@ module _ (p : ℕ) (given : Presentation) (limits : List (LimitKind × ℕ)) (as
     Undone t traces fault = IsUndone t held more room before now (λ e. OfTrace May t traces e Told) fault
 
     pub told_done : OfTrace May (task_of p given limits asked) asked.trace asked.bound Told → Traced Done
-    told_done h = done_traced May (accounts_of job) task (traces_of job) engine.accounts held more room before now Told (moved (λ t b. OfTrace May t b t.bound Told) h)
+    told_done h = done_traced May (accounts_of job) task own_setting (traces_of job) engine.accounts held more room before now Told (moved (λ t b. OfTrace May t b t.bound Told) h)
 
     -- a fault by its name
     undone_by : (fault named : PrintFault) → fault ≡ named → Undone (task_of p given limits asked) asked.trace fault → Undone task (traces_of job) named
     undone_by fault named same h = moved (λ t b. Undone t b named) (subst (λ (f : PrintFault). Undone (task_of p given limits asked) asked.trace f) same h)
 
     pub told_limit : (kind : LimitKind) (d value : ℕ) (fault : PrintFault) → fault ≡ stops.Limit kind d value → Undone (task_of p given limits asked) asked.trace fault → Traced (Limit kind d value)
-    told_limit kind d value fault same h = limit_traced May (accounts_of job) task (traces_of job) engine.accounts held more room before now Told kind d value (undone_by fault (stops.Limit kind d value) same h)
+    told_limit kind d value fault same h = limit_traced May (accounts_of job) task own_setting (traces_of job) engine.accounts held more room before now Told kind d value (undone_by fault (stops.Limit kind d value) same h)
 
     pub told_write : (fault : PrintFault) → fault ≡ stops.WriteFault → Undone (task_of p given limits asked) asked.trace fault → Traced WriteFault
-    told_write fault same h = write_traced May (accounts_of job) task (traces_of job) engine.accounts held more room before now Told (undone_by fault stops.WriteFault same h)
+    told_write fault same h = write_traced May (accounts_of job) task own_setting (traces_of job) engine.accounts held more room before now Told (undone_by fault stops.WriteFault same h)
 
     pub told_memory : (fault : PrintFault) → fault ≡ stops.NoMemory → Undone (task_of p given limits asked) asked.trace fault → Traced NoMemory
-    told_memory fault same h = memory_traced May (accounts_of job) task (traces_of job) engine.accounts held more room before now Told (undone_by fault stops.NoMemory same h)
+    told_memory fault same h = memory_traced May (accounts_of job) task own_setting (traces_of job) engine.accounts held more room before now Told (undone_by fault stops.NoMemory same h)
 
 -- a status that can have a trace
 abbrev IsTraced : Status → Type 0

@@ -1,13 +1,19 @@
 -- The engines: which are built, the limits that they ask, and the accounts that they may tell.
 use Rattle.std.specs.Prelude.{ℕ, ◌≡◌, Bool, true, false, List, [], ◌∷◌}
+use Rattle.free_poly.specs.declared.term.Term.{Term}
 use Rattle.ideal_laws.specs.declared.account.Account.{Account}
 use Rattle.ideal_laws.specs.declared.limits.LimitKind.{LimitKind}
 use Rattle.ideal_laws.specs.declared.limits.LimitKind.TheVariants.{PlainWords}
 use Rattle.ideal_laws.specs.declared.presentation.Presentation.{Presentation}
 use Rattle.ideal_laws.specs.Engine.{Elements}
 use Rattle.ideal_laws.specs.Limits.{standard_limits}
-use Rattle.degree_loop.specs.Accounts.{IsCoreAccount}
+use Rattle.ideal_laws.specs.Basis.{IsReducedBasis}
+use Rattle.ideal_laws.specs.Kept.{IsBelow}
+use Rattle.ideal_laws.specs.Laws.{IsSetting}
+use Rattle.degree_loop.specs.Accounts.{IsCoreAccount, crew_of}
+use Rattle.degree_loop.specs.ClaimHistory.{IsClaimHistory}
 use Rattle.degree_loop.specs.Limits.{engine_limits}
+use Rattle.degree_loop.specs.Matrix.{TellsMatrix}
 use Rattle.command_words.specs.declared.job.EngineKind.{EngineKind}
 use Rattle.command_words.specs.declared.job.EngineKind.TheVariants.{Race, Core, Seq, Plain}
 use Rattle.command_words.specs.declared.job.Job.{Job}
@@ -37,18 +43,31 @@ traces_in Plain asked = false
 abbrev pub traces_of : Job → Bool
 traces_of job = traces_in job.engine job.trace
 
+-- the calls of an account are a history of claims on the matrix of the degree, and those that won name the leading words of its reduced basis
+abbrev pub TellsHistory : ℕ → Accounts
+TellsHistory workers p given below d account =
+    (elements : List (List Term)) → IsReducedBasis p given.alphabet.weights given.relations d elements
+    → TellsMatrix p given.alphabet.weights given.relations below.elements d account × IsClaimHistory (crew_of workers account.rows) elements account
+
 -- the accounts that an engine may tell
 abbrev pub accounts_in : EngineKind → ℕ → ℕ → Accounts
 accounts_in Race workers schedule p given below d account = ⊥
-accounts_in Core workers schedule p given below d account = IsCoreAccount workers schedule p given.alphabet.weights given.relations below.elements d account
+accounts_in Core workers schedule p given below d account =
+    IsCoreAccount workers schedule p given.alphabet.weights given.relations below.elements d account × TellsHistory workers p given below d account
 accounts_in Seq workers schedule p given below d account = ⊥
 accounts_in Plain workers schedule p given below d account = ⊥
 
 abbrev pub accounts_of : Job → Accounts
 accounts_of job = accounts_in job.engine job.workers job.schedule
 
+-- over a basis below a degree the one accounts are among the others
+abbrev pub AreAmong : Accounts → Accounts → Type 0
+AreAmong May Own =
+    (p : ℕ) (given : Presentation) (below : Elements) (d : ℕ) (account : Account) → IsSetting p given.alphabet.weights given.relations → IsBelow p given.alphabet.weights given.relations d below
+    → May p given below d account → Own p given below d account
+
 -- limits and accounts of the engine that a job names
 pub record IsEngineOf (job : Job) (limits : List (LimitKind × ℕ)) (May : Accounts) : Type 0 where
   pub same_limits : limits ≡ limits_of job.engine
-  pub accounts : traces_of job ≡ true → (p : ℕ) (given : Presentation) (below : Elements) (d : ℕ) (account : Account) → May p given below d account → accounts_of job p given below d account
+  pub accounts : traces_of job ≡ true → AreAmong May (accounts_of job)
   pub printable : traces_of job ≡ true → (p : ℕ) (given : Presentation) → ArePrintable May p given

@@ -9,7 +9,7 @@ ghost use Rattle.bergman_cli.specs.Jobs.{IsSound};
 use bg_io::Sink;
 use command_words::{EngineKind, Job, Show};
 use field_table::Field;
-use ideal_laws::{DegreeEngine, Presentation};
+use ideal_laws::{DegreeEngine, Presentation, setting_law};
 use job_steps::{Asked, PrintFault, Status, print_job};
 use std::alloc::Global;
 use std::thread::Threads;
@@ -36,6 +36,7 @@ pub fn run_gb<R: Threads + Sync, E: DegreeEngine, K: Sink, T: Sink>(
     ensures told { (trace : List ℕ) × IsTaskTrace (accounts_of job.now) (traces_of job.now) (gb_task job.now given.now.alphabet given.now.relations) (K.held out.old) (K.held out.new) (K.room out.old) result trace
         × Tells (T.held err.old) (T.held err.new) (T.faults err.old) (T.faults err.new) failed.old failed.new trace }
 {
+    setting_law(field, given);
     let asked = asked_of(job);
     match print_job(rt, alloc, engine, field, given, asked, out, err, failed) {
         Ok(()) => Status::Done,
