@@ -4,8 +4,12 @@ pub mod HandSteps
 pub mod HandsKept
 pub mod ShareSteps
 pub mod Turns
-pub mod WorkerSteps
+pub mod Allowed
+pub mod NextKinds
+pub mod WorkerTurns
+pub mod WorkersTold
 pub mod Sharing
 pub mod Begin
 pub mod FoundCells
+pub mod SamePivots
 pub mod Close

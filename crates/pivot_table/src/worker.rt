@@ -20,20 +20,13 @@ pub struct Worker {
 }
 
 impl Model for Worker {
-    ghost use Rattle.pivot_core.specs.Views.{sight_of};
     ghost use Rattle.pivot_table.specs.Workers.{Standing};
 
     ghost Value = { Standing };
 
-    ghost use Rattle.pivot_table.specs.WorkerFields.{IsWorker};
+    ghost use Rattle.pivot_table.specs.WorkerFields.{IsWorker, standing_of};
 
-    ghost view = { λ w. record {
-      table = w.seat.table_id;
-      problem = w.seat.me.0.problem;
-      crew = w.seat.me.0.crew;
-      sight = sight_of w.view;
-      published = w.published.items;
-    } };
+    ghost view = { standing_of };
 
     ghost invariant = { IsWorker };
 }
