@@ -4,6 +4,8 @@
 
 mod raced;
 mod running;
+#[cfg(test)]
+mod tests;
 mod worker;
 
 pub use raced::raced_pivots;
