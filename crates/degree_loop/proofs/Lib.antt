@@ -11,5 +11,6 @@ pub mod CoreAccounts
 pub mod LeadingColumns
 pub mod PivotLeads
 pub mod RaceAccounts
+pub mod EngineAccounts
 pub mod WonCalls
 pub mod ClaimHistories

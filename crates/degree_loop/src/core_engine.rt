@@ -1,15 +1,17 @@
 ghost use Rattle.std.specs.Prelude.{◌≡◌, ◌≤◌};
 ghost use Rattle.ideal_laws.specs.Limits.{AreLimits};
 
-use crate::account::account_of;
 use crate::calls::{crew_for, merged_calls};
-use crate::elements::elements_of;
-use crate::matrix::{Matrix, matrix_of};
+use crate::degree::degree_by;
+use crate::finder::PivotFinder;
 use crate::schedule::scheduled_pivots;
+use back_reduce::Problem;
 use field_table::Field;
-use ideal_laws::{Basis, DegreeEngine, DegreeReport, EngineFault, Limits, Presentation};
+use ideal_laws::{Basis, Call, DegreeEngine, DegreeReport, EngineFault, Limits, Presentation};
+use pivot_core::CorePivots;
 use std::alloc::Global;
 use std::thread::Threads;
+use words::{Items, NoMemory};
 
 /// The matrix engine whose pivots the machine of claims finds on one thread, where a generator chooses the seat of each
 /// step. In each degree it begins with `schedule`.
@@ -57,24 +59,36 @@ impl DegreeEngine for CoreEngine {
         below: &Basis,
         d: u32,
     ) -> Result<DegreeReport, EngineFault> {
-        let matrix = matrix_of(rt, alloc, field, presentation, below, d, &self.limits)?;
-        let Matrix { closed, problem } = matrix;
-        let rows = problem.n;
-        let crew = crew_for(self.workers, rows);
-        let pivots = scheduled_pivots(alloc, field, problem, crew, self.schedule)?;
-        let calls = merged_calls(alloc, pivots.logs())?;
-        let account = account_of(alloc, &closed, rows, calls)?;
-        let elements = elements_of(
+        degree_by(
             rt,
             alloc,
             field,
             presentation,
             below,
             d,
-            &closed,
-            &pivots,
-            self.limits.terms,
-        )?;
-        Ok(DegreeReport { elements, account })
+            &self.limits,
+            &*self,
+        )
+    }
+}
+
+impl PivotFinder for CoreEngine {
+    ghost use Rattle.degree_loop.specs.Accounts.{AreScheduledCalls};
+
+    type Found = CorePivots;
+
+    ghost tells = { λ engine. AreScheduledCalls engine.workers engine.schedule };
+
+    fn find<R: Threads + Sync>(
+        &self,
+        _rt: &R,
+        alloc: Global,
+        field: &Field,
+        problem: Problem,
+    ) -> Result<(CorePivots, Items<Call>), NoMemory> {
+        let crew = crew_for(self.workers, problem.n);
+        let pivots = scheduled_pivots(alloc, field, problem, crew, self.schedule)?;
+        let calls = merged_calls(alloc, pivots.logs())?;
+        Ok((pivots, calls))
     }
 }

@@ -6,7 +6,9 @@
 mod account;
 mod calls;
 mod core_engine;
+mod degree;
 mod elements;
+mod finder;
 mod laws;
 mod matrix;
 mod race_engine;
@@ -14,14 +16,14 @@ mod relations;
 mod rows;
 mod schedule;
 mod seq_engine;
-mod sequential;
 mod terms;
 
 pub use account::account_of;
 pub use core_engine::CoreEngine;
+pub use degree::degree_by;
 pub use elements::elements_of;
+pub use finder::PivotFinder;
 pub use laws::{claim_history_law, schedule_law};
 pub use matrix::{Matrix, matrix_of};
 pub use race_engine::RaceEngine;
 pub use seq_engine::SeqEngine;
-pub use sequential::sequential_degree;

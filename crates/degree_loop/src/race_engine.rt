@@ -1,16 +1,18 @@
 ghost use Rattle.std.specs.Prelude.{◌≡◌, ◌≤◌};
 ghost use Rattle.ideal_laws.specs.Limits.{AreLimits};
 
-use crate::account::account_of;
 use crate::calls::{crew_for, merged_calls};
-use crate::elements::elements_of;
-use crate::matrix::{Matrix, matrix_of};
+use crate::degree::degree_by;
+use crate::finder::PivotFinder;
+use back_reduce::Problem;
 use bg_io::AnyGate;
 use field_table::Field;
-use ideal_laws::{Basis, DegreeEngine, DegreeReport, EngineFault, Limits, Presentation};
+use ideal_laws::{Basis, Call, DegreeEngine, DegreeReport, EngineFault, Limits, Presentation};
+use pivot_table::Finish;
 use row_worker::raced_pivots;
 use std::alloc::Global;
 use std::thread::Threads;
+use words::{Items, NoMemory};
 
 /// The matrix engine whose pivots workers find that run at once, each claiming columns for its rows. Each passes the
 /// gate before and after each claim.
@@ -58,24 +60,36 @@ impl<'a> DegreeEngine for RaceEngine<'a> {
         below: &Basis,
         d: u32,
     ) -> Result<DegreeReport, EngineFault> {
-        let matrix = matrix_of(rt, alloc, field, presentation, below, d, &self.limits)?;
-        let Matrix { closed, problem } = matrix;
-        let rows = problem.n;
-        let crew = crew_for(self.workers, rows);
-        let pivots = raced_pivots(rt, alloc, field, problem, crew, self.gate)?;
-        let calls = merged_calls(alloc, pivots.logs())?;
-        let account = account_of(alloc, &closed, rows, calls)?;
-        let elements = elements_of(
+        degree_by(
             rt,
             alloc,
             field,
             presentation,
             below,
             d,
-            &closed,
-            &pivots,
-            self.limits.terms,
-        )?;
-        Ok(DegreeReport { elements, account })
+            &self.limits,
+            &*self,
+        )
+    }
+}
+
+impl<'a> PivotFinder for RaceEngine<'a> {
+    ghost use Rattle.degree_loop.specs.Accounts.{AreRunCalls};
+
+    type Found = Finish;
+
+    ghost tells = { λ engine. AreRunCalls engine.workers };
+
+    fn find<R: Threads + Sync>(
+        &self,
+        rt: &R,
+        alloc: Global,
+        field: &Field,
+        problem: Problem,
+    ) -> Result<(Finish, Items<Call>), NoMemory> {
+        let crew = crew_for(self.workers, problem.n);
+        let pivots = raced_pivots(rt, alloc, field, problem, crew, self.gate)?;
+        let calls = merged_calls(alloc, pivots.logs())?;
+        Ok((pivots, calls))
     }
 }

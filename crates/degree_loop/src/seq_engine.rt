@@ -1,11 +1,14 @@
 ghost use Rattle.std.specs.Prelude.{◌≡◌};
 ghost use Rattle.ideal_laws.specs.Limits.{AreLimits};
 
-use crate::sequential::sequential_degree;
+use crate::degree::degree_by;
+use crate::finder::PivotFinder;
+use back_reduce::{Problem, SeqPivots, eliminate};
 use field_table::Field;
-use ideal_laws::{Basis, DegreeEngine, DegreeReport, EngineFault, Limits, Presentation};
+use ideal_laws::{Basis, Call, DegreeEngine, DegreeReport, EngineFault, Limits, Presentation};
 use std::alloc::Global;
 use std::thread::Threads;
+use words::{Items, NoMemory};
 
 /// The matrix engine whose pivots one thread finds by elimination. It makes no calls.
 #[derive(Debug, Drop)]
@@ -40,6 +43,34 @@ impl DegreeEngine for SeqEngine {
         below: &Basis,
         d: u32,
     ) -> Result<DegreeReport, EngineFault> {
-        sequential_degree(rt, alloc, field, presentation, below, d, &self.limits)
+        degree_by(
+            rt,
+            alloc,
+            field,
+            presentation,
+            below,
+            d,
+            &self.limits,
+            &*self,
+        )
+    }
+}
+
+impl PivotFinder for SeqEngine {
+    ghost use Rattle.std.specs.Prelude.{◌≡◌, []};
+
+    type Found = SeqPivots;
+
+    ghost tells = { λ _ _ calls. calls ≡ [] };
+
+    fn find<R: Threads + Sync>(
+        &self,
+        _rt: &R,
+        alloc: Global,
+        field: &Field,
+        problem: Problem,
+    ) -> Result<(SeqPivots, Items<Call>), NoMemory> {
+        let pivots = eliminate(alloc, field, problem)?;
+        Ok((pivots, Items::from_vec(Vec::new(alloc))))
     }
 }

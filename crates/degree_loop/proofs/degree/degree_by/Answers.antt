@@ -1,10 +1,9 @@
-use Rattle.std.proofs.Common.{[], ◌∷◌, refl, ◌∙◌}
+use Rattle.std.proofs.Common.{[], ◌∷◌, refl, subst, sym}
 use Rattle.ideal_laws.specs.declared.limits.LimitKind.TheVariants.{Terms}
 use Rattle.ideal_laws.specs.Quantities.{IsQuantity}
 use Rattle.degree_loop.specs.Limits.{matrix_limits}
 use Rattle.degree_loop.proofs.Asked.{handed_behind, handed_first, none_together}
-use Rattle.degree_loop.proofs.Finished.{count_rows}
-use Rattle.degree_loop.proofs.sequential.sequential_degree.Goals as goal
+use Rattle.degree_loop.proofs.degree.degree_by.Goals as goal
 
 pub returns-in_err-matrix-clause-limit : goal.returns-in_err-matrix-clause-limit
 returns-in_err-matrix-clause-limit g c =
@@ -21,17 +20,14 @@ returns-in_err-elements-clause-limit g c =
 pub returns-clause-account : goal.returns-clause-account
 returns-clause-account g c =
     let matrix = c.in_ok-matrix.matrix in
-    let h = c.in_ok-matrix.ensures.matrix in (
-      record {
-        rows = h.rows;
-        columns = matrix.closed.columns;
-        reducers = matrix.closed.reducers;
-        are_closed = h.are_closed;
-        count = c.in_ok-account.ensures.rows ∙ count_rows _ _ _ _ _ _ _ h;
-        contested = c.in_ok-account.ensures.columns;
-      },
-      c.in_ok-account.ensures.calls ∙ c.from_vec-calls.ensures ∙ c.new.ensures.items,
-    )
+    record {
+      closed = matrix.closed;
+      problem = matrix.problem;
+      matrix = c.in_ok-matrix.ensures.matrix;
+      count = c.in_ok-account.ensures.rows;
+      contested = c.in_ok-account.ensures.columns;
+      calls = subst (g.F.PivotFinder.tells c.args.finder.now matrix.problem) (sym c.in_ok-account.ensures.calls) c.in_ok-pivots.ensures.calls;
+    }
 
 pub returns-clause-within : goal.returns-clause-within
 returns-clause-within g c =

@@ -1,26 +1,25 @@
-ghost use Rattle.std.specs.Prelude.{◌≡◌, ◌+◌, ◌≤◌, [], ℕ, All, Err, IfOk, OnOk, length};
+ghost use Rattle.std.specs.Prelude.{◌≡◌, ◌+◌, ◌≤◌, ℕ, All, Err, IfOk, OnOk, length};
 ghost use Rattle.free_poly.specs.Terms.{HasResidues};
 ghost use Rattle.ideal_laws.specs.declared.limits.LimitKind.{LimitKind};
 ghost use Rattle.ideal_laws.specs.Basis.{IsReducedBasis};
 ghost use Rattle.ideal_laws.specs.Engine.{IsReducedUpto};
 ghost use Rattle.ideal_laws.specs.Limits.{AreLimits};
 ghost use Rattle.ideal_laws.specs.Quantities.{IsFirstPassing, IsQuantity, NonePasses};
-ghost use Rattle.degree_loop.specs.Accounts.{IsSeqAccount};
+ghost use Rattle.degree_loop.specs.Accounts.{IsAccountOf};
 ghost use Rattle.degree_loop.specs.Limits.{engine_limits};
 
 use crate::account::account_of;
 use crate::elements::elements_of;
+use crate::finder::PivotFinder;
 use crate::matrix::{Matrix, matrix_of};
-use back_reduce::eliminate;
 use field_table::Field;
 use ideal_laws::{Basis, DegreeReport, EngineFault, Limits, Presentation};
 use std::alloc::Global;
 use std::thread::Threads;
-use words::Items;
 
-/// The reduced basis of degree d by elimination over its contested columns, in which one thread finds the pivots. The
+/// The reduced basis of degree d by linear algebra over the closure of its rows, with whoever finds the pivots. The
 /// limits on rows, columns, entries, cells and terms are asked in this order.
-pub fn sequential_degree<R: Threads + Sync>(
+pub fn degree_by<R: Threads + Sync, F: PivotFinder>(
     rt: &R,
     alloc: Global,
     field: &Field,
@@ -28,6 +27,7 @@ pub fn sequential_degree<R: Threads + Sync>(
     below: &Basis,
     d: u32,
     limits: &Limits,
+    finder: &F,
 ) -> Result<DegreeReport, EngineFault>
     requires next { d ≡ below.now.done + 1 }
     requires small { d ≤ 64 }
@@ -38,7 +38,7 @@ pub fn sequential_degree<R: Threads + Sync>(
 
     ensures elements { IfOk result (λ report. IsReducedBasis field.now presentation.now.alphabet.weights presentation.now.relations d report.elements) }
     ensures few { IfOk result (λ report. length report.elements ≤ 16777216) }
-    ensures account { IfOk result (λ report. IsSeqAccount field.now presentation.now.alphabet.weights presentation.now.relations below.now.elements d report.account) }
+    ensures account { IfOk result (λ report. IsAccountOf (F.tells finder.now) field.now presentation.now.alphabet.weights presentation.now.relations below.now.elements d report.account) }
     ensures within { OnOk result (NonePasses (IsQuantity field.now presentation.now.alphabet.weights presentation.now.relations below.now d) (engine_limits limits.now)) }
 
     ensures limit { (kind : LimitKind) (degree value : ℕ) → result ≡ Err (EngineFault.Limit kind degree value)
@@ -46,9 +46,9 @@ pub fn sequential_degree<R: Threads + Sync>(
 {
     let matrix = matrix_of(rt, alloc, field, presentation, below, d, limits)?;
     let Matrix { closed, problem } = matrix;
-    let calls = Items::from_vec(Vec::new(alloc));
-    let account = account_of(alloc, &closed, problem.n, calls)?;
-    let pivots = eliminate(alloc, field, problem)?;
+    let rows = problem.n;
+    let (pivots, calls) = finder.find(rt, alloc, field, problem)?;
+    let account = account_of(alloc, &closed, rows, calls)?;
     let elements = elements_of(
         rt,
         alloc,

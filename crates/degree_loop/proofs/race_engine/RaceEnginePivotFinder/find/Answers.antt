@@ -1,0 +1,9 @@
+use Rattle.std.proofs.Common.{ap, ◌∙◌}
+use Rattle.pivot_core.specs.History.{merged}
+use Rattle.degree_loop.proofs.RaceAccounts.{raced_calls}
+use Rattle.degree_loop.proofs.race_engine.RaceEnginePivotFinder.find.Goals as goal
+
+pub returns-clause-calls : goal.returns-clause-calls
+returns-clause-calls g c =
+    raced_calls c.args.problem c.args.self.now.workers c.crew_for-crew.result c.crew_for-crew.ensures c.in_ok-pivots.pivots c.in_ok-pivots.ensures.run
+    c.in_ok-calls.calls (c.in_ok-calls.ensures ∙ ap merged c.logs.ensures)
