@@ -8,6 +8,8 @@ mod longer;
 mod next;
 mod order;
 mod place;
+#[cfg(test)]
+mod tests;
 
 ghost use Rattle.anick_chains.specs.BasisTips.{HasMinimalChains};
 ghost use Rattle.anick_chains.specs.Laws.{HasExtensions, HasListedMates, HasMates, IsPairing};
