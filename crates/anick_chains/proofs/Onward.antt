@@ -1,17 +1,18 @@
 -- The chains of a list, one after another, with one more piece.
-use Rattle.std.proofs.Common.{◌≡◌, ◌+◌, ◌<◌, ◌≤◌, ℕ, List, ◌++◌, ◌∷◌, [], length, map, take, get_or, sym, ap, ◌∙◌, arith, subst, length-append}
+use Rattle.std.proofs.Common.{◌≡◌, ◌+◌, ◌<◌, ◌≤◌, ℕ, List, ◌++◌, ◌∷◌, [], All, length, map, take, get_or, sym, ap, ◌∙◌, arith, subst, length-append}
 use Rattle.std.specs.List.{Contains, flat_map}
 use Rattle.std.proofs.lemmas.List.{length-map, take_all}
 use Rattle.std.proofs.lemmas.List.Folds.{flat_map-map}
 use Rattle.words.specs.Words.{IsOver}
-use Rattle.words.proofs.Members.{Contains-map}
+use Rattle.std.proofs.lemmas.List.Elements.{All-cons, All-nil}
+use Rattle.words.proofs.Members.{All-from_members, Contains-map}
 use Rattle.free_poly.specs.declared.term.Term.{Term}
 use Rattle.ideal_laws.specs.Closure.{IsFactorFree}
 use Rattle.ideal_laws.specs.Engine.{Elements}
 use Rattle.ideal_laws.specs.Kept.{IsKept}
 use Rattle.anick_chains.specs.declared.chain.Chain.{Chain}
 use Rattle.anick_chains.specs.BasisTips.{leads_of}
-use Rattle.anick_chains.specs.Chains.{IsChain}
+use Rattle.anick_chains.specs.Chains.{AreNext, IsChain}
 use Rattle.anick_chains.specs.Listed.{AreListed, pieces_of, with_degree}
 use Rattle.anick_chains.specs.Walk.{continued, last_piece, next_of, onward}
 use Rattle.anick_chains.proofs.BasisTips.{listed_tips}
@@ -57,3 +58,19 @@ module _ (weights : List ℕ) (G : List (List Term)) (d : ℕ) (found : List Cha
         flat_map-most f found (i + 1),
         ap length (flat_map-map (onward weights G d) (λ (y : Chain). y.pieces) found),
       )
+
+-- the pieces of a chain are over the letters
+chain_over : (T : List ℕ → Type 0) (names : ℕ) (c : List (List ℕ)) → IsChain T names c → All (IsOver names) c
+chain_over T names [] h = absurd h
+chain_over T names (q ∷ qs) h =
+    All-cons (IsOver names) q qs (subst (IsOver names) (sym h.0.is) (All-cons (λ x. x < names) h.0.letter [] h.0.within (All-nil (λ x. x < names)))) (rest q qs h.1)
+  where
+    rest : (p : List ℕ) (rs : List (List ℕ)) → AreNext T names p rs → All (IsOver names) rs
+    rest p [] k = All-nil (IsOver names)
+    rest p (r ∷ rs) k = All-cons (IsOver names) r rs k.0.over (rest r rs k.1)
+
+-- and so are those of all listed chains
+pub listed_over : (T : List ℕ → Type 0) (names : ℕ) (weights : List ℕ) (e : ℕ) (found : List Chain) → AreListed T names weights e found → All (λ x. All (IsOver names) x.pieces) found
+listed_over T names weights e found h =
+    All-from_members (λ x. All (IsOver names) x.pieces) found
+    (λ x m. chain_over T names x.pieces ((h.chains.exactly x.pieces).0 (Contains-map (λ (y : Chain). y.pieces) found x m)).0)

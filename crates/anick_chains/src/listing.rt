@@ -1,5 +1,6 @@
-ghost use Rattle.std.specs.Prelude.{◌≡◌, ◌-◌, ◌<◌, ◌≤◌, List, ℕ, Contains, IfOk, IsErrOf, OnOk, length};
+ghost use Rattle.std.specs.Prelude.{◌≡◌, ◌-◌, ◌<◌, ◌≤◌, List, ℕ, All, Contains, IfOk, IsErrOf, OnOk, length};
 ghost use Rattle.std.specs.List.Sorted.{IsPermutation, IsSorted};
+ghost use Rattle.words.specs.Words.{IsOver};
 ghost use Rattle.free_poly.specs.declared.term.Term.{Term};
 ghost use Rattle.ideal_laws.specs.Closure.{IsFactorFree};
 ghost use Rattle.ideal_laws.specs.Engine.{IsReducedUpto};
@@ -35,6 +36,7 @@ pub fn chains(
     ensures listed { IfOk result (λ found.
         AreListed (Contains (leads_of basis.now.elements)) (length basis.now.weights) basis.now.weights bound found) }
     ensures within { IfOk result (λ found. length found ≤ most) }
+    ensures letters { IfOk result (λ found. All (λ c. All (IsOver (length basis.now.weights)) c.pieces) found) }
 
     // Where the basis is reduced, the tips are the minimal words.
     ensures minimal { IfOk result (λ found.

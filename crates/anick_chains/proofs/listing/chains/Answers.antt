@@ -1,4 +1,4 @@
-use Rattle.std.proofs.Common.{◌≡◌, ◌+◌, ◌-◌, ◌<◌, ◌≤◌, ℕ, Err, [], List, length, arith, inl, inr, subst, sym, ap, ◌∙◌}
+use Rattle.std.proofs.Common.{◌≡◌, ◌+◌, ◌-◌, ◌<◌, ◌≤◌, ℕ, All, Err, [], List, length, arith, inl, inr, subst, sym, ap, ◌∙◌}
 use Rattle.std.specs.List.{Contains}
 use Rattle.std.proofs.lemmas.Bool.{cases_lt}
 use Rattle.std.proofs.lemmas.Result.{err_from_is_err_and}
@@ -7,6 +7,8 @@ use Rattle.anick_chains.specs.declared.chain.Chain.{Chain}
 use Rattle.anick_chains.specs.BasisTips.{leads_of}
 use Rattle.anick_chains.specs.Listed.{AreListed}
 use Rattle.anick_chains.specs.Listing.{IsNumber}
+use Rattle.words.specs.Words.{IsOver}
+use Rattle.anick_chains.proofs.Onward.{listed_over}
 use Rattle.anick_chains.proofs.MinimalChains.{listed_minimal}
 use Rattle.anick_chains.proofs.Steps.{none_listed, number_listed}
 use Rattle.anick_chains.proofs.listing.chains.Goals as goal
@@ -73,3 +75,9 @@ returns-clause-minimal c = λ p relations st upto.
     listed_minimal b c.done-done.ensures.kept p relations st upto c.args.bound c.requires.done c.from_vec.result
     (subst (AreListed (Contains (leads_of b.elements)) (length b.weights) b.weights c.args.bound) (sym c.from_vec.ensures)
     (subst (λ (n : ℕ). AreListed (Contains (leads_of b.elements)) (length b.weights) b.weights n c.loop-degree.found.items) last c.loop-degree.invariant.listed))
+
+pub returns-clause-letters : goal.returns-clause-letters
+returns-clause-letters c =
+    let b = c.args.basis.now in
+    subst (All (λ x. All (IsOver (length b.weights)) x.pieces)) (sym c.from_vec.ensures)
+    (listed_over (Contains (leads_of b.elements)) (length b.weights) b.weights (c.loop-degree.degree - 1) c.loop-degree.found.items c.loop-degree.invariant.listed)
