@@ -20,3 +20,4 @@ pub mod Sorted
 pub mod Steps
 pub mod Onward
 pub mod MinimalChains
+pub mod Blocks

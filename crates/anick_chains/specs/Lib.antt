@@ -6,3 +6,4 @@ pub mod Listing
 pub mod Listed
 pub mod Walk
 pub mod Compare
+pub mod Texts

@@ -7,15 +7,18 @@ mod listing;
 mod longer;
 mod next;
 mod order;
+mod piece;
 mod place;
 #[cfg(test)]
 mod tests;
+mod text;
 
 ghost use Rattle.anick_chains.specs.BasisTips.{HasMinimalChains};
 ghost use Rattle.anick_chains.specs.Laws.{HasExtensions, HasListedMates, HasMates, IsPairing};
 
 pub use chain::{Chain, ChainFault};
 pub use listing::chains;
+pub use text::chain_text;
 
 /// The pairing law: each pair of a chain, or none, and a normal word has exactly one mate, which has the same degree
 /// and a length greater or less by 1, and is the mate of its mate; so a list of all pairs of one degree of 1 or more
