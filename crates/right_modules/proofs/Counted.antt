@@ -35,11 +35,13 @@ module _ (weights : List ℕ) (free : ℕ) (leads : List Lead) where
     pub each : (e : ℕ) → e < d → (words : List (List ℕ)) × AreNormal weights free leads e words × (get_or numbers e 0 ≡ length words)
     pub few : All (λ n. n ≤ most) numbers
 
+  -- no degree is counted
   pub none_counted : (most : ℕ) → AreNumbersBelow most 0 []
   none_counted most = record { size = refl; each = λ e lt. absurd (omega (arith, lt)); few = All-nil (λ n. n ≤ most) }
 
   -- one more number
-  pub numbers-more : (most d : ℕ) (numbers : List ℕ) (words : List (List ℕ)) → AreNumbersBelow most d numbers → AreNormal weights free leads d words → length words ≤ most
+  pub numbers-more : (most d : ℕ) (numbers : List ℕ) (words : List (List ℕ)) → AreNumbersBelow most d numbers → AreNormal weights free leads d words
+      → length words ≤ most
       → AreNumbersBelow most (d + 1) (numbers ++ length words ∷ [])
   numbers-more most d numbers words h normal le = record {
     size = omega (arith, h.size, length-append numbers (length words ∷ []));
@@ -69,7 +71,8 @@ module _ (p : ℕ) (given : Presentation) (gens bound : ℕ) (leads : List Lead)
   }
 
   -- so their numbers are the coefficients
-  pub numbers_are : (most : ℕ) (numbers : List ℕ) → AreNumbersBelow given.alphabet.weights (free_letters given gens) leads most (bound + 1) numbers → AreModuleNumbers p given gens bound numbers
+  pub numbers_are : (most : ℕ) (numbers : List ℕ) → AreNumbersBelow given.alphabet.weights (free_letters given gens) leads most (bound + 1) numbers
+      → AreModuleNumbers p given gens bound numbers
   numbers_are most numbers h = record {
     size = h.size;
     each = λ d le.
@@ -78,7 +81,8 @@ module _ (p : ℕ) (given : Presentation) (gens bound : ℕ) (leads : List Lead)
   }
 
   -- and the first degree with too many is the first large one
-  pub first_large : (most d : ℕ) (numbers : List ℕ) (words : List (List ℕ)) → d ≤ bound → AreNumbersBelow given.alphabet.weights (free_letters given gens) leads most d numbers → Normal d words
+  pub first_large : (most d : ℕ) (numbers : List ℕ) (words : List (List ℕ)) → d ≤ bound
+      → AreNumbersBelow given.alphabet.weights (free_letters given gens) leads most d numbers → Normal d words
       → most < length words → IsFirstLarge p given gens most bound d (most + 1)
   first_large most d numbers words le h normal more = record {
     upto = le;

@@ -1,73 +1,29 @@
 -- The words of all last letters are the normal module words of the degree.
-use Rattle.std.proofs.Common.{◌≡◌, ◌≢◌, ◌+◌, ◌-◌, ◌==◌, ◌++◌, ◌<◌, ◌≤◌, ◌∙◌, ℕ, Bool, true, false, cond, ltb, List, [], ◌∷◌, All, AllPairs, ap, arith, drop, eq-eqb, get_or, inl, inr, length, length-append, refl, subst, sym, take}
+use Rattle.std.proofs.Common.{◌≡◌, ◌≢◌, ◌+◌, ◌-◌, ◌==◌, ◌++◌, ◌<◌, ◌≤◌, ◌∙◌, ℕ, Bool, true, false, cond, ltb, List, [], ◌∷◌, AllPairs, ap, arith, eq-eqb, get_or, inl, inr, length, refl, subst, sym}
 use Rattle.std.specs.List.{Contains, flat_map, range_with_len}
 use Rattle.std.proofs.lemmas.Bool.{cases_lt, eqb-true, le-ltb, lt-ltb, ltb-false, ltb-true}
-use Rattle.std.proofs.lemmas.Grind.{flat_map-append}
-use Rattle.std.proofs.lemmas.List.{append-nil, drop-append-le, get_or_default, get_or_past, length-drop, take-append-le, take_more}
-use Rattle.std.proofs.lemmas.List.Elements.{All-append, All-cons, All-contains, All-head, All-nil}
-use Rattle.std.proofs.lemmas.List.Folds.{length-flat_map-take}
-use Rattle.std.proofs.lemmas.List.FromFn.{get_or-range_with_len, length-range_with_len}
+use Rattle.std.proofs.lemmas.List.{get_or_past}
+use Rattle.std.proofs.lemmas.List.Elements.{All-append, All-cons, All-head, All-nil}
 use Rattle.std.proofs.lemmas.List.Kept.{AllPairs-cons}
-use Rattle.words.specs.Words.{AreWeights, IsOver, OccursAt, degree_of, weight_of, words_of_degree}
-use Rattle.words.proofs.Degrees.{Contains-range, listed_word, range-bounds, range-rising, words_of_degree-says}
-use Rattle.words.proofs.Members.{AllPairs-flat_map, AllPairs-nil, All-from_members, Contains-flat_map, Contains-flat_map_cases, Contains-none}
-use Rattle.words.proofs.Weights.{degree_of-append, degree_of-positive, length-le-degree_of, weight_of-bounds}
+use Rattle.words.specs.Words.{AreWeights, IsOver, degree_of, weight_of}
+use Rattle.words.proofs.Degrees.{Contains-range, range-bounds, range-rising}
+use Rattle.words.proofs.Members.{AllPairs-flat_map, AllPairs-nil, Contains-flat_map, Contains-flat_map_cases, Contains-none}
+use Rattle.words.proofs.Weights.{degree_of-append, degree_of-positive, weight_of-bounds}
 use Rattle.ideal_laws.proofs.Factors.{All-back, All-front}
 use Rattle.ideal_laws.proofs.Neighbours.{ended}
 use Rattle.lead_index.specs.declared.lead.Lead.{Lead}
 use Rattle.lead_index.specs.Leads.{IsFree}
 use Rattle.right_modules.specs.Extended.{AreHeld, AreNormal, ending, extended, stands, unless_stands}
-use Rattle.right_modules.specs.Module.{IsModuleWord, is_module_word}
+use Rattle.right_modules.specs.Module.{IsModuleWord}
 use Rattle.right_modules.specs.ModuleDimension.{module_words}
-use Rattle.right_modules.proofs.Filters.{filter-says, in_filter}
-use Rattle.right_modules.proofs.Shapes.{is_module_word-is, is_module_word-says}
+use Rattle.right_modules.proofs.ModuleWords.{IsFree-front, IsModuleWord-push, module_words-has, module_words-says, same_ends}
 use Rattle.right_modules.proofs.Standing.{extended-has, extended-says, unless_stands-has, unless_stands-says}
-
--- two words with a letter behind them are one where the words and the letters are
-pub same_ends : (u v : List ℕ) (x y : ℕ) → u ++ x ∷ [] ≡ v ++ y ∷ [] → (u ≡ v) × (x ≡ y)
-same_ends [] [] x y e = (refl, cc e)
-same_ends [] (b ∷ v) x y e = absurd (omega (arith, ap length e, length-append v (y ∷ [])))
-same_ends (a ∷ u) [] x y e = absurd (omega (arith, ap length e, length-append u (x ∷ [])))
-same_ends (a ∷ u) (b ∷ v) x y e =
-    let first : a ≡ b = cc e in
-    let rest : u ++ x ∷ [] ≡ v ++ y ∷ [] = cc e in
-    let r = same_ends u v x y rest in
-    (ap (λ (w : List ℕ). a ∷ w) r.0 ∙ ap (λ (c : ℕ). c ∷ v) first, r.1)
-
--- the front of a free word is free
-pub IsFree-front : (leads : List Lead) (u v : List ℕ) → IsFree leads (u ++ v) → IsFree leads u
-IsFree-front leads u v h at = All-from_members (λ l. OccursAt l.word u at → ⊥) leads (λ l m o.
-    All-contains (λ k. OccursAt k.word (u ++ v) at → ⊥) leads l (h at) m (record {
-      within = omega (arith, o.within, length-append u v);
-      same =
-          ap (take (length l.word)) (drop-append-le at u v (omega (arith, o.within)))
-          ∙ take-append-le (length l.word) (drop at u) v (omega (arith, o.within, length-drop at u)) ∙ o.same;
-    }))
 
 -- the words that end with each letter in turn
 abbrev pub endings : List ℕ → ℕ → List Lead → ℕ → List (List (List ℕ)) → List (List ℕ)
 endings weights free leads d held = flat_map (ending weights free leads d held) (range_with_len 0 (length weights))
 
-letter_at : (m n : ℕ) → n < m → n ≡ get_or (range_with_len 0 m) n n
-letter_at m n lt = let none : n ≡ 0 + n = omega arith in none ∙ sym (get_or-range_with_len 0 m n n lt)
-
 module _ (weights : List ℕ) (aw : AreWeights weights) (free : ℕ) where
-  -- a module word with a free letter behind it is one
-  pub IsModuleWord-push : (u : List ℕ) (x : ℕ) → IsModuleWord free u → x < free → IsModuleWord free (u ++ x ∷ [])
-  IsModuleWord-push [] x h lt = absurd h
-  IsModuleWord-push (g ∷ u) x h lt = (h.0, All-append (λ y. y < free) u (x ∷ []) h.1 (All-cons (λ y. y < free) x [] lt (All-nil (λ y. y < free))))
-
-  -- what the module words of a degree are
-  pub module_words-says : (d : ℕ) (w : List ℕ) → Contains (module_words weights free d) w → IsModuleWord free w × (IsOver (length weights) w × (degree_of weights w ≡ d))
-  module_words-says d w m =
-      let s = filter-says (is_module_word free) (words_of_degree weights d) w m in
-      (is_module_word-says free w s.1, words_of_degree-says weights aw d w s.0)
-
-  -- and which words they have
-  pub module_words-has : (d : ℕ) (w : List ℕ) → IsModuleWord free w → IsOver (length weights) w → degree_of weights w ≡ d → Contains (module_words weights free d) w
-  module_words-has d w h over e =
-      in_filter (is_module_word free) (words_of_degree weights d) w (subst (λ (n : ℕ). Contains (words_of_degree weights n) w) e (listed_word weights aw w over)) (is_module_word-is free w h)
-
   module _ (leads : List Lead) (d : ℕ) (held : List (List (List ℕ))) (h : AreHeld weights free leads d held) where
     abbrev Apart : List ℕ → List ℕ → Type 0
     Apart v w = v ≢ w
@@ -94,31 +50,38 @@ module _ (weights : List ℕ) (aw : AreWeights weights) (free : ℕ) where
     ]
 
     -- a word that ends with a free letter
-    free_says : (x : ℕ) (w : List ℕ) → x < free → x < length weights → Contains (extended leads x (fronts x)) w → Contains (module_words weights free d) w × IsFree leads w
+    free_says : (x : ℕ) (w : List ℕ) → x < free → x < length weights → Contains (extended leads x (fronts x)) w
+        → Contains (module_words weights free d) w × IsFree leads w
     free_says x w lt within m =
         let s = extended-says leads x (fronts x) w m in
         let l = left x (front_held x s.front s.among) in
         let a = (l.normal.exactly s.front).0 s.among in
-        let b = module_words-says (d - weight_of weights x) s.front a.0 in
-        let over = All-append (λ y. y < length weights) s.front (x ∷ []) b.1.0 (All-cons (λ y. y < length weights) x [] within (All-nil (λ y. y < length weights))) in
+        let b = module_words-says weights aw free (d - weight_of weights x) s.front a.0 in
+        let over = All-append (λ y. y < length weights) s.front (x ∷ []) b.1.0
+        (All-cons (λ y. y < length weights) x [] within (All-nil (λ y. y < length weights))) in
         let degree : degree_of weights (s.front ++ x ∷ []) ≡ d = omega (arith, degree_of-append weights s.front (x ∷ []), b.1.1, l.degree) in
-        (subst (Contains (module_words weights free d)) s.is (module_words-has d (s.front ++ x ∷ []) (IsModuleWord-push s.front x b.0 lt) over degree), s.free)
+        (subst (Contains (module_words weights free d)) s.is (module_words-has weights aw free d (s.front ++ x ∷ []) (IsModuleWord-push free s.front x b.0 lt) over degree), s.free)
 
     -- a word that ends with a generator
-    generator_says : (x : ℕ) (w : List ℕ) → free ≤ x → x < length weights → weight_of weights x ≡ d → Contains (unless_stands leads (x ∷ [])) w → Contains (module_words weights free d) w × IsFree leads w
+    generator_says : (x : ℕ) (w : List ℕ) → free ≤ x → x < length weights → weight_of weights x ≡ d → Contains (unless_stands leads (x ∷ [])) w
+        → Contains (module_words weights free d) w × IsFree leads w
     generator_says x w le within e m =
         let s = unless_stands-says leads (x ∷ []) w m in
-        let word = module_words-has d (x ∷ []) (le, All-nil (λ y. y < free)) (All-cons (λ y. y < length weights) x [] within (All-nil (λ y. y < length weights))) (omega (arith, e)) in
+        let word = module_words-has weights aw free d (x ∷ []) (le, All-nil (λ y. y < free))
+        (All-cons (λ y. y < length weights) x [] within (All-nil (λ y. y < length weights))) (omega (arith, e)) in
         (subst (Contains (module_words weights free d)) s.1 word, subst (IsFree leads) s.1 s.0)
 
-    ending-says : (x : ℕ) (w : List ℕ) → x < length weights → Contains (ending weights free leads d held x) w → Contains (module_words weights free d) w × IsFree leads w
+    ending-says : (x : ℕ) (w : List ℕ) → x < length weights → Contains (ending weights free leads d held x) w
+        → Contains (module_words weights free d) w × IsFree leads w
     ending-says x w within m = by_letter (ltb x free) refl m
       where
-        by_weight : (b : Bool) → (weight_of weights x == d) ≡ b → free ≤ x → Contains (cond b (unless_stands leads (x ∷ [])) []) w → Contains (module_words weights free d) w × IsFree leads w
+        by_weight : (b : Bool) → (weight_of weights x == d) ≡ b → free ≤ x → Contains (cond b (unless_stands leads (x ∷ [])) []) w
+            → Contains (module_words weights free d) w × IsFree leads w
         by_weight true e le n = generator_says x w le within (eqb-true (weight_of weights x) d e) n
         by_weight false e le n = absurd (Contains-none w n)
 
-        by_letter : (b : Bool) → ltb x free ≡ b → Contains (cond b (extended leads x (fronts x)) (cond (weight_of weights x == d) (unless_stands leads (x ∷ [])) [])) w
+        by_letter : (b : Bool) → ltb x free ≡ b
+            → Contains (cond b (extended leads x (fronts x)) (cond (weight_of weights x == d) (unless_stands leads (x ∷ [])) [])) w
             → Contains (module_words weights free d) w × IsFree leads w
         by_letter true e n = free_says x w (ltb-true x free e) within n
         by_letter false e n = by_weight (weight_of weights x == d) refl (ltb-false x free e) n
@@ -126,17 +89,21 @@ module _ (weights : List ℕ) (aw : AreWeights weights) (free : ℕ) where
     ending-generator : (x : ℕ) → free ≤ x → weight_of weights x ≡ d → IsFree leads (x ∷ []) → Contains (ending weights free leads d held x) (x ∷ [])
     ending-generator x le e f =
         let no : ltb x free ≡ false = le-ltb x free le in
-        subst (λ (b : Bool). Contains (cond b (extended leads x (fronts x)) (cond (weight_of weights x == d) (unless_stands leads (x ∷ [])) [])) (x ∷ [])) (sym no)
+        subst (λ (b : Bool). Contains (cond b (extended leads x (fronts x)) (cond (weight_of weights x == d) (unless_stands leads (x ∷ [])) [])) (x ∷ []))
+        (sym no)
         (subst (λ (b : Bool). Contains (cond b (unless_stands leads (x ∷ [])) []) (x ∷ [])) (sym (eq-eqb (weight_of weights x) d e)) (unless_stands-has leads (x ∷ []) f))
 
-    ending-free : (x : ℕ) (u : List ℕ) → x < free → Contains (fronts x) u → IsFree leads (u ++ x ∷ []) → Contains (ending weights free leads d held x) (u ++ x ∷ [])
+    ending-free : (x : ℕ) (u : List ℕ) → x < free → Contains (fronts x) u → IsFree leads (u ++ x ∷ [])
+        → Contains (ending weights free leads d held x) (u ++ x ∷ [])
     ending-free x u lt m f =
-        subst (λ (b : Bool). Contains (cond b (extended leads x (fronts x)) (cond (weight_of weights x == d) (unless_stands leads (x ∷ [])) [])) (u ++ x ∷ [])) (sym (lt-ltb x free lt))
+        subst (λ (b : Bool). Contains (cond b (extended leads x (fronts x)) (cond (weight_of weights x == d) (unless_stands leads (x ∷ [])) [])) (u ++ x ∷ []))
+        (sym (lt-ltb x free lt))
         (extended-has leads x (fronts x) u m f)
 
     in_endings : (x : ℕ) (w : List ℕ) → x < length weights → Contains (ending weights free leads d held x) w → Contains (endings weights free leads d held) w
     in_endings x w within m =
-        Contains-flat_map (ending weights free leads d held) (range_with_len 0 (length weights)) x w (Contains-range 0 (length weights) x (omega arith) (omega (arith, within))) m
+        Contains-flat_map (ending weights free leads d held) (range_with_len 0 (length weights)) x w
+        (Contains-range 0 (length weights) x (omega arith) (omega (arith, within))) m
 
     says : (w : List ℕ) → Contains (endings weights free leads d held) w → Contains (module_words weights free d) w × IsFree leads w
     says w m =
@@ -144,7 +111,8 @@ module _ (weights : List ℕ) (aw : AreWeights weights) (free : ℕ) where
         ending-says r.0 w (omega (arith, (range-bounds 0 (length weights) r.0 r.1).1)) r.2
 
     -- a generator and a word with a letter behind it
-    has_longer : (g : ℕ) (v : List ℕ) (x : ℕ) → IsModuleWord free (g ∷ (v ++ x ∷ [])) → IsOver (length weights) (g ∷ (v ++ x ∷ [])) → degree_of weights (g ∷ (v ++ x ∷ [])) ≡ d → IsFree leads (g ∷ (v ++ x ∷ []))
+    has_longer : (g : ℕ) (v : List ℕ) (x : ℕ) → IsModuleWord free (g ∷ (v ++ x ∷ [])) → IsOver (length weights) (g ∷ (v ++ x ∷ []))
+        → degree_of weights (g ∷ (v ++ x ∷ [])) ≡ d → IsFree leads (g ∷ (v ++ x ∷ []))
         → Contains (endings weights free leads d held) (g ∷ (v ++ x ∷ []))
     has_longer g v x mw over e f =
         let lt : x < free = All-head (λ y. y < free) x [] (All-back (λ y. y < free) v (x ∷ []) mw.1) in
@@ -155,10 +123,11 @@ module _ (weights : List ℕ) (aw : AreWeights weights) (free : ℕ) where
         let w = weight_of-bounds weights aw x in
         let l = left x (omega (arith, h.count, e, sum, some, w.0, w.1)) in
         let front : Contains (fronts x) (g ∷ v) =
-        (l.normal.exactly (g ∷ v)).1 (module_words-has (d - weight_of weights x) (g ∷ v) (mw.0, All-front (λ y. y < free) v (x ∷ []) mw.1) over_u (omega (arith, sum, e, l.degree)), IsFree-front leads (g ∷ v) (x ∷ []) f) in
+        (l.normal.exactly (g ∷ v)).1 (module_words-has weights aw free (d - weight_of weights x) (g ∷ v) (mw.0, All-front (λ y. y < free) v (x ∷ []) mw.1) over_u (omega (arith, sum, e, l.degree)), IsFree-front leads (g ∷ v) (x ∷ []) f) in
         in_endings x (g ∷ (v ++ x ∷ [])) over_x (ending-free x (g ∷ v) lt front f)
 
-    has : (w : List ℕ) → IsModuleWord free w → IsOver (length weights) w → degree_of weights w ≡ d → IsFree leads w → Contains (endings weights free leads d held) w
+    has : (w : List ℕ) → IsModuleWord free w → IsOver (length weights) w → degree_of weights w ≡ d → IsFree leads w
+        → Contains (endings weights free leads d held) w
     has [] mw over e f = absurd mw
     has (g ∷ []) mw over e f =
         in_endings g (g ∷ []) (All-head (λ y. y < length weights) g [] over) (ending-generator g mw.0 (omega (arith, e)) f)
@@ -199,7 +168,8 @@ module _ (weights : List ℕ) (aw : AreWeights weights) (free : ℕ) where
     ends_with : (x : ℕ) (w : List ℕ) → Contains (ending weights free leads d held x) w → (front : List ℕ) × (front ++ x ∷ [] ≡ w)
     ends_with x w m = by_tests (ltb x free) (weight_of weights x == d) m
       where
-        by_tests : (b c : Bool) → Contains (cond b (extended leads x (fronts x)) (cond c (unless_stands leads (x ∷ [])) [])) w → (front : List ℕ) × (front ++ x ∷ [] ≡ w)
+        by_tests : (b c : Bool) → Contains (cond b (extended leads x (fronts x)) (cond c (unless_stands leads (x ∷ [])) [])) w
+            → (front : List ℕ) × (front ++ x ∷ [] ≡ w)
         by_tests true c n = let s = extended-says leads x (fronts x) w n in (s.front, s.is)
         by_tests false true n = ([], (unless_stands-says leads (x ∷ []) w n).1)
         by_tests false false n = absurd (Contains-none w n)
@@ -207,7 +177,7 @@ module _ (weights : List ℕ) (aw : AreWeights weights) (free : ℕ) where
     -- the words of all last letters
     pub endings_normal : AreNormal weights free leads d (endings weights free leads d held)
     endings_normal = record {
-      exactly = λ w. (says w, λ (m, f). let s = module_words-says d w m in has w s.0 s.1.0 s.1.1 f);
+      exactly = λ w. (says w, λ (m, f). let s = module_words-says weights aw free d w m in has w s.0 s.1.0 s.1.1 f);
       apart = AllPairs-flat_map (ending weights free leads d held) (λ x y. x < y) Apart ending-apart
           (λ x y u v lt m n e.
           let a = ends_with x u m in
@@ -216,39 +186,3 @@ module _ (weights : List ℕ) (aw : AreWeights weights) (free : ℕ) where
           omega (arith, lt, same))
           (range_with_len 0 (length weights)) (range-rising 0 (length weights));
     }
-
-    -- in degrees below 64 no word has 64 letters
-    pub held_short : d ≤ 64 → All (All (λ v. length v < 64)) held
-    held_short room k ds within =
-        let e : d - (k + 1) + k + 1 ≡ d = omega (arith, within, h.count) in
-        let normal = h.each k (d - (k + 1)) within e in
-        subst (All (λ v. length v < 64)) (get_or_default held k [] ds within)
-        (All-from_members (λ v. length v < 64) (get_or held k []) (λ v m.
-        let degree = (module_words-says (d - (k + 1)) v ((normal.exactly v).0 m).0).1.1 in
-        omega (arith, room, e, degree, length-le-degree_of weights aw v)))
-
-    -- the words that end with one more letter
-    pub endings-step : (words new : List (List ℕ)) (n : ℕ) → n < length weights → words ≡ flat_map (ending weights free leads d held) (take n (range_with_len 0 (length weights)))
-        → new ≡ words ++ ending weights free leads d held n → new ≡ flat_map (ending weights free leads d held) (take (n + 1) (range_with_len 0 (length weights)))
-    endings-step words new n lt so_far grown =
-        let f = ending weights free leads d held in
-        let letters = range_with_len 0 (length weights) in
-        let at = letter_at (length weights) n lt in
-        let more = take_more letters n n (omega (arith, lt, length-range_with_len 0 (length weights))) ∙ ap (λ (k : ℕ). take n letters ++ k ∷ []) (sym at) in
-        grown ∙ ap (λ (us : List (List ℕ)). us ++ f n) so_far
-        ∙ sym (ap (flat_map f) more ∙ flat_map-append f (take n letters) (n ∷ []) ∙ ap (λ (us : List (List ℕ)). flat_map f (take n letters) ++ us) (append-nil (f n)))
-
-    -- all of them are no fewer
-    pub endings-longer : (most : ℕ) (words : List (List ℕ)) (n : ℕ) → n < length weights → words ≡ flat_map (ending weights free leads d held) (take n (range_with_len 0 (length weights)))
-        → most < length (words ++ ending weights free leads d held n) → most < length (endings weights free leads d held)
-    endings-longer most words n lt so_far more =
-        let f = ending weights free leads d held in
-        let letters = range_with_len 0 (length weights) in
-        omega (
-          arith,
-          more,
-          length-append words (f n),
-          ap length so_far,
-          length-flat_map-take f letters n n (omega (arith, lt, length-range_with_len 0 (length weights))),
-          ap (λ (k : ℕ). length (f k)) (letter_at (length weights) n lt),
-        )

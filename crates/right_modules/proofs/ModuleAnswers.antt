@@ -1,13 +1,13 @@
 -- What is told of a right module over the reduced basis of its ideal.
-use Rattle.std.proofs.Common.{◌≡◌, ◌+◌, ℕ, All, List, arith, subst, sym}
+use Rattle.std.proofs.Common.{◌≡◌, ◌+◌, ℕ, All, List, ap, arith, subst, sym}
 use Rattle.free_poly.specs.declared.term.Term.{Term}
 use Rattle.ideal_laws.specs.declared.engine.EngineFault.{EngineFault}
 use Rattle.ideal_laws.specs.declared.engine.EngineFault.TheVariants as engine
 use Rattle.ideal_laws.specs.declared.limits.LimitKind.{LimitKind}
 use Rattle.ideal_laws.specs.declared.presentation.Presentation.{Presentation}
 use Rattle.ideal_laws.specs.Basis.{IsReducedBasis}
-use Rattle.ideal_laws.specs.Engine.{Elements, of_degree}
-use Rattle.ideal_laws.specs.Kept.{IsBelow}
+use Rattle.ideal_laws.specs.Engine.{Elements, IsReducedUpto, of_degree}
+use Rattle.ideal_laws.specs.Kept.{IsBelow, IsKept}
 use Rattle.ideal_laws.specs.Laws.{IsSetting}
 use Rattle.ideal_laws.proofs.Lower.{lists_lower}
 use Rattle.lead_index.specs.declared.lead.Lead.{Lead}
@@ -24,7 +24,8 @@ use Rattle.right_modules.proofs.ModuleCounts.{outside_where_normal}
 use Rattle.right_modules.proofs.ModuleReduced.{part_is_basis}
 
 -- a fault that is a limit comes of the engine's limit
-pub limit_from_fault : (fault : EngineFault) (kind : LimitKind) (degree value : ℕ) → fault_of fault ≡ own.Limit kind degree value → fault ≡ engine.Limit kind degree value
+pub limit_from_fault : (fault : EngineFault) (kind : LimitKind) (degree value : ℕ) → fault_of fault ≡ own.Limit kind degree value
+    → fault ≡ engine.Limit kind degree value
 limit_from_fault (engine.Limit k d v) kind degree value e = cc e
 limit_from_fault engine.NoMemory kind degree value e = cc e
 
@@ -34,13 +35,21 @@ no_shape_from_fault (engine.Limit k d v) relation e = cc e
 no_shape_from_fault engine.NoMemory relation e = cc e
 
 -- what is asked of the relations is what is told of the presentation
-pub shaped_from : (given : Presentation) (gens free : ℕ) (relations : List (List Term)) → relations ≡ given.relations → free ≡ free_letters given gens → All (IsShaped free) relations
+pub shaped_from : (given : Presentation) (gens free : ℕ) (relations : List (List Term)) → relations ≡ given.relations → free ≡ free_letters given gens
+    → All (IsShaped free) relations
     → AreShaped given gens
 shaped_from given gens free relations same letters h =
     subst (λ (n : ℕ). All (IsShaped n) given.relations) letters (subst (All (IsShaped free)) same h)
 
-module _ (p : ℕ) (given : Presentation) (gens bound : ℕ) (basis : Elements) (st : IsSetting p given.alphabet.weights given.relations) (shaped : AreShaped given gens)
-    (below : IsBelow p given.alphabet.weights given.relations (bound + 1) basis) where
+-- the reduced basis up to a bound is what lies below the degree after it
+pub below_after : (p : ℕ) (given : Presentation) (bound : ℕ) (basis : Elements) → IsKept basis → basis.done ≡ bound
+    → basis.weights ≡ given.alphabet.weights → IsReducedUpto p given.relations basis
+    → IsBelow p given.alphabet.weights given.relations (bound + 1) basis
+below_after p given bound basis kept done weights reduced =
+    record { kept = kept; next = ap (λ (n : ℕ). n + 1) done; same_weights = weights; reduced = reduced }
+
+module _ (p : ℕ) (given : Presentation) (gens bound : ℕ) (basis : Elements) (st : IsSetting p given.alphabet.weights given.relations)
+    (shaped : AreShaped given gens) (below : IsBelow p given.alphabet.weights given.relations (bound + 1) basis) where
   abbrev weights : List ℕ
   weights = given.alphabet.weights
 

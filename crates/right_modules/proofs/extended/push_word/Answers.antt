@@ -20,4 +20,5 @@ returns-in-Some-clause-word c =
 pub returns-in_ok-keep-in-None-clause-word : goal.returns-in_ok-keep-in-None-clause-word
 returns-in_ok-keep-in-None-clause-word c =
     let words = c.args.words.now.items in
-    c.in_ok-keep-in-None.ensures ∙ ap (λ (us : List (List ℕ)). words ++ us) (sym (unless_stands-free c.args.index.now c.args.letters.now c.in-None.ensures.place))
+    c.in_ok-keep-in-None.ensures ∙ ap (λ (us : List (List ℕ)). words ++ us)
+    (sym (unless_stands-free c.args.index.now c.args.letters.now c.in-None.ensures.place))

@@ -5,7 +5,8 @@ use Rattle.std.proofs.lemmas.List.FromFn.{length-range_with_len}
 use Rattle.std.proofs.lemmas.Result.{err_from_is_err_and}
 use Rattle.normal_words.proofs.Blocks.{one_fault}
 use Rattle.right_modules.specs.Extended.{AreNormal, ending}
-use Rattle.right_modules.proofs.Endings.{endings, endings-longer, endings-step, endings_normal, held_short}
+use Rattle.right_modules.proofs.EndingSteps.{endings-longer, endings-step, held_short}
+use Rattle.right_modules.proofs.Endings.{endings, endings_normal}
 use Rattle.right_modules.proofs.extended.words_of.Goals as goal
 
 pub push_ending-requires-clause-room : goal.push_ending-requires-clause-room
@@ -21,7 +22,8 @@ returns-in_err-push_ending-clause-many c = λ e.
     let more = c.in_err-push_ending.ensures.many (ap Err (sym p.2 ∙ one_fault c.from_residual.result _ _ p.1 e)) in (
       endings a.alphabet.now.weights a.free a.index.now a.d a.held.now,
       endings_normal a.alphabet.now.weights aw a.free a.index.now a.d a.held.now c.requires.held,
-      endings-longer a.alphabet.now.weights aw a.free a.index.now a.d a.held.now c.requires.held a.most _ c.loop-letter.letter (omega (arith, c.len-letters.ensures.count)) c.loop-letter.invariant.0 more,
+      endings-longer a.alphabet.now.weights aw a.free a.index.now a.d a.held.now c.requires.held a.most _ c.loop-letter.letter
+          (omega (arith, c.len-letters.ensures.count)) c.loop-letter.invariant.0 more,
     )
 
 pub loop-letter-preserved : goal.loop-letter-preserved
@@ -36,6 +38,7 @@ pub returns-clause-words : goal.returns-clause-words
 returns-clause-words c =
     let a = c.args in
     let weights = a.alphabet.now.weights in
-    let last = take_all c.loop-letter.letter (range_with_len 0 (length weights)) (omega (arith, c.len-letters.ensures.count, length-range_with_len 0 (length weights))) in
+    let last = take_all c.loop-letter.letter (range_with_len 0 (length weights))
+    (omega (arith, c.len-letters.ensures.count, length-range_with_len 0 (length weights))) in
     subst (AreNormal weights a.free a.index.now a.d) (sym (c.loop-letter.invariant.0 ∙ ap (flat_map (ending weights a.free a.index.now a.d a.held.now)) last))
     (endings_normal weights c.len-letters.ensures.alphabet.weights a.free a.index.now a.d a.held.now c.requires.held)

@@ -19,7 +19,8 @@ returns-in-Err-TooMany-clause-limit c = λ kind degree value e.
     let is : NormalWords ≡ kind = cc in (
       sym is,
       λ p tells.
-          let large = first_large p given c.args.gens c.args.bound c.args.index.now tells c.args.most d c.loop-degree.numbers.items m.0 (omega arith) c.loop-degree.invariant.0 normal m.2 in
+          let large = first_large p given c.args.gens c.args.bound c.args.index.now tells c.args.most d c.loop-degree.numbers.items m.0
+          (omega arith) c.loop-degree.invariant.0 normal m.2 in
           subst (λ (n : ℕ). IsFirstLarge p given c.args.gens c.args.most c.args.bound n value) same
           (subst (IsFirstLarge p given c.args.gens c.args.most c.args.bound d) most large),
     )
