@@ -154,7 +154,8 @@ quit;
 
 
 def macaulay2(algebra, bound, strategy="F4"):
-    """The first letter is the greatest. Where letters have weights, the order goes on by length, which ours does not."""
+    """The first letter is the greatest. Where letters have weights, the order goes on by length, which ours does not.
+    The strategies are F4, which is by linear algebra, and Naive."""
     if max(algebra.weights) > 1:
         raise Refused("Macaulay2 has no order of words with weights that is ours")
     return f"""needsPackage "AssociativeAlgebras";
@@ -178,16 +179,21 @@ vars {",".join(reversed(algebra.names))};
 """
 
 
+def macaulay2_naive(algebra, bound):
+    return macaulay2(algebra, bound, "Naive")
+
+
 # Each program with the words of its command, and what it is told. Debian's bergman is a script that does not say so.
 PROGRAMS = {
     "Singular": (["Singular", "-q", "--no-rc"], singular),
     "M2": (["M2", "--script", "/dev/stdin"], macaulay2),
+    "M2-naive": (["M2", "--script", "/dev/stdin"], macaulay2_naive),
     "bergman": (["sh", "-c", "bergman"], bergman),
 }
 
 
 def installed():
-    return [name for name in PROGRAMS if shutil.which(name)]
+    return [name for name in PROGRAMS if shutil.which(name.removesuffix("-naive"))]
 
 
 def basis_by(name, algebra, bound, seconds=600):
