@@ -1,0 +1,4 @@
+pub mod NormalForm
+pub mod ProductList
+pub mod Certificate
+pub mod Laws
