@@ -3,7 +3,11 @@
 #![tactic(auto)]
 
 mod certificate;
+mod laws;
 mod product;
+mod sum;
 
 pub use certificate::Certificate;
+pub use laws::normal_form_laws;
 pub use product::Product;
+pub use sum::expand;
