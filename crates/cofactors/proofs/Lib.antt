@@ -1,5 +1,7 @@
 pub mod NormalForms
-pub mod Triples
+pub mod TripleLists
+pub mod TripleCounts
+pub mod FactorMerges
 pub mod ProductLists
 pub mod FreeWords
 pub mod Echelon

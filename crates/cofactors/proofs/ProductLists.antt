@@ -25,7 +25,7 @@ use Rattle.cofactors.specs.declared.product.Product.{Product}
 use Rattle.cofactors.specs.Laws.{HasProductList}
 use Rattle.cofactors.specs.NormalForm.{IsNormalForm}
 use Rattle.cofactors.specs.ProductList.{IsProduct, IsProductList, StandsBefore, product_terms, relation_at, triple_terms, triples}
-use Rattle.cofactors.proofs.Triples.{degree_of_round, from_listed, from_ordered, from_says, one_degree}
+use Rattle.cofactors.proofs.TripleLists.{degree_of_round, from_listed, from_ordered, from_says, one_degree}
 
 -- a added at a place, modulo p
 abbrev add_at : ℕ → ℕ → ℕ → List ℕ → List ℕ

@@ -1,4 +1,5 @@
 pub mod NormalForm
 pub mod ProductList
 pub mod Certificate
+pub mod Rows
 pub mod Laws

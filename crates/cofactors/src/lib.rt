@@ -3,9 +3,12 @@
 #![tactic(auto)]
 
 mod certificate;
+mod factors;
 mod laws;
 mod product;
+mod row;
 mod sum;
+mod triples;
 
 pub use certificate::Certificate;
 pub use laws::normal_form_laws;
