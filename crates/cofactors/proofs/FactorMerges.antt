@@ -1,13 +1,12 @@
 -- Two lists of factors merged: the factors that were made, and what is left of the two.
-use Rattle.std.proofs.Common.{ap₂, ◌≡◌, ◌+◌, ◌*◌, ◌-◌, ◌<◌, ◌%◌, ◌==◌, ℕ, suc, Bool, true, false, cond, List, [], ◌∷◌, ◌++◌, length, get_or, take, drop, refl, sym, ap, ◌∙◌, inl, inr, arith, add-zero, zero-add, mul-zero, zero-mul, append-nil, add-mul, mul_assoc, subst, All, AllPairs}
-use Rattle.std.proofs.Math.Nat.{add-mod-mod, mod-lt, mod-eq_of_lt, mul-add}
+use Rattle.std.proofs.Common.{ap₂, ◌≡◌, ◌+◌, ◌*◌, ◌-◌, ◌<◌, ◌%◌, ◌==◌, ℕ, Bool, true, false, cond, List, [], ◌∷◌, ◌++◌, length, get_or, take, drop, refl, sym, ap, ◌∙◌, inl, inr, arith, add-zero, zero-add, mul-zero, zero-mul, append-nil, add-mul, mul_assoc, subst, All, AllPairs}
+use Rattle.std.proofs.Math.Nat.{add-mod-mod, mod-lt, mul-add}
 use Rattle.std.proofs.lemmas.Bool.{cases_Bool, eqb-true}
 use Rattle.std.proofs.lemmas.Cmp.{ranked}
 use Rattle.std.proofs.lemmas.Nat.{mul-mod_first}
 use Rattle.std.proofs.lemmas.List.{take_all}
 use Rattle.std.proofs.lemmas.List.Elements.{All-cons, All-head, All-nil, All-push, All-tail}
 use Rattle.std.proofs.lemmas.List.Quantifiers.{all_pairs_push}
-use Rattle.std.specs.Ordering.{nat_cmp}
 use Rattle.std.specs.declared.cmp.Ordering.TheVariants.{Less, Equal, Greater}
 use Rattle.words.proofs.Members.{AllPairs-first, AllPairs-nil, AllPairs-rest}
 use Rattle.free_poly.specs.declared.term.Term.{Term}

@@ -2,6 +2,13 @@ pub mod NormalForms
 pub mod TripleLists
 pub mod TripleCounts
 pub mod FactorMerges
+pub mod Clearing
+pub mod Spans
+pub mod MonicRows
+pub mod Insertion
+pub mod LeadingRows
+pub mod Negatives
+pub mod Certificates
 pub mod ProductLists
 pub mod FreeWords
 pub mod Echelon

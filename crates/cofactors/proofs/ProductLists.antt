@@ -113,7 +113,7 @@ module _ (p : ℕ) (fm : IsFieldModulus p) (relations : List (List Term)) where
           weighted-first c cs q qs w ∙ ap₂ K.add (ap (λ (n : ℕ). K.mul (of n) (vec (core q) w)) (eqb-true c 0 e) ∙ K.mul_comm (of 0) (vec (core q) w) ∙ mul_zero K (vec (core q) w)) h ∙ zero_add K _
       by_test false e h = weighted-first c cs q qs w ∙ ap₂ K.add (sym (vector_of-scaled p fm c (core q) w)) h ∙ sym (vector_of-append p fm (scaled c (core q)) (flat_map (product_terms relations) (listed_products cs qs)) w)
 
-  positive_from : (c : ℕ) → (c == 0) ≡ false → 0 < c
+  pub positive_from : (c : ℕ) → (c == 0) ≡ false → 0 < c
   positive_from zero e = cc e
   positive_from (suc c) e = omega arith
 
@@ -196,7 +196,7 @@ module _ (p : ℕ) (weights : List ℕ) (relations : List (List Term)) (st : IsS
   relation_is k r lt e = ap (λ (n : ℕ). get_or relations n []) (omega arith) ∙ get_or_default relations k [] r lt ∙ e
 
   -- the triple of a multiple
-  triple_of : (m : Multiple) → IsMultiple p weights relations d m → (q : Product) × Contains all q × (core p st.modulus relations q ≡ product m.left m.relation m.right)
+  pub triple_of : (m : Multiple) → IsMultiple p weights relations d m → (q : Product) × Contains all q × (core p st.modulus relations q ≡ product m.left m.relation m.right)
   triple_of m i =
       let k = i.among in
       let q : Product = record { coefficient = 0; left = m.left; relation = 1 + k.0; right = m.right } in

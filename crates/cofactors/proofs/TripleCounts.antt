@@ -1,12 +1,12 @@
 -- Triples are counted by the numbers of words of each degree, and listed from the words of use.
-use Rattle.std.proofs.Common.{ap₂, ◌≡◌, ◌≢◌, ◌+◌, ◌-◌, ◌*◌, ◌<◌, ◌≤◌, ℕ, zero, suc, List, [], ◌∷◌, ◌++◌, length, map, take, get_or, min, refl, sym, ap, ◌∙◌, inl, inr, arith, add-one, mul-zero, zero-mul, append-nil, append_assoc, length-append, subst}
+use Rattle.std.proofs.Common.{ap₂, ◌≡◌, ◌+◌, ◌-◌, ◌*◌, ◌<◌, ◌≤◌, ℕ, zero, suc, List, [], ◌∷◌, ◌++◌, length, map, take, get_or, min, refl, sym, ap, ◌∙◌, inl, inr, arith, add-one, mul-zero, zero-mul, append-nil, append_assoc, length-append}
 use Rattle.std.specs.List.{flat_map}
 use Rattle.std.proofs.lemmas.Bool.{cases_lt}
 use Rattle.std.proofs.lemmas.Nat.{mul-le}
 use Rattle.std.proofs.lemmas.List.{length-map, take_more, length-take}
 use Rattle.words.specs.Words.{words_of_degree}
 use Rattle.free_poly.specs.declared.term.Term.{Term}
-use Rattle.degree_words.specs.Lists.{AreCounts, AreLists, list_at}
+use Rattle.degree_words.specs.Lists.{AreLists, list_at}
 use Rattle.cofactors.specs.declared.product.Product.{Product}
 use Rattle.cofactors.specs.ProductList.{numbers_below, right_triples, round_triples, triple, triples_at, triples_from}
 

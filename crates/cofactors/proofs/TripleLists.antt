@@ -35,13 +35,13 @@ below_falls : (n : ℕ) → AllPairs (λ x y. y < x) (numbers_below n)
 below_falls zero = AllPairs-nil (λ x y. y < x)
 below_falls (suc n) = AllPairs-cons (λ x y. y < x) n (numbers_below n) (All-from_members (λ y. y < n) (numbers_below n) (below_says n)) (below_falls n)
 
--- all words of a relation have the degree of its first
+-- where all words have one degree it is that of the first
+pub degree_of_lead : (weights : List ℕ) (f : List Term) → HasOneDegree weights f → HasDegree weights (lead_degree weights f) f
+degree_of_lead weights [] h = All-nil (λ t. degree_of weights t.word ≡ 0)
+degree_of_lead weights (t ∷ f) h = All-cons (λ (s : Term). degree_of weights s.word ≡ degree_of weights t.word) t f refl (λ k d within. sym (h 0 (suc k) d (omega arith) (omega (arith, within))))
+
 pub one_degree : (p : ℕ) (weights : List ℕ) (r : List Term) → IsRelation p weights r → HasDegree weights (lead_degree weights r) r
-one_degree p weights r h = at r h.one_degree
-  where
-    at : (f : List Term) → HasOneDegree weights f → HasDegree weights (lead_degree weights f) f
-    at [] h = All-nil (λ t. degree_of weights t.word ≡ 0)
-    at (t ∷ f) h = All-cons (λ (s : Term). degree_of weights s.word ≡ degree_of weights t.word) t f refl (λ k d within. sym (h 0 (suc k) d (omega arith) (omega (arith, within))))
+one_degree p weights r h = degree_of_lead weights r h.one_degree
 
 -- words round a relation of this degree together
 pub degree_of_round : (weights : List ℕ) (d : ℕ) (u : List ℕ) (r : List Term) (v : List ℕ) → r ≢ [] → HasDegree weights d (product u r v) → degree_of weights u + lead_degree weights r + degree_of weights v ≡ d

@@ -5,12 +5,13 @@
 mod certificate;
 mod factors;
 mod laws;
+mod leaders;
 mod product;
 mod row;
 mod sum;
 mod triples;
 
-pub use certificate::Certificate;
+pub use certificate::{Certificate, CofactorFault, normal_form};
 pub use laws::normal_form_laws;
 pub use product::Product;
 pub use sum::expand;

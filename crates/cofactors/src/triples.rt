@@ -44,7 +44,7 @@ fn count_at(alphabet: &Alphabet, relation: &Poly, counts: &[u64; 65], d: u32) ->
 }
 
 /// The degree of the leading word, where it is at most this number, and else this number.
-fn lead_degree_within(alphabet: &Alphabet, relation: &Poly, most: u32) -> u32
+pub(crate) fn lead_degree_within(alphabet: &Alphabet, relation: &Poly, most: u32) -> u32
     requires other { relation.now ≢ [] }
     requires small { most ≤ 65 }
     requires letters { UsesLetters (length alphabet.now.weights) relation.now }

@@ -1,4 +1,4 @@
-use Rattle.std.proofs.Common.{◌≡◌, ◌+◌, ◌-◌, ◌*◌, ◌^◌, ℕ, length, get_or, min, sym, ap, ◌∙◌, arith}
+use Rattle.std.proofs.Common.{◌≡◌, ◌-◌, ◌*◌, ◌^◌, ℕ, length, get_or, min, sym, ap, ◌∙◌, arith}
 use Rattle.words.specs.Words.{words_of_degree}
 use Rattle.ideal_laws.specs.Kept.{lead_degree}
 use Rattle.cofactors.specs.ProductList.{round_triples}

@@ -1,4 +1,4 @@
-use Rattle.std.proofs.Common.{◌≡◌, ◌+◌, ◌<◌, ℕ, List, length, take, get_or, ap, ◌∙◌, arith, length-append}
+use Rattle.std.proofs.Common.{◌≡◌, ◌+◌, ◌<◌, List, length, take, get_or, ap, ◌∙◌, arith, length-append}
 use Rattle.free_poly.specs.declared.term.Term.{Term}
 use Rattle.cofactors.specs.ProductList.{triples_at, triples_from}
 use Rattle.cofactors.proofs.TripleCounts.{triples_from-take}

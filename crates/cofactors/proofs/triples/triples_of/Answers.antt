@@ -1,6 +1,5 @@
-use Rattle.std.proofs.Common.{◌≡◌, ◌+◌, ◌++◌, ◌<◌, ℕ, List, length, take, get_or, sym, ap, ◌∙◌, arith}
+use Rattle.std.proofs.Common.{◌≡◌, ◌+◌, ◌++◌, ◌<◌, List, length, take, get_or, sym, ap, ◌∙◌, arith}
 use Rattle.free_poly.specs.declared.term.Term.{Term}
-use Rattle.cofactors.specs.declared.product.Product.{Product}
 use Rattle.cofactors.specs.ProductList.{triples_at, triples_from}
 use Rattle.cofactors.proofs.TripleCounts.{triples_from-take}
 use Rattle.cofactors.proofs.triples.triples_of.Goals as goal
