@@ -6,12 +6,15 @@ mod certificate;
 mod factors;
 mod laws;
 mod leaders;
+mod piece;
 mod product;
 mod row;
 mod sum;
+mod text;
 mod triples;
 
 pub use certificate::{Certificate, CofactorFault, normal_form};
 pub use laws::normal_form_laws;
 pub use product::Product;
 pub use sum::expand;
+pub use text::answer_text;
