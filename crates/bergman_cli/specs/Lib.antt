@@ -2,5 +2,6 @@ pub mod Engines
 pub mod Jobs
 pub mod Gb
 pub mod Make
+pub mod Module
 pub mod Outcomes
 pub mod Run
