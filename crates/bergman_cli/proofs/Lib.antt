@@ -1,8 +1,11 @@
 pub mod Jobs
 pub mod Given
+pub mod Modules
 pub mod Works
 pub mod Causes
 pub mod Completing
 pub mod RunTraces
 pub mod CoreTraces
 pub mod Made
+pub mod ModuleTexts
+pub mod ModuleOutcomes

@@ -21,7 +21,7 @@ pub record IsSound (job : Job) : Type 0 where
 abbrev pub IsBuiltCommand : Command → Type 0
 IsBuiltCommand Gb = Unit {0}
 IsBuiltCommand Make = Unit {0}
-IsBuiltCommand Module = ⊥
+IsBuiltCommand Module = Unit {0}
 IsBuiltCommand Chains = ⊥
 IsBuiltCommand Normal = ⊥
 

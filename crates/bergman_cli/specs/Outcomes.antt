@@ -13,6 +13,7 @@ use Rattle.job_steps.specs.Traces.{IsTaskTrace}
 use Rattle.bergman_cli.specs.Engines.{accounts_of, traces_of}
 use Rattle.bergman_cli.specs.Gb.{gb_task}
 use Rattle.bergman_cli.specs.Make.{IsMakeOutcome, make_task}
+use Rattle.bergman_cli.specs.Module.{IsModuleOutcome, IsModuleStatus}
 
 -- In the following, held, more, room and the counts of faults are those of the sink.
 
@@ -20,7 +21,7 @@ use Rattle.bergman_cli.specs.Make.{IsMakeOutcome, make_task}
 abbrev pub IsDueOf : Command → Job → Letters → List (List Term) → Status → Type 0
 IsDueOf Gb job letters relations status = IsTaskStatus (gb_task job letters relations) status
 IsDueOf Make job letters relations status = IsTaskStatus (make_task job letters relations) status
-IsDueOf Module job letters relations status = ⊥
+IsDueOf Module job letters relations status = IsModuleStatus job letters relations status
 IsDueOf Chains job letters relations status = ⊥
 IsDueOf Normal job letters relations status = ⊥
 
@@ -31,7 +32,7 @@ IsDue job = IsDueOf job.command job
 abbrev pub IsOutcomeOf : Command → Job → Letters → List (List Term) → Status → List ℕ → Type 0
 IsOutcomeOf Gb job letters relations status text = IsTaskOutcome (gb_task job letters relations) status text
 IsOutcomeOf Make job letters relations status text = IsMakeOutcome job letters relations status text
-IsOutcomeOf Module job letters relations status text = ⊥
+IsOutcomeOf Module job letters relations status text = IsModuleOutcome job letters relations status text
 IsOutcomeOf Chains job letters relations status text = ⊥
 IsOutcomeOf Normal job letters relations status text = ⊥
 

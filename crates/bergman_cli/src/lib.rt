@@ -5,6 +5,7 @@
 
 mod gb;
 mod make;
+mod module;
 mod run;
 #[cfg(test)]
 mod tests;

@@ -120,7 +120,7 @@ fn coefficients_in(terms: &[Term]) -> u128
     sum
 }
 
-fn push_line(text: &mut Vec<u8>, name: &[u8], number: u128) -> Result<(), NoMemory>
+pub(crate) fn push_line(text: &mut Vec<u8>, name: &[u8], number: u128) -> Result<(), NoMemory>
     ensures { IfOk result (λ _. text.new.items ≡ text.old.items ++ number_line name.now number) }
 {
     text.extend_from_slice(name)?;
@@ -129,7 +129,7 @@ fn push_line(text: &mut Vec<u8>, name: &[u8], number: u128) -> Result<(), NoMemo
     text.extend_from_slice(b"\n")
 }
 
-fn push_number(text: &mut Vec<u8>, number: u128) -> Result<(), NoMemory>
+pub(crate) fn push_number(text: &mut Vec<u8>, number: u128) -> Result<(), NoMemory>
     ensures { IfOk result (λ _. text.new.items ≡ text.old.items ++ decimal number) }
 {
     let mut digits = Buffer::new();

@@ -17,6 +17,7 @@ ghost use Rattle.bergman_cli.specs.Run.{Completes, IsEnd, IsGivenReading, IsJobE
 
 use crate::gb::run_gb;
 use crate::make::make_answer;
+use crate::module::module_answer;
 use bg_io::{Gate, Sink, Source};
 use command_words::{Command, EngineKind, Job, read_words, words_law};
 use degree_loop::{CoreEngine, SeqEngine, claim_history_law};
@@ -133,8 +134,8 @@ fn is_built(command: Command) -> bool
     ensures { IsTrue result ↔ IsBuiltCommand command }
 {
     match command {
-        Command::Gb | Command::Make => true,
-        Command::Module | Command::Chains | Command::Normal => false,
+        Command::Gb | Command::Make | Command::Module => true,
+        Command::Chains | Command::Normal => false,
     }
 }
 
@@ -248,6 +249,7 @@ fn answer_of<R: Threads + Sync, E: DegreeEngine>(
 {
     match job.command {
         Command::Make => make_answer(rt, alloc, job, engine, field, given),
-        Command::Gb | Command::Module | Command::Chains | Command::Normal => unreachable!(),
+        Command::Module => module_answer(rt, alloc, job, engine, field, given),
+        Command::Gb | Command::Chains | Command::Normal => unreachable!(),
     }
 }

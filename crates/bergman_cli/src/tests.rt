@@ -186,6 +186,58 @@ fn algebras_print_their_bases_and_series(rt: HostRuntime) -> Result<(), Fail> {
     Ok(())
 }
 
+/// The last letters are the generators.
+#[test]
+fn right_modules_print_their_bases_and_series(rt: HostRuntime) -> Result<(), Fail> {
+    for (line, text, status, output, told) in [
+        (
+            "module mod=101 deg=3 gens=1",
+            "vars x,y,e; x*y-y*x, e*x;",
+            Status::Done,
+            "% 2\ne*x\n% 3\ne*y*x\n% module series\n0 0\n1 1\n2 1\n3 1\n",
+            "",
+        ),
+        (
+            "module mod=101 deg=3 gens=2",
+            "vars x,e,f; e*x-f*x;",
+            Status::Done,
+            "% 2\ne*x-f*x\n% module series\n0 0\n1 2\n2 1\n3 1\n",
+            "",
+        ),
+        (
+            "module mod=101 deg=3 gens=1 show=basis engine=plain",
+            "vars x,y,e; x*y-2*y*x, e*x-e*y;",
+            Status::Done,
+            "% 2\ne*x-e*y\n% 3\ne*y*x+50*e*y^2\n",
+            "",
+        ),
+        (
+            "module mod=101 deg=4 gens=1 show=series",
+            "vars x,y,e:3; x*y-2*y*x, e*x-e*y;",
+            Status::Done,
+            "% module series\n0 0\n1 0\n2 0\n3 1\n4 1\n",
+            "",
+        ),
+        (
+            "module mod=101 deg=3 gens=1",
+            "vars x,y,e; x*e;",
+            Status::Input(InputProblem::Shape { relation: 1 }),
+            "",
+            "bergman: input: relation 1: not of an ideal or a module\n",
+        ),
+        (
+            "module mod=101 deg=3 gens=2",
+            "vars x; ;",
+            Status::Input(InputProblem::TooFewNames { names: 1 }),
+            "",
+            "bergman: input: 1 names\n",
+        ),
+    ] {
+        expect_run(&rt, line, text.as_bytes(), NONE, status, output, told)?;
+    }
+    Ok(())
+}
+
 /// An element in each degree from 2 to 20. The free algebra has 2^20 words in the last one.
 #[test]
 fn a_basis_goes_on_in_each_degree(rt: HostRuntime) -> Result<(), Fail> {

@@ -1,0 +1,214 @@
+-- One status is due to a module, and what goes with it.
+use Rattle.std.proofs.Common.{◌≡◌, ◌≢◌, ◌⊎◌, ◌+◌, ◌-◌, ◌<◌, ℕ, false, List, [], All, refl, sym, ap, ◌∙◌, inl, inr, arith, subst}
+use Rattle.std.proofs.lemmas.Bool.{cases_lt, false≢true}
+use Rattle.std.proofs.lemmas.List.{get_or-take, length-take}
+use Rattle.words.specs.Names.{Letters}
+use Rattle.free_poly.specs.declared.term.Term.{Term}
+use Rattle.ideal_laws.specs.declared.limits.LimitKind.{LimitKind}
+use Rattle.ideal_laws.specs.Laws.{IsSetting}
+use Rattle.ideal_laws.specs.Limits.{standard_limits}
+use Rattle.ideal_laws.specs.Quantities.{IsFirstRefused}
+use Rattle.right_modules.specs.Answered.{IsFirstOther}
+use Rattle.right_modules.specs.Laws.{IsModuleSetting}
+use Rattle.right_modules.specs.Module.{IsShaped}
+use Rattle.right_modules.specs.ModuleDimension.{IsModuleCoefficient}
+use Rattle.right_modules.proofs.ModuleDimensions.{dimension_of_products, dimension_to_ideal}
+use Rattle.command_words.specs.declared.job.Command.TheVariants.{Module}
+use Rattle.command_words.specs.declared.job.Job.{Job}
+use Rattle.job_steps.specs.declared.status.InputProblem.TheVariants.{TooLong, Text, TooFewNames, Shape, TooFewRelations, AboveBound}
+use Rattle.job_steps.specs.declared.status.Status.{Status}
+use Rattle.job_steps.specs.declared.status.Status.TheVariants.{Done, Usage, Input, Limit, Chains, Products, Unbuilt, ReadFault, WriteFault, NoMemory}
+use Rattle.job_steps.specs.Progress.{IsReach, Task, refused, whole}
+use Rattle.job_steps.specs.Status.{PrintsNothing}
+use Rattle.job_steps.specs.Statuses.{IsOwn}
+use Rattle.job_steps.proofs.Reaches.{one_stop, whole_is_not_stopped}
+use Rattle.bergman_cli.specs.Engines.{limits_of}
+use Rattle.bergman_cli.specs.Module.{AreFewBelow, IsFirstLargeModule, IsModuleStatus, IsTextWith, PassesNoLimit, free_of}
+use Rattle.bergman_cli.specs.Outcomes.{Writes}
+
+-- the first relation of neither kind is one
+module _ (free : ℕ) (relations : List (List Term)) where
+  other_below : (a b : ℕ) → IsFirstOther free relations a → IsFirstOther free relations b → a < b → ⊥
+  other_below a b ha hb lt =
+      let size = length-take (b - 1) relations in
+      ha.other (subst (IsShaped free) (get_or-take (b - 1) relations (a - 1) [] (omega (arith, lt, ha.from))) (hb.before (a - 1) [] (omega (arith, lt, ha.from, ha.upto, hb.upto, size))))
+
+  one_other : (a b : ℕ) → IsFirstOther free relations a → IsFirstOther free relations b → a ≡ b
+  one_other a b ha hb = elim (cases_lt a b) [
+    | inl less ↦ absurd (other_below a b ha hb less)
+    | inr le ↦ elim (cases_lt b a) [
+      | inl less ↦ absurd (other_below b a hb ha less)
+      | inr ge ↦ omega (arith, le, ge)
+    ]
+  ]
+
+  -- and where it stands not all are of one of the kinds
+  other_not_shaped : (a : ℕ) → IsFirstOther free relations a → All (IsShaped free) relations → ⊥
+  other_not_shaped a h all = h.other (all (a - 1) [] (omega (arith, h.from, h.upto)))
+
+module _ (job : Job) (letters : Letters) (relations : List (List Term)) where
+  abbrev Due : Status → Type 0
+  Due = IsModuleStatus job letters relations
+
+  module _ (st : IsSetting job.modulus letters.weights relations) where
+    abbrev free : ℕ
+    free = free_of job letters
+
+    abbrev Shaped : Type 0
+    Shaped = All (IsShaped free) relations
+
+    abbrev most : ℕ
+    most = standard_limits.normal_words
+
+    -- the basis of all relations together as a task
+    abbrev task : Task
+    task = record { modulus = job.modulus; letters = letters; relations = relations; limits = limits_of job.engine; normal_words = most; bound = job.bound; shows_basis = false; shows_series = false }
+
+    whole_task : PassesNoLimit job letters relations → IsReach task whole
+    whole_task none = (none, λ e. absurd (false≢true e))
+
+    -- a degree has one module coefficient
+    one_coefficient : Shaped → (d m n : ℕ) → IsModuleCoefficient job.modulus letters.weights free relations d m → IsModuleCoefficient job.modulus letters.weights free relations d n → m ≡ n
+    one_coefficient shaped d m n a b =
+        let ms : IsModuleSetting job.modulus letters.weights free relations = record { setting = st; shaped = shaped } in
+        let has = dimension_of_products job.modulus letters.weights free relations ms d in
+        let one = (has.dimension a.dimension).0 (dimension_to_ideal job.modulus letters.weights free relations ms d a.dimension a.is_dimension) in
+        let two = (has.dimension b.dimension).0 (dimension_to_ideal job.modulus letters.weights free relations ms d b.dimension b.is_dimension) in
+        omega (arith, a.rest, b.rest, one, two)
+
+    abbrev Few : ℕ → Type 0
+    Few d = AreFewBelow job.modulus letters.weights free relations most d
+
+    abbrev Large : ℕ → ℕ → Type 0
+    Large d value = IsFirstLargeModule job.modulus letters.weights free relations most d value
+
+    few_not_large : Shaped → (n d v : ℕ) → Few n → Large d v → d < n → ⊥
+    few_not_large shaped n d v few h lt =
+        let f = few d lt in
+        omega (arith, one_coefficient shaped d f.0 h.coefficient f.1 h.is_coefficient, f.2, h.large)
+
+    one_large : Shaped → (d v e w : ℕ) → Large d v → Large e w → d ≡ e
+    one_large shaped d v e w hd he = elim (cases_lt d e) [
+      | inl less ↦ absurd (few_not_large shaped e d v he.before hd less)
+      | inr le ↦ elim (cases_lt e d) [
+        | inl less ↦ absurd (few_not_large shaped d e w hd.before he less)
+        | inr ge ↦ omega (arith, le, ge)
+      ]
+    ]
+
+    abbrev Refused : LimitKind → ℕ → ℕ → Type 0
+    Refused kind d value = IsFirstRefused job.modulus letters.weights relations (limits_of job.engine) job.bound kind d value
+
+    none_or_refused : PassesNoLimit job letters relations → (k : LimitKind) (d v : ℕ) → Refused k d v → ⊥
+    none_or_refused none k d v h = whole_is_not_stopped task st (whole_task none) (refused k d v) k d v h (refl, refl, refl)
+
+    -- one limit is due
+    one_limit : (k l : LimitKind) (d v e w : ℕ) → Due (Limit k d v) → Due (Limit l e w) → (k ≡ l) × (d ≡ e) × (v ≡ w)
+    one_limit k l d v e w (ma, inl a) (mb, inl b) = one_stop task st (refused k d v) (refused l e w) k l d e v w a (refl, refl, refl) b (refl, refl, refl)
+    one_limit k l d v e w (ma, inl a) (mb, inr b) = absurd (none_or_refused b.1.0 k d v a)
+    one_limit k l d v e w (ma, inr a) (mb, inl b) = absurd (none_or_refused a.1.0 l e w b)
+    one_limit k l d v e w (ma, inr a) (mb, inr b) = (a.0 ∙ sym b.0, one_large ma.1 d v e w a.1.2 b.1.2, a.1.2.kept ∙ sym b.1.2.kept)
+
+    done_not_limit : Due Done → (k : LimitKind) (d v : ℕ) → Due (Limit k d v) → ⊥
+    done_not_limit a k d v (m, inl b) = none_or_refused a.1 k d v b
+    done_not_limit a k d v (m, inr b) = few_not_large a.0.1 (job.bound + 1) d v a.2 b.1.2 (omega (arith, b.1.1))
+
+    -- the kinds of a status that is due
+    abbrev IsDone : Status → Type 0
+    IsDone status = (status ≡ Done) × Due Done
+
+    abbrev IsNames : Status → Type 0
+    IsNames status = (names : ℕ) × (status ≡ Input (TooFewNames names)) × Due (Input (TooFewNames names))
+
+    abbrev IsShape : Status → Type 0
+    IsShape status = (relation : ℕ) × (status ≡ Input (Shape relation)) × Due (Input (Shape relation))
+
+    abbrev IsLimit : Status → Type 0
+    IsLimit status = (k : LimitKind) × (d : ℕ) × (v : ℕ) × (status ≡ Limit k d v) × Due (Limit k d v)
+
+    abbrev IsKind : Status → Type 0
+    IsKind status = IsDone status ⊎ (IsNames status ⊎ (IsShape status ⊎ IsLimit status))
+
+    kind_of : (status : Status) → Due status → IsKind status
+    kind_of Done h = inl (refl, h)
+    kind_of (Usage fault) h = absurd h
+    kind_of (Input TooLong) h = absurd h
+    kind_of (Input (Text fault)) h = absurd h
+    kind_of (Input (TooFewNames names)) h = inr (inl (names, refl, h))
+    kind_of (Input (Shape relation)) h = inr (inr (inl (relation, refl, h)))
+    kind_of (Input (TooFewRelations relations)) h = absurd h
+    kind_of (Input (AboveBound relation)) h = absurd h
+    kind_of (Limit kind d value) h = inr (inr (inr (kind, d, value, refl, h)))
+    kind_of (Chains d value) h = absurd h
+    kind_of (Products d value) h = absurd h
+    kind_of (Unbuilt part) h = absurd h
+    kind_of ReadFault h = absurd h
+    kind_of WriteFault h = absurd h
+    kind_of NoMemory h = absurd h
+
+    one_kind : (s t : Status) → IsKind s → IsKind t → s ≡ t
+    one_kind s t (inl a) (inl b) = a.0 ∙ sym b.0
+    one_kind s t (inl a) (inr (inl b)) = absurd (omega (arith, a.1.0.0, b.2.0, b.2.1))
+    one_kind s t (inl a) (inr (inr (inl b))) = absurd (other_not_shaped free relations b.0 b.2.1 a.1.0.1)
+    one_kind s t (inl a) (inr (inr (inr b))) = absurd (done_not_limit a.1 b.0 b.1 b.2 b.4)
+    one_kind s t (inr (inl a)) (inl b) = absurd (omega (arith, b.1.0.0, a.2.0, a.2.1))
+    one_kind s t (inr (inl a)) (inr (inl b)) = a.1 ∙ ap (λ (n : ℕ). Input (TooFewNames n)) (a.2.1 ∙ sym b.2.1) ∙ sym b.1
+    one_kind s t (inr (inl a)) (inr (inr (inl b))) = absurd (omega (arith, b.2.0, a.2.0, a.2.1))
+    one_kind s t (inr (inl a)) (inr (inr (inr b))) = absurd (omega (arith, b.4.0.0, a.2.0, a.2.1))
+    one_kind s t (inr (inr (inl a))) (inl b) = absurd (other_not_shaped free relations a.0 a.2.1 b.1.0.1)
+    one_kind s t (inr (inr (inl a))) (inr (inl b)) = absurd (omega (arith, a.2.0, b.2.0, b.2.1))
+    one_kind s t (inr (inr (inl a))) (inr (inr (inl b))) = a.1 ∙ ap (λ (n : ℕ). Input (Shape n)) (one_other free relations a.0 b.0 a.2.1 b.2.1) ∙ sym b.1
+    one_kind s t (inr (inr (inl a))) (inr (inr (inr b))) = absurd (other_not_shaped free relations a.0 a.2.1 b.4.0.1)
+    one_kind s t (inr (inr (inr a))) (inl b) = absurd (done_not_limit b.1 a.0 a.1 a.2 a.4)
+    one_kind s t (inr (inr (inr a))) (inr (inl b)) = absurd (omega (arith, a.4.0.0, b.2.0, b.2.1))
+    one_kind s t (inr (inr (inr a))) (inr (inr (inl b))) = absurd (other_not_shaped free relations b.0 b.2.1 a.4.0.1)
+    one_kind s t (inr (inr (inr a))) (inr (inr (inr b))) =
+        let same = one_limit a.0 b.0 a.1 a.2 b.1 b.2 a.4 b.4 in
+        a.3 ∙ (λ i. Limit (same.0 i) (same.1 i) (same.2 i)) ∙ sym b.3
+
+    -- one status is due
+    pub one_module_status : (status other : Status) → Due status → Due other → status ≡ other
+    one_module_status status other a b = one_kind status other (kind_of status a) (kind_of other b)
+
+  pub module_status_own : (status : Status) → Due status → IsOwn status
+  module_status_own Done h = tt
+  module_status_own (Usage fault) h = absurd h
+  module_status_own (Input TooLong) h = absurd h
+  module_status_own (Input (Text fault)) h = absurd h
+  module_status_own (Input (TooFewNames names)) h = tt
+  module_status_own (Input (Shape relation)) h = tt
+  module_status_own (Input (TooFewRelations relations)) h = absurd h
+  module_status_own (Input (AboveBound relation)) h = absurd h
+  module_status_own (Limit kind d value) h = tt
+  module_status_own (Chains d value) h = absurd h
+  module_status_own (Products d value) h = absurd h
+  module_status_own (Unbuilt part) h = absurd h
+  module_status_own ReadFault h = absurd h
+  module_status_own WriteFault h = absurd h
+  module_status_own NoMemory h = absurd h
+
+  -- where nothing may be printed the text is empty
+  pub module_quiet : (status : Status) (text : List ℕ) → IsTextWith job letters relations status text → PrintsNothing status → text ≡ []
+  module_quiet Done text h none = absurd none
+  module_quiet (Usage fault) text h none = h
+  module_quiet (Input problem) text h none = h
+  module_quiet (Limit kind d value) text h none = h
+  module_quiet (Chains d value) text h none = h
+  module_quiet (Products d value) text h none = h
+  module_quiet (Unbuilt part) text h none = h
+  module_quiet ReadFault text h none = h
+  module_quiet WriteFault text h none = h
+  module_quiet NoMemory text h none = h
+
+  -- a text that is not empty is that of the whole module
+  pub module_writes : (status : Status) (text : List ℕ) → IsTextWith job letters relations status text → text ≢ [] → Writes Module status
+  module_writes Done text h some = tt
+  module_writes (Usage fault) text h some = absurd (some h)
+  module_writes (Input problem) text h some = absurd (some h)
+  module_writes (Limit kind d value) text h some = absurd (some h)
+  module_writes (Chains d value) text h some = absurd (some h)
+  module_writes (Products d value) text h some = tt
+  module_writes (Unbuilt part) text h some = absurd (some h)
+  module_writes ReadFault text h some = absurd (some h)
+  module_writes WriteFault text h some = absurd (some h)
+  module_writes NoMemory text h some = absurd (some h)
