@@ -7,3 +7,17 @@ pub mod Sets
 pub mod Contested
 pub mod Ending
 pub mod Single
+pub mod Digits
+pub mod Numbers
+pub mod Keys
+pub mod Reduced
+pub mod NumberWalks
+pub mod ListedColumns
+pub mod Listings
+pub mod Orders
+pub mod Lookups
+pub mod FallingKeys
+pub mod ByWord
+pub mod InOrder
+pub mod RowWords
+pub mod ListedClosures

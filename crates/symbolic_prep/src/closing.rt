@@ -1,15 +1,20 @@
-ghost use Rattle.std.specs.Prelude.{◌≡◌, ◌+◌, ◌≤◌, ℕ, All, Err, IfOk, OnOk, length, min};
+ghost use Rattle.std.specs.Prelude.{◌≡◌, ◌+◌, ◌<◌, ◌≤◌, List, ℕ, All, Err, IfOk, IsErrOf, OnOk, length, min};
 ghost use Rattle.free_poly.specs.Poly.{IsPolynomial};
 ghost use Rattle.free_poly.specs.Terms.{HasDegree, UsesLetters};
 ghost use Rattle.ideal_laws.specs.declared.limits.LimitKind.{LimitKind};
 ghost use Rattle.ideal_laws.specs.Quantities.{IsFirstPassing, NonePasses, terms_in, words_of};
 ghost use Rattle.lead_index.specs.Leads.{IsIndex, IsIndexOf};
 ghost use Rattle.symbolic_prep.specs.Walk.{IsPassed};
+ghost use Rattle.ideal_laws.specs.Closure.{AreColumns};
+ghost use Rattle.symbolic_prep.specs.Columns.{IsListedClosure, words_in};
 ghost use Rattle.symbolic_prep.specs.Closed.{IsClosed, IsClosedQuantity, closing_limits};
 
+use crate::by_number::{ListedClosure, closure_by_number};
+use crate::by_word::closure_by_word;
 use crate::closed::Closed;
-use crate::pending::{ColumnFault, words_of_rows};
-use crate::walk::{counted, walk};
+use crate::packing::packing_of;
+use crate::pending::ColumnFault;
+use crate::walk::counted;
 use field_table::Field;
 use free_poly::Poly;
 use ideal_laws::{Basis, EngineFault, LimitKind, Limits};
@@ -39,39 +44,55 @@ pub fn close(
     ensures limit { (kind : LimitKind) (degree value : ℕ) → result ≡ Err (EngineFault.Limit kind degree value)
         → (degree ≡ d) × IsFirstPassing (IsClosedQuantity basis.now.elements rows.now) (closing_limits limits.now) kind value }
 {
-    let _done = basis.done();
-    keeps(index);
-    let most = limits.columns as usize;
-    let pending = match words_of_rows(alloc, rows, most) {
-        Ok(pending) => pending,
-        Err(fault) => return Err(passed(fault, d, limits.columns)),
-    };
     let entries = entries_of(rows, limits.entries);
-    let walked = match walk(
-        alloc,
-        basis,
-        index,
-        pending,
-        entries,
-        d,
-        most,
-        limits.entries,
-    ) {
-        Ok(walked) => walked,
+    let listed = match closure_of(alloc, basis, index, rows, entries, d, limits) {
+        Ok(listed) => listed,
         Err(fault) => return Err(passed(fault, d, limits.columns)),
     };
-    if walked.entries > u64::from(limits.entries) {
+    if listed.entries > u64::from(limits.entries) {
         return Err(EngineFault::Limit {
             kind: LimitKind::Entries,
             degree: d,
-            value: walked.entries,
+            value: listed.entries,
         });
     }
-    Ok(Closed::of(alloc, walked.columns, walked.reducers)?)
+    Ok(Closed::of(alloc, listed.columns, listed.spans, listed.lists)?)
+}
+
+/// The closure of the words of the rows: by packed words, where they are short enough.
+fn closure_of(
+    alloc: Global,
+    basis: &Basis,
+    index: &LeadIndex,
+    rows: &[Poly],
+    entries: u64,
+    d: u32,
+    limits: &Limits,
+) -> Result<ListedClosure, ColumnFault>
+    requires form { All IsPolynomial basis.now.elements }
+    requires index { IsIndexOf basis.now.elements index.now }
+    requires small { d ≤ 64 }
+    requires degree { All (HasDegree basis.now.weights d) rows.now }
+    requires letters { All (UsesLetters (length basis.now.weights)) rows.now }
+    requires entries { entries ≤ limits.now.entries + 1 }
+
+    ensures listed { IfOk result (λ c. IsListedClosure basis.now.elements (words_of rows.now) entries limits.now.entries (words_in c.columns) c.spans.items c.lists.numbers.items c.lists.residues.items c.entries) }
+    ensures within { IfOk result (λ c. length (words_in c.columns) ≤ limits.now.columns) }
+    ensures few { IfOk result (λ c. length (words_in c.columns) < 4294967296) }
+    ensures many { IsErrOf result ColumnFault.TooMany → (columns : List (List ℕ)) × AreColumns basis.now.elements (words_of rows.now) columns × (limits.now.columns < length columns) }
+{
+    let most = limits.columns as usize;
+    let limit = limits.entries;
+    match packing_of(basis.letters(), d) {
+        Some(packing) => closure_by_number(
+            alloc, basis, index, rows, packing, entries, d, most, limit,
+        ),
+        None => closure_by_word(alloc, basis, index, rows, entries, d, most, limit),
+    }
 }
 
 /// What an index keeps, which each call on it says.
-fn keeps(index: &LeadIndex)
+pub(crate) fn keeps(index: &LeadIndex)
     ensures { IsIndex index.now }
 {
     let _none = index.starts(&[], 0);

@@ -3,9 +3,18 @@
 //! is pending is always taken first, and its reducer brings smaller words alone, so each word is looked up once.
 #![tactic(auto)]
 
+mod by_number;
+mod by_word;
 mod closed;
 mod closing;
+mod columns;
+mod lists;
+mod numbering;
+mod ordering;
+mod packed;
+mod packing;
 mod pending;
+mod table;
 #[cfg(test)]
 mod tests;
 mod walk;

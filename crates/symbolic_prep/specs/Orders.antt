@@ -1,0 +1,32 @@
+-- Words by number in another order.
+use Rattle.std.specs.Prelude.{ℕ, ◌≡◌, ◌<◌, ◌^◌, List, All, AllPairs, Some, map, length, slice_get, slice_index}
+use Rattle.std.specs.List.{range_with_len}
+use Rattle.std.specs.List.Sorted.{IsPermutation}
+use Rattle.words.specs.Order.{IsLetterwiseGreater}
+use Rattle.words.specs.Words.{AreWeights, degree_of}
+use Rattle.symbolic_prep.specs.Packing.{IsTable, unpacked}
+
+-- the keys rise, and beside each is its number
+pub record IsRising (keys : List ℕ) (pairs : List (ℕ × ℕ)) : Type 0 where
+  pub numbers : IsPermutation (range_with_len 0 (length keys)) (map (λ p. p.1) pairs)
+  pub each : All (λ p. slice_get keys p.1 ≡ Some p.0) pairs
+  pub rising : AllPairs (λ p q. p.0 < q.0) pairs
+
+-- the same words in another order, which their numbers tell
+pub record IsOrder (words : List (List ℕ)) (order : List ℕ) (columns : List (List ℕ)) : Type 0 where
+  pub numbers : IsPermutation (range_with_len 0 (length words)) order
+  pub size : length columns ≡ length order
+  pub each : (c : ℕ) → c < length order → slice_get words (slice_index order c) ≡ slice_get columns c
+
+-- these words have one degree
+pub record HaveOneDegree (words : List (List ℕ)) : Type 0 where
+  pub weights : List ℕ
+  pub are : AreWeights weights
+  pub d : ℕ
+  pub each : All (λ w. degree_of weights w ≡ d) words
+
+-- keys that rise, of words that fall
+pub record ArePackedWords (bits room : ℕ) (keys : List ℕ) : Type 0 where
+  pub table : IsTable bits room keys
+  pub rising : AllPairs (λ a b. a < b) keys
+  pub falling : AllPairs IsLetterwiseGreater (map (unpacked (2 ^ bits) room) keys)

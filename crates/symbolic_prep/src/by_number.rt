@@ -1,0 +1,139 @@
+ghost use Rattle.std.specs.Prelude.{◌≡◌, ◌+◌, ◌^◌, ◌<◌, ◌≤◌, ◌↔◌, List, ℕ, All, Contains, IfOk, IsErrOf, IsTrue, length, map, slice_index};
+ghost use Rattle.words.specs.Words.{IsOver, degree_of};
+ghost use Rattle.free_poly.specs.declared.term.Term.{Term};
+ghost use Rattle.free_poly.specs.Poly.{IsPolynomial};
+ghost use Rattle.free_poly.specs.Terms.{HasDegree, UsesLetters};
+ghost use Rattle.ideal_laws.specs.Closure.{AreColumns};
+ghost use Rattle.ideal_laws.specs.Quantities.{words_of};
+ghost use Rattle.lead_index.specs.Leads.{IsIndexOf};
+ghost use Rattle.symbolic_prep.specs.Columns.{IsListedClosure, words_in};
+ghost use Rattle.symbolic_prep.specs.Numbers.{IsNumberWalk};
+ghost use Rattle.symbolic_prep.specs.Orders.{HaveOneDegree};
+ghost use Rattle.symbolic_prep.specs.Packing.{HasDigits, IsPacking, IsPackingFor};
+ghost use Rattle.symbolic_prep.specs.Walk.{HasMore};
+
+use crate::closing::keeps;
+use crate::columns::ColumnWords;
+use crate::lists::{Lists, Span, push_product};
+use crate::numbering::{Numbered, walk_by_number};
+use crate::ordering::{columns_of, renumber, spans_of};
+use crate::packing::Packing;
+use crate::pending::ColumnFault;
+use crate::table::WordTable;
+use free_poly::Poly;
+use ideal_laws::Basis;
+use lead_index::LeadIndex;
+use std::alloc::Global;
+use words::NoMemory;
+
+/// The columns of a closure, and how many entries rows and reducers have, where more than the limit are one more. The
+/// reducers are listed where they do not pass it.
+#[derive(Drop)]
+pub(crate) struct ListedClosure {
+    pub(crate) columns: ColumnWords,
+    pub(crate) spans: Vec<Option<Span>>,
+    pub(crate) lists: Lists,
+    pub(crate) entries: u64,
+}
+
+/// The closure of the words of the rows, by packed words.
+pub(crate) fn closure_by_number(
+    alloc: Global,
+    basis: &Basis,
+    index: &LeadIndex,
+    rows: &[Poly],
+    packing: Packing,
+    entries: u64,
+    d: u32,
+    most: usize,
+    limit: u32,
+) -> Result<ListedClosure, ColumnFault>
+    requires form { All IsPolynomial basis.now.elements }
+    requires index { IsIndexOf basis.now.elements index.now }
+    requires small { d ≤ 64 }
+    requires degree { All (HasDegree basis.now.weights d) rows.now }
+    requires letters { All (UsesLetters (length basis.now.weights)) rows.now }
+    requires packing { IsPackingFor (length basis.now.weights) d packing.bits packing.room }
+    requires most { most < 4294967296 }
+    requires entries { entries ≤ limit + 1 }
+
+    ensures listed { IfOk result (λ c. IsListedClosure basis.now.elements (words_of rows.now) entries limit (words_in c.columns) c.spans.items c.lists.numbers.items c.lists.residues.items c.entries) }
+    ensures within { IfOk result (λ c. length (words_in c.columns) ≤ most) }
+    ensures many { IsErrOf result ColumnFault.TooMany → (columns : List (List ℕ)) × AreColumns basis.now.elements (words_of rows.now) columns × (most < length columns) }
+{
+    let _done = basis.done();
+    keeps(index);
+    let table = table_of(alloc, rows, packing, most)?;
+    let numbered = walk_by_number(alloc, basis, index, table, entries, d, most, limit)?;
+    Ok(in_order(alloc, numbered, limit)?)
+}
+
+/// The words of the rows.
+fn table_of(
+    alloc: Global,
+    rows: &[Poly],
+    packing: Packing,
+    most: usize,
+) -> Result<WordTable, ColumnFault>
+    requires packing { IsPacking packing.bits packing.room }
+    requires over { All (All (λ t. HasDigits packing.bits t.word)) rows.now }
+    requires fits { All (All (λ t. length t.word ≤ packing.room)) rows.now }
+    requires most { most < 4294967296 }
+    ensures words { IfOk result (λ t. (w : List ℕ) → Contains t.words w ↔ Contains (words_of rows.now) w) }
+    ensures within { IfOk result (λ t. length t.words ≤ most) }
+    ensures bits { IfOk result (λ t. t.bits ≡ packing.bits) }
+    ensures room { IfOk result (λ t. t.room ≡ packing.room) }
+    ensures many { IsErrOf result ColumnFault.TooMany → HasMore most (Contains (words_of rows.now)) }
+{
+    let mut table = WordTable::new(alloc, packing);
+    let mut lists = Lists::new(alloc);
+    for row in rows {
+        push_product(
+            row.terms(),
+            &[],
+            &[],
+            0,
+            0,
+            most,
+            false,
+            &mut table,
+            &mut lists,
+        )?;
+    }
+    Ok(table)
+}
+
+/// The words of a walk by falling word, with what is listed under the numbers of these columns.
+fn in_order(alloc: Global, numbered: Numbered, limit: u32) -> Result<ListedClosure, NoMemory>
+    requires few { length numbered.table.words < 4294967296 }
+    requires degree { HaveOneDegree numbered.table.words }
+    requires walked { (G : List (List Term)) × (given : List (List ℕ)) × (from : ℕ)
+        × IsNumberWalk G given numbered.table.words (length numbered.table.words) from limit numbered.spans.items numbered.lists.numbers.items numbered.lists.residues.items numbered.entries }
+    ensures listed { IfOk result (λ c. (G : List (List Term)) (given : List (List ℕ)) (from : ℕ)
+        → IsNumberWalk G given numbered.table.words (length numbered.table.words) from limit numbered.spans.items numbered.lists.numbers.items numbered.lists.residues.items numbered.entries
+        → IsListedClosure G given from limit (words_in c.columns) c.spans.items c.lists.numbers.items c.lists.residues.items c.entries) }
+    ensures within { IfOk result (λ c. length (words_in c.columns) ≡ length numbered.table.words) }
+{
+    let (words, order) = numbered.table.in_order(alloc)?;
+    let columns = columns_of(alloc, order.as_slice())?;
+    let spans = spans_of(alloc, numbered.spans.as_slice(), order.as_slice())?;
+    let mut lists = numbered.lists;
+    let held = numbered.entries <= u64::from(limit);
+    renumber_if(held, lists.numbers.as_mut_slice(), columns.as_slice());
+    Ok(ListedClosure {
+        columns: ColumnWords::Packed(words),
+        spans,
+        lists,
+        entries: numbered.entries,
+    })
+}
+
+/// Puts the column of each number in its place, where the numbers are held.
+fn renumber_if(held: bool, numbers: &mut [u32], columns: &[u32])
+    requires { IsTrue held → All (λ n. n < length columns.now) numbers.old }
+    ensures { IsTrue held → numbers.new ≡ map (λ n. slice_index columns.now n) numbers.old }
+{
+    if held {
+        renumber(numbers, columns);
+    }
+}

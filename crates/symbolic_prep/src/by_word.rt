@@ -1,0 +1,139 @@
+ghost use Rattle.std.specs.Prelude.{◌≡◌, ◌+◌, ◌<◌, ◌≤◌, ◌++◌, ◌∷◌, List, ℕ, All, AllPairs, Contains, IfOk, IsErrOf, IsTrue, OnOk, Option, length};
+ghost use Rattle.std.specs.List.{AllZip};
+ghost use Rattle.words.specs.Order.{IsLetterwiseGreater};
+ghost use Rattle.free_poly.specs.declared.term.Term.{Term};
+ghost use Rattle.free_poly.specs.Poly.{IsPolynomial};
+ghost use Rattle.free_poly.specs.Terms.{HasDegree, UsesLetters};
+ghost use Rattle.ideal_laws.specs.Closure.{AreColumns};
+ghost use Rattle.ideal_laws.specs.Quantities.{words_of};
+ghost use Rattle.lead_index.specs.Leads.{IsIndexOf};
+ghost use Rattle.symbolic_prep.specs.Columns.{IsOnColumns, IsListedClosure, words_in};
+ghost use Rattle.symbolic_prep.specs.Numbers.{AreListed, AreLonger, IsSpanOf};
+
+use crate::by_number::ListedClosure;
+use crate::closing::keeps;
+use crate::columns::{ColumnWords, place_of};
+use crate::lists::{Lists, Span};
+use crate::pending::{ColumnFault, words_of_rows};
+use crate::walk::walk;
+use free_poly::{Poly, Term};
+use ideal_laws::Basis;
+use lead_index::LeadIndex;
+use std::alloc::Global;
+use words::{NoMemory, Word};
+
+/// The closure of the words of the rows, by words as they are.
+pub(crate) fn closure_by_word(
+    alloc: Global,
+    basis: &Basis,
+    index: &LeadIndex,
+    rows: &[Poly],
+    entries: u64,
+    d: u32,
+    most: usize,
+    limit: u32,
+) -> Result<ListedClosure, ColumnFault>
+    requires form { All IsPolynomial basis.now.elements }
+    requires index { IsIndexOf basis.now.elements index.now }
+    requires small { d ≤ 64 }
+    requires degree { All (HasDegree basis.now.weights d) rows.now }
+    requires letters { All (UsesLetters (length basis.now.weights)) rows.now }
+    requires most { most < 4294967296 }
+    requires entries { entries ≤ limit + 1 }
+
+    ensures listed { IfOk result (λ c. IsListedClosure basis.now.elements (words_of rows.now) entries limit (words_in c.columns) c.spans.items c.lists.numbers.items c.lists.residues.items c.entries) }
+    ensures within { IfOk result (λ c. length (words_in c.columns) ≤ most) }
+    ensures many { IsErrOf result ColumnFault.TooMany → (columns : List (List ℕ)) × AreColumns basis.now.elements (words_of rows.now) columns × (most < length columns) }
+{
+    let _done = basis.done();
+    keeps(index);
+    let pending = words_of_rows(alloc, rows, most)?;
+    let walked = walk(alloc, basis, index, pending, entries, d, most, limit)?;
+    let held = walked.entries <= u64::from(limit);
+    let columns = walked.columns;
+    let (spans, lists) = listed_if(alloc, held, columns.as_slice(), walked.reducers.as_slice())?;
+    Ok(ListedClosure {
+        columns: ColumnWords::Plain(columns),
+        spans,
+        lists,
+        entries: walked.entries,
+    })
+}
+
+/// The reducers one after another, where they are held.
+fn listed_if(
+    alloc: Global,
+    held: bool,
+    columns: &[Word],
+    reducers: &[Option<Poly>],
+) -> Result<(Vec<Option<Span>>, Lists), NoMemory>
+    requires few { length columns.now < 4294967296 }
+    requires falling { AllPairs IsLetterwiseGreater columns.now }
+    requires on_columns { IsTrue held → All (IsOnColumns columns.now) reducers.now }
+    ensures { IfOk result (λ l. IsTrue held → AllZip (IsSpanOf columns.now l.1.numbers.items l.1.residues.items) l.0.items reducers.now) }
+{
+    if held {
+        listed(alloc, columns, reducers)
+    } else {
+        Ok((Vec::new(alloc), Lists::new(alloc)))
+    }
+}
+
+/// The reducers one after another.
+fn listed(
+    alloc: Global,
+    columns: &[Word],
+    reducers: &[Option<Poly>],
+) -> Result<(Vec<Option<Span>>, Lists), NoMemory>
+    requires few { length columns.now < 4294967296 }
+    requires falling { AllPairs IsLetterwiseGreater columns.now }
+    requires on_columns { All (IsOnColumns columns.now) reducers.now }
+    ensures { IfOk result (λ l. AllZip (IsSpanOf columns.now l.1.numbers.items l.1.residues.items) l.0.items reducers.now) }
+{
+    let mut spans = Vec::with_capacity(alloc, reducers.len())?;
+    let mut lists = Lists::new(alloc);
+    for reducer in reducers {
+        let span = push_listed(columns, reducer, &mut lists)?;
+        spans.push(span)?;
+    }
+    Ok((spans, lists))
+}
+
+/// Lists a reducer, if there is one.
+fn push_listed(
+    columns: &[Word],
+    reducer: &Option<Poly>,
+    lists: &mut Lists,
+) -> Result<Option<Span>, NoMemory>
+    requires few { length columns.now < 4294967296 }
+    requires falling { AllPairs IsLetterwiseGreater columns.now }
+    requires on_columns { IsOnColumns columns.now reducer.now }
+    requires sizes { length lists.old.numbers.items ≡ length lists.old.residues.items }
+    ensures longer { OnOk result (AreLonger lists.old.numbers.items lists.old.residues.items lists.new.numbers.items lists.new.residues.items) }
+    ensures stands { IfOk result (λ span. IsSpanOf columns.now lists.new.numbers.items lists.new.residues.items span reducer.now) }
+{
+    match reducer {
+        Some(poly) => {
+            let start = lists.numbers.len();
+            push_terms(columns, poly.terms(), lists)?;
+            let end = lists.numbers.len();
+            Ok(Some(Span { start, end }))
+        }
+        None => Ok(None),
+    }
+}
+
+/// Lists some terms.
+fn push_terms(columns: &[Word], terms: &[Term], lists: &mut Lists) -> Result<(), NoMemory>
+    requires few { length columns.now < 4294967296 }
+    requires falling { AllPairs IsLetterwiseGreater columns.now }
+    requires on_columns { All (λ t. Contains columns.now t.word) terms.now }
+    ensures { OnOk result (AreListed columns.now lists.old.numbers.items lists.old.residues.items lists.new.numbers.items lists.new.residues.items terms.now) }
+{
+    for term in terms {
+        let column = place_of(columns, term.word.letters());
+        lists.numbers.push(column as u32)?;
+        lists.residues.push(term.coefficient)?;
+    }
+    Ok(())
+}

@@ -1,0 +1,90 @@
+ghost use Rattle.std.specs.Prelude.{◌≡◌, ◌+◌, ◌^◌, ◌<◌, ◌≤◌, ◌⊎◌, ◌++◌, ◌∷◌, [], All, Contains, IsErrOf, IsTrue, OnOk, length, map};
+ghost use Rattle.free_poly.specs.Terms.{product};
+ghost use Rattle.symbolic_prep.specs.Numbers.{AreListed, IsGrown};
+ghost use Rattle.symbolic_prep.specs.Packing.{HasDigits, packed};
+ghost use Rattle.symbolic_prep.specs.Walk.{HasMore};
+
+use crate::pending::ColumnFault;
+use crate::table::WordTable;
+use free_poly::Term;
+use std::alloc::Global;
+
+/// The reducers one after another: the numbers of their words, and beside them the coefficients.
+#[derive(Debug, Drop)]
+pub(crate) struct Lists {
+    pub(crate) numbers: Vec<u32>,
+    pub(crate) residues: Vec<u32>,
+}
+
+impl Lists {
+    pub(crate) fn new(alloc: Global) -> Lists
+        ensures numbers { result.numbers.items ≡ [] }
+        ensures residues { result.residues.items ≡ [] }
+    {
+        Lists {
+            numbers: Vec::new(alloc),
+            residues: Vec::new(alloc),
+        }
+    }
+}
+
+/// Where the terms of a reducer stand in the lists.
+#[derive(Debug, Clone, Copy)]
+pub(crate) struct Span {
+    pub(crate) start: usize,
+    pub(crate) end: usize,
+}
+
+/// Adds the words of u * f * v, of which u and v are packed, and lists them if they are to be held.
+pub(crate) fn push_product(
+    terms: &[Term],
+    before: &[u8],
+    rest: &[u8],
+    before_key: u64,
+    rest_key: u64,
+    most: usize,
+    held: bool,
+    table: &mut WordTable,
+    lists: &mut Lists,
+) -> Result<(), ColumnFault>
+    requires few { length table.old.words ≤ most }
+    requires small { most < 4294967296 }
+    requires over_before { HasDigits table.old.bits before.now }
+    requires over { All (λ t. HasDigits table.old.bits t.word) terms.now }
+    requires over_rest { HasDigits table.old.bits rest.now }
+    requires fits { All (λ t. length before.now + length t.word + length rest.now ≤ table.old.room) terms.now }
+    requires before_key { before_key ≡ packed (2 ^ table.old.bits) table.old.room before.now }
+    requires rest_key { rest_key ≡ packed (2 ^ table.old.bits) table.old.room rest.now }
+    ensures grown { OnOk result (IsGrown table.old.words table.new.words (map (λ t. t.word) (product before.now terms.now rest.now))) }
+    ensures listed { OnOk result (IsTrue held → AreListed table.new.words lists.old.numbers.items lists.old.residues.items lists.new.numbers.items lists.new.residues.items (product before.now terms.now rest.now)) }
+    ensures within { OnOk result (length table.new.words ≤ most) }
+    ensures many { IsErrOf result ColumnFault.TooMany → HasMore most (λ w. Contains table.old.words w ⊎ Contains (map (λ t. t.word) (product before.now terms.now rest.now)) w) }
+    ensures bits { OnOk result (table.new.bits ≡ table.old.bits) }
+    ensures room { OnOk result (table.new.room ≡ table.old.room) }
+{
+    let _len = table.len();
+    for term in terms {
+        let number = table.add(before, term.word.letters(), rest, before_key, rest_key)?;
+        if table.len() > most {
+            return Err(ColumnFault::TooMany);
+        }
+        push_number(held, number, term.coefficient, lists)?;
+    }
+    Ok(())
+}
+
+pub(crate) fn push_number(
+    held: bool,
+    number: u32,
+    residue: u32,
+    lists: &mut Lists,
+) -> Result<(), ColumnFault>
+    ensures pushed { OnOk result (IsTrue held → (lists.new.numbers.items ≡ lists.old.numbers.items ++ number ∷ []) × (lists.new.residues.items ≡ lists.old.residues.items ++ residue ∷ [])) }
+    ensures memory { IsErrOf result ColumnFault.TooMany → ⊥ }
+{
+    if held {
+        lists.numbers.push(number)?;
+        lists.residues.push(residue)?;
+    }
+    Ok(())
+}

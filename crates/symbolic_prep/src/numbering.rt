@@ -1,0 +1,172 @@
+ghost use Rattle.std.specs.Prelude.{◌≡◌, ◌+◌, ◌^◌, ◌<◌, ◌≤◌, ◌++◌, ◌∷◌, [], List, ℕ, All, Contains, IfOk, IsErrOf, IsTrue, OnOk, Some, length, slice_get};
+ghost use Rattle.words.specs.Words.{IsOver, degree_of};
+ghost use Rattle.free_poly.specs.declared.term.Term.{Term};
+ghost use Rattle.free_poly.specs.Poly.{IsPolynomial};
+ghost use Rattle.ideal_laws.specs.Closure.{AreColumns, IsInClosure};
+ghost use Rattle.lead_index.specs.Leads.{IsIndex, IsIndexOf};
+ghost use Rattle.symbolic_prep.specs.Numbers.{IsNumberWalk, IsReducedTo};
+ghost use Rattle.symbolic_prep.specs.Packing.{HasDigits};
+ghost use Rattle.symbolic_prep.specs.Walk.{HasMore};
+
+use crate::closing::keeps;
+use crate::lists::{Lists, Span, push_number, push_product};
+use crate::packing::pack;
+use crate::pending::{ColumnFault, tail_of};
+use crate::table::WordTable;
+use crate::walk::{behind, counted, lead_len};
+use free_poly::Term;
+use ideal_laws::Basis;
+use lead_index::LeadIndex;
+use std::alloc::Global;
+
+/// The words of a closure by number, and where the reducer of each stands in the lists.
+#[derive(Drop)]
+pub(crate) struct Numbered {
+    pub(crate) table: WordTable,
+    pub(crate) spans: Vec<Option<Span>>,
+    pub(crate) lists: Lists,
+    pub(crate) entries: u64,
+}
+
+/// The closure of the words of a table. Each word is looked up once, when a reducer brings it.
+pub(crate) fn walk_by_number(
+    alloc: Global,
+    basis: &Basis,
+    index: &LeadIndex,
+    table: WordTable,
+    entries: u64,
+    d: u32,
+    most: usize,
+    limit: u32,
+) -> Result<Numbered, ColumnFault>
+    requires form { All IsPolynomial basis.now.elements }
+    requires index { IsIndexOf basis.now.elements index.now }
+    requires small { d ≤ 64 }
+    requires words { All (λ w. IsOver (length basis.now.weights) w × (degree_of basis.now.weights w ≡ d)) table.words }
+    requires letters { length basis.now.weights < 2 ^ table.bits }
+    requires room { d ≤ table.room }
+    requires few { length table.words ≤ most }
+    requires most { most < 4294967296 }
+    requires entries { entries ≤ limit + 1 }
+
+    ensures walked { IfOk result (λ n. IsNumberWalk basis.now.elements table.words n.table.words (length n.table.words) entries limit n.spans.items n.lists.numbers.items n.lists.residues.items n.entries) }
+    ensures within { IfOk result (λ n. length n.table.words ≤ most) }
+    ensures bits { IfOk result (λ n. n.table.bits ≡ table.bits) }
+    ensures room { IfOk result (λ n. n.table.room ≡ table.room) }
+    ensures many { IsErrOf result ColumnFault.TooMany → (columns : List (List ℕ)) × AreColumns basis.now.elements table.words columns × (most < length columns) }
+{
+    let _done = basis.done();
+    let _len = table.len();
+    keeps(index);
+    let mut table = table;
+    let mut entries = entries;
+    let mut spans = Vec::new(alloc);
+    let mut lists = Lists {
+        numbers: Vec::new(alloc),
+        residues: Vec::new(alloc),
+    };
+    let mut letters = Vec::new(alloc);
+    let mut next = 0;
+    while next < table.len() {
+        table.read(next, &mut letters)?;
+        let word = letters.as_slice();
+        let (span, more) = push_reducer(
+            basis,
+            index,
+            word,
+            next as u32,
+            most,
+            entries,
+            limit,
+            &mut table,
+            &mut lists,
+        )?;
+        entries = more;
+        spans.push(span)?;
+        next += 1;
+    }
+    Ok(Numbered {
+        table,
+        spans,
+        lists,
+        entries,
+    })
+}
+
+/// Adds the words of the reducer of a word, if it has one.
+fn push_reducer(
+    basis: &Basis,
+    index: &LeadIndex,
+    word: &[u8],
+    number: u32,
+    most: usize,
+    entries: u64,
+    limit: u32,
+    table: &mut WordTable,
+    lists: &mut Lists,
+) -> Result<(Option<Span>, u64), ColumnFault>
+    requires form { All IsPolynomial basis.now.elements }
+    requires index { IsIndexOf basis.now.elements index.now }
+    requires small { length word.now ≤ 64 }
+    requires number { slice_get table.old.words number ≡ Some word.now }
+    requires letters { IsOver (length basis.now.weights) word.now }
+    requires digits { length basis.now.weights < 2 ^ table.old.bits }
+    requires room { degree_of basis.now.weights word.now ≤ table.old.room }
+    requires few { length table.old.words ≤ most }
+    requires most { most < 4294967296 }
+    requires sizes { entries ≤ limit → length lists.old.numbers.items ≡ length lists.old.residues.items }
+
+    ensures reduced { IfOk result (λ r. IsReducedTo basis.now.elements word.now table.old.words table.new.words lists.old.numbers.items lists.old.residues.items lists.new.numbers.items lists.new.residues.items entries limit r.0 r.1) }
+    ensures within { OnOk result (length table.new.words ≤ most) }
+    ensures bits { OnOk result (table.new.bits ≡ table.old.bits) }
+    ensures room { OnOk result (table.new.room ≡ table.old.room) }
+    ensures sizes { IfOk result (λ r. r.1 ≤ limit → length lists.new.numbers.items ≡ length lists.new.residues.items) }
+    ensures many { IsErrOf result ColumnFault.TooMany → (given : List (List ℕ)) → ((w : List ℕ) → Contains table.old.words w → IsInClosure basis.now.elements given w) → HasMore most (IsInClosure basis.now.elements given) }
+{
+    let _done = basis.done();
+    match index.first_reducer(word) {
+        Some(place) => {
+            let element = basis.element(place.element);
+            let terms = element.terms();
+            let at = place.at as usize;
+            let before = &word[..at];
+            let rest = behind(word, at, lead_len(element));
+            let packing = table.packing();
+            let before_key = pack(packing, before);
+            let rest_key = pack(packing, rest);
+            let entries = counted(entries, terms.len(), limit);
+            let held = entries <= u64::from(limit);
+            let start = lists.numbers.len();
+            push_lead(held, number, terms, lists)?;
+            push_product(
+                tail_of(terms),
+                before,
+                rest,
+                before_key,
+                rest_key,
+                most,
+                held,
+                table,
+                lists,
+            )?;
+            let end = lists.numbers.len();
+            Ok((Some(Span { start, end }), entries))
+        }
+        None => {
+            let _len = table.len();
+            Ok((None, counted(entries, 0, limit)))
+        }
+    }
+}
+
+/// Lists the leading term of a reducer, whose word has this number.
+fn push_lead(held: bool, number: u32, terms: &[Term], lists: &mut Lists) -> Result<(), ColumnFault>
+    ensures pushed { OnOk result (IsTrue held → (t : Term) (ts : List Term) → terms.now ≡ t ∷ ts
+        → (lists.new.numbers.items ≡ lists.old.numbers.items ++ number ∷ []) × (lists.new.residues.items ≡ lists.old.residues.items ++ t.coefficient ∷ [])) }
+    ensures memory { IsErrOf result ColumnFault.TooMany → ⊥ }
+{
+    match terms.first() {
+        Some(lead) => push_number(held, number, lead.coefficient, lists),
+        None => Ok(()),
+    }
+}
