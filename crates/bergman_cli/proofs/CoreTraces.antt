@@ -35,7 +35,7 @@ module _ (tell : RunAccountsTell) (list : ListsLower) where
         let own = subst (λ (s : ℕ). core_accounts job.workers s p given below d account) same_schedule (subst (λ (w : ℕ). core_accounts w schedule p given below d account) same_workers may) in
         let lower = list p given.alphabet.weights given.relations setting d below is_below in
         let history : TellsHistory job.workers p given below d account =
-            λ elements reduced. tell job.workers p given.alphabet.weights given.relations setting some few d below.elements lower account own.run elements reduced in
+        λ elements reduced. tell job.workers p given.alphabet.weights given.relations setting some few d below.elements lower account own.run elements reduced in
         subst (λ (e : EngineKind). accounts_in e job.workers job.schedule p given below d account) (sym is) (own, history);
     printable = λ _ p given. core_printable workers schedule (subst (λ (w : ℕ). 1 ≤ w) (sym same_workers) some) (subst (λ (w : ℕ). w ≤ 64) (sym same_workers) few) p given;
   }

@@ -35,7 +35,7 @@ module _ (May Own : Accounts) (t : Task) (st : IsSetting t.modulus t.letters.wei
     own_account d x first =
         let setting = subst (λ (l : Letters). IsSetting t.modulus l.weights first.given.relations) (sym first.letters) (subst (λ (rs : List (List Term)). IsSetting t.modulus t.letters.weights rs) (sym first.relations) st) in
         let below = subst (λ (l : Letters). IsBelow t.modulus l.weights first.given.relations d first.below) (sym first.letters)
-            (subst (λ (rs : List (List Term)). IsBelow t.modulus t.letters.weights rs d first.below) (sym first.relations) first.is_below) in
+        (subst (λ (rs : List (List Term)). IsBelow t.modulus t.letters.weights rs d first.below) (sym first.relations) first.is_below) in
         record {
           given = first.given;
           letters = first.letters;
