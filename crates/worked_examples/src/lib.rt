@@ -7,6 +7,8 @@ mod bases;
 #[cfg(test)]
 mod engines;
 #[cfg(test)]
+mod modules;
+#[cfg(test)]
 mod presented;
 #[cfg(test)]
 mod problems;
