@@ -230,7 +230,7 @@ fn right_modules_print_their_bases_and_series(rt: HostRuntime) -> Result<(), Fai
             "vars x; ;",
             Status::Input(InputProblem::TooFewNames { names: 1 }),
             "",
-            "bergman: input: 1 names\n",
+            "bergman: input: only 1 names\n",
         ),
     ] {
         expect_run(&rt, line, text.as_bytes(), NONE, status, output, told)?;
