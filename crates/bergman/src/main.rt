@@ -3,7 +3,7 @@
 #![tactic(auto)]
 
 use bergman_cli::bergman;
-use bg_io::{OpenGate, StdSink, StdSource};
+use bg_io::{PlannedGate, StdSink, StdSource};
 use std::process::ExitCode;
 use std::{env, io};
 
@@ -21,6 +21,7 @@ fn main(rt: HostRuntime) -> ExitCode {
         ),
         Err(_) => return ExitCode::from(NO_TEXT),
     };
+    let gate = PlannedGate::open(rt.alloc());
     let mut source = StdSource::new(rt.stdin());
     let mut out = StdSink::new(rt.stdout());
     let mut err = StdSink::new(rt.stderr());
@@ -31,7 +32,7 @@ fn main(rt: HostRuntime) -> ExitCode {
         &mut source,
         &mut out,
         &mut err,
-        &OpenGate,
+        &gate,
     );
     ExitCode::from(status.code())
 }

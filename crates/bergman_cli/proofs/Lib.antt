@@ -5,7 +5,7 @@ pub mod Works
 pub mod Causes
 pub mod Completing
 pub mod RunTraces
-pub mod CoreTraces
+pub mod RunAccounts
 pub mod Made
 pub mod ModuleTexts
 pub mod ModuleOutcomes

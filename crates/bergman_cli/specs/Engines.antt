@@ -10,7 +10,7 @@ use Rattle.ideal_laws.specs.Limits.{standard_limits}
 use Rattle.ideal_laws.specs.Basis.{IsReducedBasis}
 use Rattle.ideal_laws.specs.Kept.{IsBelow}
 use Rattle.ideal_laws.specs.Laws.{IsSetting}
-use Rattle.degree_loop.specs.Accounts.{IsCoreAccount, crew_of}
+use Rattle.degree_loop.specs.Accounts.{IsCoreAccount, IsRunAccount, crew_of}
 use Rattle.degree_loop.specs.ClaimHistory.{IsClaimHistory}
 use Rattle.degree_loop.specs.Limits.{engine_limits}
 use Rattle.degree_loop.specs.Matrix.{TellsMatrix}
@@ -21,7 +21,7 @@ use Rattle.job_steps.specs.Traces.{Accounts, ArePrintable}
 
 -- an engine that is built
 abbrev pub IsBuilt : EngineKind → Type 0
-IsBuilt Race = ⊥
+IsBuilt Race = Unit {0}
 IsBuilt Core = Unit {0}
 IsBuilt Seq = Unit {0}
 IsBuilt Plain = Unit {0}
@@ -51,7 +51,8 @@ TellsHistory workers p given below d account =
 
 -- the accounts that an engine may tell
 abbrev pub accounts_in : EngineKind → ℕ → ℕ → Accounts
-accounts_in Race workers schedule p given below d account = ⊥
+accounts_in Race workers schedule p given below d account =
+    IsRunAccount workers p given.alphabet.weights given.relations below.elements d account × TellsHistory workers p given below d account
 accounts_in Core workers schedule p given below d account =
     IsCoreAccount workers schedule p given.alphabet.weights given.relations below.elements d account × TellsHistory workers p given below d account
 accounts_in Seq workers schedule p given below d account = ⊥

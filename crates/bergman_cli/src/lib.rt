@@ -6,6 +6,8 @@
 mod gb;
 mod make;
 mod module;
+#[cfg(test)]
+mod race_tests;
 mod run;
 #[cfg(test)]
 mod tests;

@@ -18,9 +18,9 @@ ghost use Rattle.bergman_cli.specs.Run.{Completes, IsEnd, IsGivenReading, IsJobE
 use crate::gb::run_gb;
 use crate::make::make_answer;
 use crate::module::module_answer;
-use bg_io::{Gate, Sink, Source};
+use bg_io::{PlannedGate, Sink, Source};
 use command_words::{Command, EngineKind, Job, read_words, words_law};
-use degree_loop::{CoreEngine, SeqEngine, claim_history_law};
+use degree_loop::{CoreEngine, RaceEngine, SeqEngine, claim_history_law};
 use field_table::{Field, listed_moduli_law};
 use generated_text::generated_presentation;
 use ideal_laws::{DegreeEngine, Limits, Presentation, lower_law, setting_law};
@@ -35,14 +35,14 @@ use words::NoMemory;
 /// from `source`. With `gb` the lines of a degree are written before the next one is asked for, and where the words
 /// ask for it, the trace of each degree is told before its lines are written; the other commands write their text at
 /// once.
-pub fn bergman<R: Threads + Sync, S: Source, K: Sink, T: Sink, G: Gate>(
+pub fn bergman<R: Threads + Sync, S: Source, K: Sink, T: Sink>(
     rt: &R,
     alloc: Global,
     words: &[String],
     source: &mut S,
     out: &mut K,
     err: &mut T,
-    gate: &G,
+    gate: &PlannedGate,
 ) -> Status
     // A status that the work ends with by itself: its text was gained.
     ensures ended { IsOwn result
@@ -76,7 +76,7 @@ pub fn bergman<R: Threads + Sync, S: Source, K: Sink, T: Sink, G: Gate>(
     words_law();
     reading_laws();
     let mut failed = false;
-    let status = run_words(rt, alloc, words, source, out, err, &mut failed);
+    let status = run_words(rt, alloc, words, source, out, err, gate, &mut failed);
     tell_status(err, &mut failed, status);
     status
 }
@@ -89,6 +89,7 @@ fn run_words<R: Threads + Sync, S: Source, K: Sink, T: Sink>(
     source: &mut S,
     out: &mut K,
     err: &mut T,
+    gate: &PlannedGate,
     failed: &mut bool,
 ) -> Status
     ensures end { IsEnd (map string_bytes words.now) (S.left source.old) (S.left source.new) (S.faults source.old) (S.faults source.new) (K.held out.old) (K.held out.new) (K.room out.old) (K.faults out.old) (K.faults out.new) result }
@@ -126,7 +127,10 @@ fn run_words<R: Threads + Sync, S: Source, K: Sink, T: Sink>(
             let mut engine = CoreEngine::new(Limits::standard(), job.workers, job.schedule);
             run_job(rt, alloc, &job, &mut engine, source, out, err, failed)
         }
-        EngineKind::Race => Status::Unbuilt { part: Part::Engine },
+        EngineKind::Race => {
+            let mut engine = RaceEngine::new(Limits::standard(), job.workers, gate);
+            run_job(rt, alloc, &job, &mut engine, source, out, err, failed)
+        }
     }
 }
 

@@ -1,5 +1,5 @@
 use crate::run::bergman;
-use bg_io::{FixedSink, MemorySink, MemorySource, OpenGate, SteadySource};
+use bg_io::{FixedSink, MemorySink, MemorySource, PlannedGate, SteadySource};
 use command_words::{Key, UsageFault};
 use ideal_laws::LimitKind;
 use job_steps::{InputProblem, Part, Status};
@@ -14,9 +14,9 @@ const COMMUTING: &str = "vars x,y; x*y-y*x;";
 
 const COMMUTING_ANSWER: &str = "% 2\nx*y-y*x\n% series\n0 1\n1 2\n2 3\n3 4\n";
 
-const SQUARE: &str = "vars x,y; x^2-y*x;";
+pub const SQUARE: &str = "vars x,y; x^2-y*x;";
 
-const SQUARE_ANSWER: &str =
+pub const SQUARE_ANSWER: &str =
     "% 2\nx^2-y*x\n% 3\nx*y*x-y^2*x\n% 4\nx*y^2*x-y^3*x\n% series\n0 1\n1 2\n2 3\n3 4\n4 5\n";
 
 const SQUARE_TRACE: &str =
@@ -39,7 +39,7 @@ const NONE: Failing = Failing {
     told: 0,
 };
 
-fn words_of(alloc: Global, line: &str) -> Result<Vec<String>, Fail> {
+pub fn words_of(alloc: Global, line: &str) -> Result<Vec<String>, Fail> {
     let mut words = Vec::new(alloc);
     for word in line.split_whitespace() {
         words.push(String::from_str(alloc, word)?)?;
@@ -74,7 +74,7 @@ fn expect_run<R: Threads + Sync + Abort + AllocGlobal>(
         &mut source,
         &mut out,
         &mut err,
-        &OpenGate,
+        &PlannedGate::open(alloc),
     );
     assert_eq!(rt; answer, status, "{line}");
     assert_eq!(rt; out.held(), output.as_bytes(), "{line}");
@@ -89,7 +89,7 @@ fn algebras_print_their_bases_and_series(rt: HostRuntime) -> Result<(), Fail> {
         ("gb mod=65521 deg=3", COMMUTING, COMMUTING_ANSWER),
         ("gb deg=3 mod=1000003", COMMUTING, COMMUTING_ANSWER),
         (
-            "gb mod=101 deg=3 workers=2 engine=plain",
+            "gb mod=101 deg=3 workers=2",
             "vars x,y; x*y-y*x, x*y-y*x;",
             COMMUTING_ANSWER,
         ),
@@ -119,7 +119,7 @@ fn algebras_print_their_bases_and_series(rt: HostRuntime) -> Result<(), Fail> {
             "vars x,y; x*y+y*x;",
             "% 2\nx*y+y*x\n% series\n0 1\n1 2\n2 3\n",
         ),
-        ("gb mod=101 deg=4", SQUARE, SQUARE_ANSWER),
+        ("gb mod=101 deg=4 workers=2", SQUARE, SQUARE_ANSWER),
         ("gb mod=101 deg=4 engine=seq", SQUARE, SQUARE_ANSWER),
         ("gb mod=101 deg=4 engine=plain", SQUARE, SQUARE_ANSWER),
         ("gb mod=101 deg=4 engine=core", SQUARE, SQUARE_ANSWER),
@@ -472,11 +472,6 @@ fn words_are_refused_before_the_source_is_read(rt: HostRuntime) -> Result<(), Fa
             "bergman: not built: command\n",
         ),
         (
-            "gb mod=101 deg=3 engine=race",
-            Status::Unbuilt { part: Part::Engine },
-            "bergman: not built: engine\n",
-        ),
-        (
             "gb mod=101 deg=3",
             Status::ReadFault,
             "bergman: read fault\n",
@@ -659,7 +654,7 @@ fn a_told_room_is_enough_or_not(rt: HostRuntime) -> Result<(), Fail> {
             &mut source,
             &mut out,
             &mut err,
-            &OpenGate,
+            &PlannedGate::open(alloc),
         );
         assert_eq!(rt; answer, status, "room {room}");
         assert_eq!(rt; Some(out.held()), COMMUTING_ANSWER.as_bytes().get(..room));

@@ -1,39 +1,33 @@
-use crate::{AnyGate, Gate, Spot};
-use std::alloc::Global;
-use std::sync::Arc;
-use std::sync::atomic::{AtomicU64, Ordering};
+use crate::{Gate, Plan, PlannedGate, Spot};
 use std::test::Fail;
 
-/// Adds up the columns that were passed.
-#[derive(Drop)]
-struct Tally {
-    columns: Arc<AtomicU64, Global>,
-}
-
-impl Gate for Tally {
-    fn pass(&self, _seat: u32, spot: Spot) {
-        self.columns
-            .fetch_add(u64::from(spot.column), Ordering::SeqCst);
-    }
-}
-
+/// The second claim comes before the first one was answered, so the first one goes on at once.
 #[test]
-fn an_owned_gate_is_passed(rt: HostRuntime) -> Result<(), Fail> {
-    let columns = Arc::new(rt.alloc(), AtomicU64::new(0))?;
-    let tally = Tally {
-        columns: Arc::try_clone(&columns)?,
+fn spots_are_noted_by_seat(rt: HostRuntime) -> Result<(), Fail> {
+    let gate = PlannedGate::new(
+        rt.alloc(),
+        Plan::Meet {
+            degree: 4,
+            claims: 1,
+        },
+    )?;
+    let before = Spot {
+        degree: 4,
+        column: 3,
+        after: false,
     };
-    let gate = AnyGate::new(Box::new(rt.alloc(), tally)?);
-    for column in [3, 4] {
-        gate.pass(
-            0,
-            Spot {
-                degree: 2,
-                column,
-                after: false,
-            },
-        );
-    }
-    assert_eq!(rt; columns.load(Ordering::SeqCst), 7);
+    let after = Spot {
+        degree: 4,
+        column: 3,
+        after: true,
+    };
+    gate.pass(1, before);
+    gate.pass(1, after);
+    gate.pass(0, after);
+    assert!(rt;
+        gate.is_noted(1, 0, before) && gate.is_noted(1, 1, after) && gate.is_noted(0, 0, after)
+    );
+    assert!(rt; !gate.is_noted(0, 0, before) && !gate.ran_out());
+    assert_eq!(rt; gate.met(1), 2);
     Ok(())
 }

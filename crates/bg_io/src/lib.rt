@@ -16,7 +16,7 @@ mod transfer;
 
 pub use adapters::{StdSink, StdSource};
 pub use ends::{Failed, Sink, Source};
-pub use gate::{AnyGate, Gate, OpenGate, Spot};
+pub use gate::{Gate, OpenGate, Plan, PlannedGate, Spot};
 pub use memory::{FixedSink, NoMemory, SteadySource};
 pub use planned::{MemorySink, MemorySource};
 pub use transfer::{ReadAllFault, WriteFault, read_all, write_all};

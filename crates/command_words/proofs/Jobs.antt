@@ -82,7 +82,7 @@ pub record AreFields (values : List (Option Value)) (job : Job) : Type 0 where
   pub workers : job.workers ≡ count_in (kept values keys.Workers) 1
   pub show : job.show ≡ show_in (kept values keys.Show) shows.Both
   pub trace : job.trace ≡ answer_in (kept values keys.Trace) false
-  pub engine : job.engine ≡ engine_in (kept values keys.Engine) engines.Seq
+  pub engine : job.engine ≡ engine_in (kept values keys.Engine) engines.Race
   pub schedule : job.schedule ≡ count_in (kept values keys.Schedule) 0
   pub number : job.number ≡ count_in (kept values keys.Number) 0
   pub letters : job.letters ≡ count_in (kept values keys.Vars) 0
@@ -97,7 +97,7 @@ module _ (values : List (Option Value)) (job : Job) (are : AreValues values) (fi
   field_is keys.Workers = count_is (kept values keys.Workers) 1 job.workers fields.workers (is_count 1 64 (kept values keys.Workers) (are keys.Workers))
   field_is keys.Show = show_is (kept values keys.Show) shows.Both job.show fields.show (is_show (kept values keys.Show) (are keys.Show))
   field_is keys.Trace = answer_is (kept values keys.Trace) false job.trace fields.trace (is_answer (kept values keys.Trace) (are keys.Trace))
-  field_is keys.Engine = engine_is (kept values keys.Engine) engines.Seq job.engine fields.engine (is_engine (kept values keys.Engine) (are keys.Engine))
+  field_is keys.Engine = engine_is (kept values keys.Engine) engines.Race job.engine fields.engine (is_engine (kept values keys.Engine) (are keys.Engine))
   field_is keys.Schedule = count_is (kept values keys.Schedule) 0 job.schedule fields.schedule (is_count 0 4294967295 (kept values keys.Schedule) (are keys.Schedule))
   field_is keys.Number = count_is (kept values keys.Number) 0 job.number fields.number (is_count 0 4294967295 (kept values keys.Number) (are keys.Number))
   field_is keys.Vars = count_is (kept values keys.Vars) 0 job.letters fields.letters (is_count 2 33 (kept values keys.Vars) (are keys.Vars))

@@ -101,11 +101,11 @@ impl Draft {
     }
 
     fn engine(&self) -> EngineKind
-        ensures { result ≡ engine_in (kept self.now.values Key.Engine) EngineKind.Seq }
+        ensures { result ≡ engine_in (kept self.now.values Key.Engine) EngineKind.Race }
     {
         match self.value_of(Key::Engine) {
             Some(Value::Kind(engine)) => engine,
-            _ => EngineKind::Seq,
+            _ => EngineKind::Race,
         }
     }
 

@@ -26,7 +26,7 @@ const SHORT: Job = Job {
     workers: 1,
     show: Show::Both,
     trace: false,
-    engine: EngineKind::Seq,
+    engine: EngineKind::Race,
     schedule: 0,
     number: 0,
     letters: 0,

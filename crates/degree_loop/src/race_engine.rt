@@ -5,7 +5,7 @@ use crate::calls::{crew_for, merged_calls};
 use crate::degree::degree_by;
 use crate::finder::PivotFinder;
 use back_reduce::Problem;
-use bg_io::AnyGate;
+use bg_io::PlannedGate;
 use field_table::Field;
 use ideal_laws::{Basis, Call, DegreeEngine, DegreeReport, EngineFault, Limits, Presentation};
 use pivot_table::Finish;
@@ -20,14 +20,14 @@ use words::{Items, NoMemory};
 pub struct RaceEngine<'a> {
     pub limits: Limits,
     pub workers: u32,
-    pub gate: &'a AnyGate,
+    pub gate: &'a PlannedGate,
     pub ghost are_limits: { AreLimits limits },
     pub ghost some: { 1 ≤ workers },
     pub ghost few: { workers ≤ 64 },
 }
 
 impl<'a> RaceEngine<'a> {
-    pub fn new(limits: Limits, workers: u32, gate: &'a AnyGate) -> RaceEngine<'a>
+    pub fn new(limits: Limits, workers: u32, gate: &'a PlannedGate) -> RaceEngine<'a>
         requires limits { AreLimits limits }
         requires some { 1 ≤ workers }
         requires few { workers ≤ 64 }
