@@ -1,6 +1,8 @@
 pub mod Jobs
 pub mod Given
 pub mod Modules
+pub mod ChainNumbers
+pub mod Chained
 pub mod Works
 pub mod Causes
 pub mod Completing

@@ -22,7 +22,7 @@ abbrev pub IsBuiltCommand : Command → Type 0
 IsBuiltCommand Gb = Unit {0}
 IsBuiltCommand Make = Unit {0}
 IsBuiltCommand Module = Unit {0}
-IsBuiltCommand Chains = ⊥
+IsBuiltCommand Chains = Unit {0}
 IsBuiltCommand Normal = ⊥
 
 -- the words are a job with a command and an engine that are built

@@ -14,6 +14,7 @@ use Rattle.bergman_cli.specs.Engines.{accounts_of, traces_of}
 use Rattle.bergman_cli.specs.Gb.{gb_task}
 use Rattle.bergman_cli.specs.Make.{IsMakeOutcome, make_task}
 use Rattle.bergman_cli.specs.Module.{IsModuleOutcome, IsModuleStatus}
+use Rattle.bergman_cli.specs.Chains.{IsChainsOutcome, IsChainsStatus}
 
 -- In the following, held, more, room and the counts of faults are those of the sink.
 
@@ -22,7 +23,7 @@ abbrev pub IsDueOf : Command → Job → Letters → List (List Term) → Status
 IsDueOf Gb job letters relations status = IsTaskStatus (gb_task job letters relations) status
 IsDueOf Make job letters relations status = IsTaskStatus (make_task job letters relations) status
 IsDueOf Module job letters relations status = IsModuleStatus job letters relations status
-IsDueOf Chains job letters relations status = ⊥
+IsDueOf Chains job letters relations status = IsChainsStatus job letters relations status
 IsDueOf Normal job letters relations status = ⊥
 
 abbrev pub IsDue : Job → Letters → List (List Term) → Status → Type 0
@@ -33,7 +34,7 @@ abbrev pub IsOutcomeOf : Command → Job → Letters → List (List Term) → St
 IsOutcomeOf Gb job letters relations status text = IsTaskOutcome (gb_task job letters relations) status text
 IsOutcomeOf Make job letters relations status text = IsMakeOutcome job letters relations status text
 IsOutcomeOf Module job letters relations status text = IsModuleOutcome job letters relations status text
-IsOutcomeOf Chains job letters relations status text = ⊥
+IsOutcomeOf Chains job letters relations status text = IsChainsOutcome job letters relations status text
 IsOutcomeOf Normal job letters relations status text = ⊥
 
 abbrev pub IsOutcome : Job → Letters → List (List Term) → Status → List ℕ → Type 0

@@ -3,6 +3,7 @@
 //! of the call is the theorem that the program exists for.
 #![tactic(auto)]
 
+mod chains;
 mod gb;
 mod make;
 mod module;

@@ -15,6 +15,7 @@ ghost use Rattle.bergman_cli.specs.Jobs.{IsBuiltCommand, IsBuiltJob, IsSound, Is
 ghost use Rattle.bergman_cli.specs.Outcomes.{HasWrittenPart, HasWrittenSome, IsOutcome, IsWorkEnd, IsWorkTrace};
 ghost use Rattle.bergman_cli.specs.Run.{Completes, IsEnd, IsGivenReading, IsJobEnd, IsMade, IsRunTrace, IsUngivenTo, OfWork, ReadsSource};
 
+use crate::chains::chains_answer;
 use crate::gb::run_gb;
 use crate::make::make_answer;
 use crate::module::module_answer;
@@ -138,8 +139,8 @@ fn is_built(command: Command) -> bool
     ensures { IsTrue result ↔ IsBuiltCommand command }
 {
     match command {
-        Command::Gb | Command::Make | Command::Module => true,
-        Command::Chains | Command::Normal => false,
+        Command::Gb | Command::Make | Command::Module | Command::Chains => true,
+        Command::Normal => false,
     }
 }
 
@@ -254,6 +255,7 @@ fn answer_of<R: Threads + Sync, E: DegreeEngine>(
     match job.command {
         Command::Make => make_answer(rt, alloc, job, engine, field, given),
         Command::Module => module_answer(rt, alloc, job, engine, field, given),
-        Command::Gb | Command::Chains | Command::Normal => unreachable!(),
+        Command::Chains => chains_answer(rt, alloc, job, engine, field, given),
+        Command::Gb | Command::Normal => unreachable!(),
     }
 }

@@ -465,7 +465,7 @@ fn words_are_refused_before_the_source_is_read(rt: HostRuntime) -> Result<(), Fa
             "bergman: usage: missing deg\n",
         ),
         (
-            "chains mod=101 deg=3",
+            "normal mod=101 deg=3 ask=1",
             Status::Unbuilt {
                 part: Part::Command,
             },
@@ -719,5 +719,43 @@ fn a_generated_ideal_is_summed_up(rt: HostRuntime) -> Result<(), Fail> {
         Status::WriteFault,
         "% make",
         "bergman: write fault\n",
+    )
+}
+
+/// The chains over x*y, over x^2 and x*y*x, and over x.
+#[test]
+fn chains_stand_by_degree_and_length(rt: HostRuntime) -> Result<(), Fail> {
+    for (line, text, output) in [
+        (
+            "chains mod=101 deg=3 list=yes",
+            COMMUTING,
+            "% degree 1 length 1 count 2\nx\ny\n% degree 2 length 2 count 1\nx|y\n",
+        ),
+        (
+            "chains mod=101 deg=3 list=yes engine=seq",
+            SQUARE,
+            "% degree 1 length 1 count 2\nx\ny\n% degree 2 length 2 count 1\nx|x\n% degree 3 length 2 count 1\nx|y*x\n% degree 3 length 3 count 1\nx|x|x\n",
+        ),
+        (
+            "chains mod=101 deg=2",
+            "vars x,y; x-y;",
+            "% degree 1 length 1 count 1\n",
+        ),
+    ] {
+        expect_run(&rt, line, text.as_bytes(), NONE, Status::Done, output, "")?;
+    }
+    let limit = Status::Limit {
+        kind: LimitKind::PlainWords,
+        degree: 8,
+        value: 6561,
+    };
+    expect_run(
+        &rt,
+        "chains mod=101 deg=8 engine=plain",
+        b"vars x,y,z; x*y-y*x;",
+        NONE,
+        limit,
+        "",
+        "bergman: limit: plain words 6561 in degree 8\n",
     )
 }

@@ -1,0 +1,192 @@
+-- What chains answers is an outcome of its job, and one status of it is due.
+use Rattle.std.proofs.Common.{◌≡◌, ◌≢◌, ◌+◌, ◌≤◌, ℕ, List, [], length, refl, sym, ap, ◌∙◌, arith, subst, false, true}
+use Rattle.std.specs.List.{Contains}
+use Rattle.words.specs.Names.{Letters}
+use Rattle.free_poly.specs.declared.term.Term.{Term}
+use Rattle.ideal_laws.specs.declared.limits.LimitKind.{LimitKind}
+use Rattle.ideal_laws.specs.Engine.{Elements, IsReducedUpto}
+use Rattle.ideal_laws.specs.Ideal.{IsMinimal}
+use Rattle.ideal_laws.specs.Kept.{IsKept}
+use Rattle.ideal_laws.specs.Laws.{IsSetting}
+use Rattle.ideal_laws.specs.Overlaps.{ListsLower}
+use Rattle.ideal_laws.specs.Quantities.{IsFirstRefused, NonePassesUpto}
+use Rattle.anick_chains.specs.declared.chain.Chain.{Chain}
+use Rattle.anick_chains.specs.BasisTips.{HasMinimalChains, leads_of}
+use Rattle.anick_chains.specs.Listed.{AreListed}
+use Rattle.anick_chains.specs.Listing.{IsFirstMany}
+use Rattle.anick_chains.specs.Texts.{chain_text}
+use Rattle.command_words.specs.declared.job.Command.TheVariants as commands
+use Rattle.command_words.specs.declared.job.Job.{Job}
+use Rattle.job_steps.specs.declared.answer.Answer.{Answer}
+use Rattle.job_steps.specs.declared.status.Status.{Status}
+use Rattle.job_steps.specs.declared.status.Status.TheVariants.{Done, Usage, Input, Limit, Chains, Products, Unbuilt, ReadFault, WriteFault, NoMemory}
+use Rattle.job_steps.specs.Progress.{refused}
+use Rattle.job_steps.specs.Status.{PrintsNothing}
+use Rattle.job_steps.specs.Statuses.{IsOwn, IsTaskStatus}
+use Rattle.job_steps.proofs.Statuses.{one_task_status}
+use Rattle.bergman_cli.specs.Chains.{HasFewChains, HasManyChains, IsChainList, IsChainsOutcome, IsChainsStatus, IsChainsText, chains_task, most_chains}
+use Rattle.bergman_cli.specs.Engines.{limits_of}
+use Rattle.bergman_cli.specs.Outcomes.{Writes}
+use Rattle.bergman_cli.proofs.ChainNumbers.{few_not_many, listed_number, many_minimal, one_first_many}
+
+module _ (job : Job) (letters : Letters) (relations : List (List Term)) where
+  abbrev Due : Status → Type 0
+  Due = IsChainsStatus job letters relations
+
+  abbrev Tasked : Status → Type 0
+  Tasked = IsTaskStatus (chains_task job letters relations)
+
+  abbrev T : List ℕ → Type 0
+  T = IsMinimal job.modulus letters.weights relations
+
+  -- the statuses of the command are its own
+  pub chains_own : (status : Status) → Due status → IsOwn status
+  chains_own Done h = tt
+  chains_own (Usage fault) h = absurd h
+  chains_own (Input problem) h = absurd h
+  chains_own (Limit kind d value) h = tt
+  chains_own (Chains d value) h = tt
+  chains_own (Products d value) h = absurd h
+  chains_own (Unbuilt part) h = absurd h
+  chains_own ReadFault h = absurd h
+  chains_own WriteFault h = absurd h
+  chains_own NoMemory h = absurd h
+
+  -- with one of them something may be printed
+  pub chains_prints : (status : Status) → Due status → PrintsNothing status → ⊥
+  chains_prints Done h none = none
+  chains_prints (Usage fault) h none = h
+  chains_prints (Input problem) h none = h
+  chains_prints (Limit kind d value) h none = none
+  chains_prints (Chains d value) h none = none
+  chains_prints (Products d value) h none = none
+  chains_prints (Unbuilt part) h none = h
+  chains_prints ReadFault h none = h
+  chains_prints WriteFault h none = none
+  chains_prints NoMemory h none = none
+
+  -- only the chain text is not empty
+  pub chains_writes : (status : Status) (text : List ℕ) → Due status → IsChainsText job letters relations status text → text ≢ [] → Writes commands.Chains status
+  chains_writes Done text due h some = tt
+  chains_writes (Usage fault) text due h some = absurd due
+  chains_writes (Input problem) text due h some = absurd due
+  chains_writes (Limit kind d value) text due h some = some h
+  chains_writes (Chains d value) text due h some = some h
+  chains_writes (Products d value) text due h some = absurd due
+  chains_writes (Unbuilt part) text due h some = absurd due
+  chains_writes ReadFault text due h some = absurd due
+  chains_writes WriteFault text due h some = absurd due
+  chains_writes NoMemory text due h some = absurd due
+
+  module _ (st : IsSetting job.modulus letters.weights relations) where
+    few_or_many : HasFewChains job letters relations → (d value : ℕ) → HasManyChains job letters relations d value → ⊥
+    few_or_many few d value many = few_not_many T (length letters.weights) letters.weights job.bound most_chains few.number d few.is_number few.few many.first
+
+    stopped : (kind : LimitKind) (d value : ℕ) → Tasked Done → Tasked (Limit kind d value) → Done ≡ Limit kind d value
+    stopped kind d value a b = one_task_status (chains_task job letters relations) st Done (Limit kind d value) a b
+
+    not_stopped : (kind : LimitKind) (d value : ℕ) → Tasked Done → Tasked (Limit kind d value) → ⊥
+    not_stopped kind d value a b = let e = stopped kind d value a b in cc e
+
+    one_many : (d value e other : ℕ) → HasManyChains job letters relations d value → HasManyChains job letters relations e other → Chains d value ≡ Chains e other
+    one_many d value e other a b =
+        let at : d ≡ e = one_first_many T (length letters.weights) letters.weights job.bound most_chains d e a.first b.first in
+        let same : value ≡ other = a.kept ∙ sym b.kept in
+        λ i. Chains (at i) (same i)
+
+    done_is_one : (other : Status) → Due Done → Due other → Done ≡ other
+    done_is_one Done a b = refl
+    done_is_one (Usage fault) a b = absurd b
+    done_is_one (Input problem) a b = absurd b
+    done_is_one (Limit kind d value) a b = stopped kind d value a.0 b
+    done_is_one (Chains d value) a b = absurd (few_or_many a.1 d value b.1)
+    done_is_one (Products d value) a b = absurd b
+    done_is_one (Unbuilt part) a b = absurd b
+    done_is_one ReadFault a b = absurd b
+    done_is_one WriteFault a b = absurd b
+    done_is_one NoMemory a b = absurd b
+
+    many_is_one : (d value : ℕ) (other : Status) → Due (Chains d value) → Due other → Chains d value ≡ other
+    many_is_one d value Done a b = absurd (few_or_many b.1 d value a.1)
+    many_is_one d value (Usage fault) a b = absurd b
+    many_is_one d value (Input problem) a b = absurd b
+    many_is_one d value (Limit kind e other) a b = absurd (not_stopped kind e other a.0 b)
+    many_is_one d value (Chains e other) a b = one_many d value e other a.1 b.1
+    many_is_one d value (Products e other) a b = absurd b
+    many_is_one d value (Unbuilt part) a b = absurd b
+    many_is_one d value ReadFault a b = absurd b
+    many_is_one d value WriteFault a b = absurd b
+    many_is_one d value NoMemory a b = absurd b
+
+    limit_is_one : (kind : LimitKind) (d value : ℕ) (other : Status) → Due (Limit kind d value) → Due other → Limit kind d value ≡ other
+    limit_is_one kind d value Done a b = sym (stopped kind d value b.0 a)
+    limit_is_one kind d value (Usage fault) a b = absurd b
+    limit_is_one kind d value (Input problem) a b = absurd b
+    limit_is_one kind d value (Limit k e other) a b = one_task_status (chains_task job letters relations) st (Limit kind d value) (Limit k e other) a b
+    limit_is_one kind d value (Chains e other) a b = absurd (not_stopped kind d value b.0 a)
+    limit_is_one kind d value (Products e other) a b = absurd b
+    limit_is_one kind d value (Unbuilt part) a b = absurd b
+    limit_is_one kind d value ReadFault a b = absurd b
+    limit_is_one kind d value WriteFault a b = absurd b
+    limit_is_one kind d value NoMemory a b = absurd b
+
+    -- one status is due
+    pub one_chains_status : (status other : Status) → Due status → Due other → status ≡ other
+    one_chains_status Done other a b = done_is_one other a b
+    one_chains_status (Usage fault) other a b = absurd a
+    one_chains_status (Input problem) other a b = absurd a
+    one_chains_status (Limit kind d value) other a b = limit_is_one kind d value other a b
+    one_chains_status (Chains d value) other a b = many_is_one d value other a b
+    one_chains_status (Products d value) other a b = absurd a
+    one_chains_status (Unbuilt part) other a b = absurd a
+    one_chains_status ReadFault other a b = absurd a
+    one_chains_status WriteFault other a b = absurd a
+    one_chains_status NoMemory other a b = absurd a
+
+  module _ (limits : List (LimitKind × ℕ)) (same : limits ≡ limits_of job.engine) (p : ℕ) (field : p ≡ job.modulus) where
+    -- a limit of the engine
+    pub refused_chains : (answer : Answer) (kind : LimitKind) (d value : ℕ) → answer ≡ record { status = Limit kind d value; text = [] } → IsFirstRefused p letters.weights relations limits job.bound kind d value
+        → IsChainsOutcome job letters relations answer.status answer.text
+    refused_chains answer kind d value is first =
+        let own = subst (λ (m : ℕ). IsFirstRefused m letters.weights relations (limits_of job.engine) job.bound kind d value) field
+        (subst (λ (l : List (LimitKind × ℕ)). IsFirstRefused p letters.weights relations l job.bound kind d value) same first) in
+        subst (λ (a : Answer). IsChainsOutcome job letters relations a.status a.text) (sym is) ((refused kind d value, own, (refl, refl, refl)), refl)
+
+    own_whole : NonePassesUpto p letters.weights relations limits job.bound → Tasked Done
+    own_whole none = (
+      subst (λ (m : ℕ). NonePassesUpto m letters.weights relations (limits_of job.engine) job.bound) field (subst (λ (l : List (LimitKind × ℕ)). NonePassesUpto p letters.weights relations l job.bound) same none),
+      λ shows. let e : false ≡ true = shows in cc e,
+    )
+
+    module _ (st : IsSetting p letters.weights relations) (basis : Elements) (weights : basis.weights ≡ letters.weights) (kept : IsKept basis) (reduced : IsReducedUpto p relations basis)
+        (done : basis.done ≡ job.bound) (none : NonePassesUpto p letters.weights relations limits job.bound) where
+      own_setting : IsSetting p basis.weights relations
+      own_setting = subst (λ (ws : List ℕ). IsSetting p ws relations) (sym weights) st
+
+      -- too many chains
+      pub many_chains : HasMinimalChains → ListsLower → (most d value : ℕ) (text : List ℕ) → most ≡ most_chains → value ≡ most + 1 → text ≡ []
+          → IsFirstMany (Contains (leads_of basis.elements)) (length basis.weights) basis.weights job.bound most d → IsChainsOutcome job letters relations (Chains d value) text
+      many_chains law lower most d value text count plus empty first =
+          let lists = lower p basis.weights relations own_setting (basis.done + 1) basis (record { kept = kept; next = refl; same_weights = refl; reduced = reduced }) in
+          let minimal = many_minimal law p basis.weights relations own_setting (basis.done + 1) basis.elements lists job.bound most d (omega (arith, done)) first in
+          let own = subst (λ (m : ℕ). IsFirstMany (IsMinimal m letters.weights relations) (length letters.weights) letters.weights job.bound most d) field
+          (subst (λ (ws : List ℕ). IsFirstMany (IsMinimal p ws relations) (length ws) ws job.bound most d) weights minimal) in
+          let many = subst (λ (n : ℕ). IsFirstMany T (length letters.weights) letters.weights job.bound n d) count own in
+          ((own_whole none, record { first = many; kept = plus ∙ ap (λ (n : ℕ). n + 1) count }), empty)
+
+      -- the chain text
+      pub few_chains : (found : List Chain) (most : ℕ) (text : List ℕ) → most ≡ most_chains
+          → ((q : ℕ) (rs : List (List Term)) → IsSetting q basis.weights rs → IsReducedUpto q rs basis → AreListed (IsMinimal q basis.weights rs) (length basis.weights) basis.weights job.bound found)
+          → length found ≤ most → text ≡ chain_text letters.names job.list found → IsChainsOutcome job letters relations Done text
+      few_chains found most text count listed within printed =
+          let minimal = listed p relations own_setting reduced in
+          let own : AreListed T (length letters.weights) letters.weights job.bound found =
+          subst (λ (m : ℕ). AreListed (IsMinimal m letters.weights relations) (length letters.weights) letters.weights job.bound found) field
+          (subst (λ (ws : List ℕ). AreListed (IsMinimal p ws relations) (length ws) ws job.bound found) weights minimal) in
+          let few : HasFewChains job letters relations = record {
+            number = length found;
+            is_number = listed_number T (length letters.weights) letters.weights job.bound found own;
+            few = omega (arith, within, count);
+          } in
+          let list : IsChainList job letters relations text = record { chains = found; listed = own; printed = printed } in
+          ((own_whole none, few), list)
