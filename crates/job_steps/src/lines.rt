@@ -114,7 +114,11 @@ fn problem_line(problem: InputProblem) -> Line
         InputProblem::Text(fault) => input_line(fault),
         InputProblem::TooFewNames { names } => counted_line(names, b" names"),
         InputProblem::Shape { relation } => {
-            numbered_line(b"input: relation ", relation, b"not of an ideal or a module")
+            numbered_line(
+                b"input: relation ",
+                relation,
+                b"not of an ideal or a module",
+            )
         }
         InputProblem::TooFewRelations { relations } => counted_line(relations, b" relations"),
         InputProblem::AboveBound { relation } => {
