@@ -22,6 +22,22 @@ use std::thread::Threads;
 use symbolic_prep::{Closed, close};
 use words::NoMemory;
 
+/// The columns are these words, told by their letters.
+fn assert_columns(
+    rt: &impl Abort,
+    alloc: Global,
+    closed: &Closed,
+    wanted: &[&[u8]],
+) -> Result<(), Fail> {
+    let count = closed.len();
+    assert!(rt; count as usize == wanted.len());
+    for column in 0..count {
+        let word = closed.word(alloc, column)?;
+        assert_eq!(rt; word.letters(), wanted[column as usize]);
+    }
+    Ok(())
+}
+
 /// The rows of the obstructions.
 fn rows_of(
     alloc: Global,
@@ -116,7 +132,7 @@ fn assert_cells<R: Abort + Threads + Sync>(
     lower_law();
     setting_law(&algebra.field, &algebra.given);
     let _done = algebra.basis.done();
-    assert_eq!(rt; (rows.len(), closed.columns().len()), (2, 4));
+    assert_eq!(rt; (rows.len(), closed.len()), (2, 4));
     for (cells, refused) in [(3, Some(4)), (4, None)] {
         let mut limits = Limits::standard();
         limits.cells = cells;
@@ -179,11 +195,12 @@ fn assert_closures<R: Abort + Threads + Sync>(
         ) {
             Ok(closed) => {
                 assert_eq!(rt; refused, None);
-                assert_words(
+                assert_columns(
                     rt,
-                    closed.columns(),
+                    alloc,
+                    &closed,
                     &[&[0, 1, 1, 0], &[1, 0, 1, 0], &[1, 1, 0, 0], &[1, 1, 1, 0]],
-                );
+                )?;
                 assert_words(rt, closed.contested(), &[&[0, 1, 1, 0], &[1, 1, 1, 0]]);
                 assert_cells(rt, alloc, algebra, rows, &closed)?;
             }
