@@ -1,6 +1,6 @@
 //! The closure of a degree (Faugère's symbolic preprocessing): all words that reduction of the rows can meet, each
-//! with its reducer or none. After it, reduction is linear algebra over a fixed list of columns. The greatest word that
-//! is pending is always taken first, and its reducer brings smaller words alone, so each word is looked up once.
+//! with its reducer or none. After it, reduction is linear algebra over a fixed list of columns. Words go by numbers,
+//! packed where they are short enough, and each is looked up once, when a row or a reducer brings it.
 #![tactic(auto)]
 
 mod by_number;
