@@ -4,5 +4,6 @@ pub mod Gb
 pub mod Make
 pub mod Module
 pub mod Chains
+pub mod Normal
 pub mod Outcomes
 pub mod Run
