@@ -3,6 +3,10 @@ pub mod Given
 pub mod Modules
 pub mod ChainNumbers
 pub mod Chained
+pub mod Normals
+pub mod Places
+pub mod AnswerTexts
+pub mod NormalOutcomes
 pub mod Works
 pub mod Causes
 pub mod Completing

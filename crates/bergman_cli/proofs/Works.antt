@@ -19,6 +19,7 @@ use Rattle.bergman_cli.specs.Make.{IsMakeText, make_task}
 use Rattle.bergman_cli.specs.Outcomes.{HasWrittenPartOf, HasWrittenSomeOf, IsDueOf, IsOutcomeOf, IsWorkEndOf, Writes}
 use Rattle.bergman_cli.proofs.Chained.{chains_own, chains_prints, chains_writes, one_chains_status}
 use Rattle.bergman_cli.proofs.Modules.{module_quiet, module_status_own, module_writes, one_module_status}
+use Rattle.bergman_cli.proofs.Normals.{normal_quiet, normal_status_own, normal_writes, one_normal_status}
 
 module _ (job : Job) (letters : Letters) (relations : List (List Term)) where
   abbrev Due : Command → Status → Type 0
@@ -33,7 +34,7 @@ module _ (job : Job) (letters : Letters) (relations : List (List Term)) where
   due_is_one Make status other st a b = one_task_status (make_task job letters relations) st status other a b
   due_is_one Module status other st a b = one_module_status job letters relations st status other a b
   due_is_one Chains status other st a b = one_chains_status job letters relations st status other a b
-  due_is_one Normal status other st a b = absurd a
+  due_is_one Normal status other st a b = one_normal_status job letters relations st status other a b
 
   -- an outcome has the status that is due
   pub outcome_due : (command : Command) (status : Status) (text : List ℕ) → Outcome command status text → Due command status
@@ -41,14 +42,14 @@ module _ (job : Job) (letters : Letters) (relations : List (List Term)) where
   outcome_due Make status text h = h.0
   outcome_due Module status text h = h.0
   outcome_due Chains status text h = h.0
-  outcome_due Normal status text h = absurd h
+  outcome_due Normal status text h = (h.0, h.1, h.2)
 
   pub due_own : (command : Command) (status : Status) → Due command status → IsOwn status
   due_own Gb status h = task_status_own (gb_task job letters relations) status h
   due_own Make status h = task_status_own (make_task job letters relations) status h
   due_own Module status h = module_status_own job letters relations status h
   due_own Chains status h = chains_own job letters relations status h
-  due_own Normal status h = absurd h
+  due_own Normal status h = normal_status_own job letters relations status h
 
   -- where nothing may be printed the text is empty
   pub quiet : (command : Command) (status : Status) (text : List ℕ) → Outcome command status text → PrintsNothing status → text ≡ []
@@ -56,7 +57,7 @@ module _ (job : Job) (letters : Letters) (relations : List (List Term)) where
   quiet Make status text h none = absurd (task_status_prints (make_task job letters relations) status h.0 none)
   quiet Module status text h none = module_quiet job letters relations status text h.1 none
   quiet Chains status text h none = absurd (chains_prints job letters relations status h.0 none)
-  quiet Normal status text h none = absurd h
+  quiet Normal status text h none = normal_quiet job letters relations status text h none
 
   gb_writes : (status : Status) → IsTaskStatus (gb_task job letters relations) status → Writes Gb status
   gb_writes statuses.Done h = tt
@@ -88,7 +89,7 @@ module _ (job : Job) (letters : Letters) (relations : List (List Term)) where
   some_writes Make status text h some = make_writes status text h.0 h.1 some
   some_writes Module status text h some = module_writes job letters relations status text h.1 some
   some_writes Chains status text h some = chains_writes job letters relations status text h.0 h.1 some
-  some_writes Normal status text h some = absurd h
+  some_writes Normal status text h some = normal_writes job letters relations status text h some
 
   module _ (held more : Option (List ℕ)) (room : Option ℕ) (before after : ℕ) where
     abbrev Ends : Command → Status → Type 0

@@ -23,7 +23,7 @@ IsBuiltCommand Gb = Unit {0}
 IsBuiltCommand Make = Unit {0}
 IsBuiltCommand Module = Unit {0}
 IsBuiltCommand Chains = Unit {0}
-IsBuiltCommand Normal = ⊥
+IsBuiltCommand Normal = Unit {0}
 
 -- the words are a job with a command and an engine that are built
 pub record IsBuiltJob (words : List (List ℕ)) (job : Job) : Type 0 where

@@ -15,6 +15,7 @@ use Rattle.bergman_cli.specs.Gb.{gb_task}
 use Rattle.bergman_cli.specs.Make.{IsMakeOutcome, make_task}
 use Rattle.bergman_cli.specs.Module.{IsModuleOutcome, IsModuleStatus}
 use Rattle.bergman_cli.specs.Chains.{IsChainsOutcome, IsChainsStatus}
+use Rattle.bergman_cli.specs.Normal.{IsNormalOutcome, IsNormalStatus}
 
 -- In the following, held, more, room and the counts of faults are those of the sink.
 
@@ -24,7 +25,7 @@ IsDueOf Gb job letters relations status = IsTaskStatus (gb_task job letters rela
 IsDueOf Make job letters relations status = IsTaskStatus (make_task job letters relations) status
 IsDueOf Module job letters relations status = IsModuleStatus job letters relations status
 IsDueOf Chains job letters relations status = IsChainsStatus job letters relations status
-IsDueOf Normal job letters relations status = ⊥
+IsDueOf Normal job letters relations status = IsNormalStatus job letters relations status
 
 abbrev pub IsDue : Job → Letters → List (List Term) → Status → Type 0
 IsDue job = IsDueOf job.command job
@@ -35,7 +36,7 @@ IsOutcomeOf Gb job letters relations status text = IsTaskOutcome (gb_task job le
 IsOutcomeOf Make job letters relations status text = IsMakeOutcome job letters relations status text
 IsOutcomeOf Module job letters relations status text = IsModuleOutcome job letters relations status text
 IsOutcomeOf Chains job letters relations status text = IsChainsOutcome job letters relations status text
-IsOutcomeOf Normal job letters relations status text = ⊥
+IsOutcomeOf Normal job letters relations status text = IsNormalOutcome job letters relations status text
 
 abbrev pub IsOutcome : Job → Letters → List (List Term) → Status → List ℕ → Type 0
 IsOutcome job = IsOutcomeOf job.command job

@@ -4,9 +4,11 @@
 #![tactic(auto)]
 
 mod chains;
+mod cut;
 mod gb;
 mod make;
 mod module;
+mod normal;
 #[cfg(test)]
 mod race_tests;
 mod run;

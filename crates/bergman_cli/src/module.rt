@@ -63,8 +63,8 @@ pub fn module_answer<R: Threads + Sync, E: DegreeEngine>(
     }
 }
 
-/// The input has no module to work on, and there is no text.
-fn refused(alloc: Global, problem: InputProblem) -> Answer
+/// The command can't work on the input, and there is no text.
+pub fn refused(alloc: Global, problem: InputProblem) -> Answer
     ensures { result ≡ record { status = Input problem; text = [] } }
 {
     Answer {

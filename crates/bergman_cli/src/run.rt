@@ -19,6 +19,7 @@ use crate::chains::chains_answer;
 use crate::gb::run_gb;
 use crate::make::make_answer;
 use crate::module::module_answer;
+use crate::normal::normal_answer;
 use bg_io::{PlannedGate, Sink, Source};
 use command_words::{Command, EngineKind, Job, read_words, words_law};
 use degree_loop::{CoreEngine, RaceEngine, SeqEngine, claim_history_law};
@@ -139,8 +140,11 @@ fn is_built(command: Command) -> bool
     ensures { IsTrue result ↔ IsBuiltCommand command }
 {
     match command {
-        Command::Gb | Command::Make | Command::Module | Command::Chains => true,
-        Command::Normal => false,
+        Command::Gb
+        | Command::Make
+        | Command::Module
+        | Command::Chains
+        | Command::Normal => true,
     }
 }
 
@@ -256,6 +260,7 @@ fn answer_of<R: Threads + Sync, E: DegreeEngine>(
         Command::Make => make_answer(rt, alloc, job, engine, field, given),
         Command::Module => module_answer(rt, alloc, job, engine, field, given),
         Command::Chains => chains_answer(rt, alloc, job, engine, field, given),
-        Command::Gb | Command::Normal => unreachable!(),
+        Command::Normal => normal_answer(rt, alloc, job, engine, field, given),
+        Command::Gb => unreachable!(),
     }
 }

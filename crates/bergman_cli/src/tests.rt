@@ -2,7 +2,7 @@ use crate::run::bergman;
 use bg_io::{FixedSink, MemorySink, MemorySource, PlannedGate, SteadySource};
 use command_words::{Key, UsageFault};
 use ideal_laws::LimitKind;
-use job_steps::{InputProblem, Part, Status};
+use job_steps::{InputProblem, Status};
 use relation_reader::{InputFault, Want};
 use std::alloc::Global;
 use std::process::Abort;
@@ -465,13 +465,6 @@ fn words_are_refused_before_the_source_is_read(rt: HostRuntime) -> Result<(), Fa
             "bergman: usage: missing deg\n",
         ),
         (
-            "normal mod=101 deg=3 ask=1",
-            Status::Unbuilt {
-                part: Part::Command,
-            },
-            "bergman: not built: command\n",
-        ),
-        (
             "gb mod=101 deg=3",
             Status::ReadFault,
             "bergman: read fault\n",
@@ -758,4 +751,46 @@ fn chains_stand_by_degree_and_length(rt: HostRuntime) -> Result<(), Fail> {
         "",
         "bergman: limit: plain words 6561 in degree 8\n",
     )
+}
+
+/// In the first case there are four triples, which are independent, so its list of products is the only one.
+#[test]
+fn questions_have_normal_forms_and_products(rt: HostRuntime) -> Result<(), Fail> {
+    for (line, text, output) in [
+        (
+            "normal mod=101 deg=3 ask=1",
+            "vars x,y; x*y-y*x, x^2*y;",
+            "% question 1\nnormal y*x^2\nfrom 1 x 1 1\nfrom 1 1 1 x\n",
+        ),
+        (
+            "normal mod=101 deg=3 ask=1",
+            "vars x,y; x*y-y*x, x*y*x-y*x^2;",
+            "% question 1\nnormal 0\nfrom 1 1 1 x\n",
+        ),
+        (
+            "normal mod=101 deg=2 ask=2",
+            "vars x,y; x*y-y*x, 3*x*y, y*x;",
+            "% question 1\nnormal 3*y*x\nfrom 3 1 1 1\n% question 2\nnormal y*x\n",
+        ),
+    ] {
+        expect_run(&rt, line, text.as_bytes(), NONE, Status::Done, output, "")?;
+    }
+    for (line, text, problem, told) in [
+        (
+            "normal mod=101 deg=2 ask=2",
+            "vars x,y; x*y;",
+            InputProblem::TooFewRelations { relations: 1 },
+            "bergman: input: only 1 relations\n",
+        ),
+        (
+            "normal mod=101 deg=2 ask=1",
+            "vars x,y; x*y, x^3;",
+            InputProblem::AboveBound { relation: 2 },
+            "bergman: input: relation 2: above the bound\n",
+        ),
+    ] {
+        let status = Status::Input(problem);
+        expect_run(&rt, line, text.as_bytes(), NONE, status, "", told)?;
+    }
+    Ok(())
 }
