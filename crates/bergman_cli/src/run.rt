@@ -140,11 +140,7 @@ fn is_built(command: Command) -> bool
     ensures { IsTrue result ↔ IsBuiltCommand command }
 {
     match command {
-        Command::Gb
-        | Command::Make
-        | Command::Module
-        | Command::Chains
-        | Command::Normal => true,
+        Command::Gb | Command::Make | Command::Module | Command::Chains | Command::Normal => true,
     }
 }
 
