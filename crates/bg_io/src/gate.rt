@@ -24,7 +24,7 @@ impl Gate for OpenGate {
 }
 
 /// How many turns a planned gate holds a seat at the most.
-const TURNS: u64 = 200_000_000;
+const TURNS: u64 = 2_000_000_000;
 
 /// How many spots of each of the first two seats a planned gate notes at the most.
 const NOTES: usize = 16;
