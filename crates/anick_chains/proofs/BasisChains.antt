@@ -1,4 +1,5 @@
--- Chains depend on the tips up to their degree alone, and there the leading words of a reduced basis are the minimal words.
+-- Chains depend on the tips up to their degree alone, and there the leading words of a reduced basis are the minimal
+-- words.
 use Rattle.std.proofs.Common.{◌≡◌, ◌+◌, ◌<◌, ◌≤◌, ℕ, List, [], ◌∷◌, ◌++◌, length, sym, ap, ◌∙◌, arith, subst, Some}
 use Rattle.std.specs.List.{Contains}
 use Rattle.words.specs.Words.{degree_of}
@@ -14,12 +15,18 @@ use Rattle.ideal_laws.proofs.OneBasis.{minimal_led, monic-led}
 use Rattle.anick_chains.specs.BasisTips.{HasMinimalChains, leads_of}
 use Rattle.anick_chains.specs.Chains.{AreNext, EndsWithOnlyTip, HasTip, IsChain, IsNext, chain_degree}
 
-module _ (weights : List ℕ) (names b : ℕ) (T U : List ℕ → Type 0) (to : (v : List ℕ) → degree_of weights v ≤ b → T v → U v) (from : (v : List ℕ) → degree_of weights v ≤ b → U v → T v) where
+module _ (weights : List ℕ) (names b : ℕ) (T U : List ℕ → Type 0) (to : (v : List ℕ) → degree_of weights v ≤ b → T v → U v)
+    (from : (v : List ℕ) → degree_of weights v ≤ b → U v → T v) where
   part_small : (w u v x : List ℕ) → degree_of weights w ≤ b → w ≡ u ++ v ++ x → degree_of weights v ≤ b
   part_small w u v x le e = omega (arith, le, ap (degree_of weights) e, degree_of-round weights u v x)
 
   HasTip-back : (w : List ℕ) → degree_of weights w ≤ b → HasTip U w → HasTip T w
-  HasTip-back w le h = record { tip = h.tip; is_tip = from h.tip (part_small w h.inside.before h.tip h.inside.after le h.inside.joined) h.is_tip; inside = h.inside }
+  HasTip-back w le h = record {
+    tip = h.tip;
+    is_tip = from h.tip (part_small w h.inside.before h.tip h.inside.after le h.inside.joined)
+        h.is_tip;
+    inside = h.inside;
+  }
 
   ends-agree : (w : List ℕ) → degree_of weights w ≤ b → EndsWithOnlyTip T w → EndsWithOnlyTip U w
   ends-agree w le h = record {
@@ -45,14 +52,23 @@ module _ (weights : List ℕ) (names b : ℕ) (T U : List ℕ → Type 0) (to : 
   -- a chain over tips is one over other tips that are the same up to its degree
   pub chain-agrees : (c : List (List ℕ)) → chain_degree weights c ≤ b → IsChain T names c → IsChain U names c
   chain-agrees [] le h = h
-  chain-agrees (q ∷ rs) le h = (record { letter = h.0.letter; within = h.0.within; is = h.0.is; no_tip = λ t. h.0.no_tip (from q (omega (arith, le)) t) }, all-agree q rs le h.1)
+  chain-agrees (q ∷ rs) le h = (
+    record {
+      letter = h.0.letter;
+      within = h.0.within;
+      is = h.0.is;
+      no_tip = λ t. h.0.no_tip (from q (omega (arith, le)) t);
+    },
+    all-agree q rs le h.1,
+  )
 
 -- the leading word, where there is one
 pub lead_is : (g : List Term) (w : List ℕ) → lead_of g ≡ Some w → lead_or_none g ≡ w
 lead_is [] w e = cc e
 lead_is (t ∷ g) w e = cc e
 
-module _ (p : ℕ) (weights : List ℕ) (relations : List (List Term)) (st : IsSetting p weights relations) (e : ℕ) (G : List (List Term)) (lower : AreLower p weights relations e G) where
+module _ (p : ℕ) (weights : List ℕ) (relations : List (List Term)) (st : IsSetting p weights relations) (e : ℕ) (G : List (List Term))
+    (lower : AreLower p weights relations e G) where
   lead_minimal : (w : List ℕ) → Contains (leads_of G) w → IsMinimal p weights relations w
   lead_minimal w m =
       let g = Contains-map_cases lead_or_none G w m in
@@ -66,13 +82,20 @@ module _ (p : ℕ) (weights : List ℕ) (relations : List (List Term)) (st : IsS
       subst (Contains (leads_of G)) (lead_is g.0 w g.2) (Contains-map lead_or_none G g.0 ((lower g.0).1 (degree_of weights w, lt, g.1)))
 
   -- chains over the leading words are chains over the minimal words
-  pub to_minimal : (c : List (List ℕ)) → chain_degree weights c < e → IsChain (Contains (leads_of G)) (length weights) c → IsChain (IsMinimal p weights relations) (length weights) c
-  to_minimal c lt h = chain-agrees weights (length weights) (chain_degree weights c) (Contains (leads_of G)) (IsMinimal p weights relations) (λ v le m. lead_minimal v m) (λ v le m. minimal_lead v (omega (arith, le, lt)) m) c (omega arith) h
+  pub to_minimal : (c : List (List ℕ)) → chain_degree weights c < e → IsChain (Contains (leads_of G)) (length weights) c →
+      IsChain (IsMinimal p weights relations) (length weights) c
+  to_minimal c lt h = chain-agrees weights (length weights) (chain_degree weights c) (Contains (leads_of G)) (IsMinimal p weights relations)
+      (λ v le m. lead_minimal v m) (λ v le m. minimal_lead v (omega (arith, le, lt)) m) c (omega arith) h
 
   -- chains over the minimal words are chains over the leading words
-  pub from_minimal : (c : List (List ℕ)) → chain_degree weights c < e → IsChain (IsMinimal p weights relations) (length weights) c → IsChain (Contains (leads_of G)) (length weights) c
-  from_minimal c lt h = chain-agrees weights (length weights) (chain_degree weights c) (IsMinimal p weights relations) (Contains (leads_of G)) (λ v le m. minimal_lead v (omega (arith, le, lt)) m) (λ v le m. lead_minimal v m) c (omega arith) h
+  pub from_minimal : (c : List (List ℕ)) → chain_degree weights c < e → IsChain (IsMinimal p weights relations) (length weights) c →
+      IsChain (Contains (leads_of G)) (length weights) c
+  from_minimal c lt h = chain-agrees weights (length weights) (chain_degree weights c) (IsMinimal p weights relations)
+      (Contains (leads_of G)) (λ v le m. minimal_lead v (omega (arith, le, lt)) m) (λ v le m. lead_minimal v m) c (omega arith) h
 
 -- up to the degrees of which the reduced elements are listed both have the same chains
 pub has_minimal_chains : HasMinimalChains
-has_minimal_chains p weights relations st e G lower c lt = (to_minimal p weights relations st e G lower c lt, from_minimal p weights relations st e G lower c lt)
+has_minimal_chains p weights relations st e G lower c lt = (
+  to_minimal p weights relations st e G lower c lt,
+  from_minimal p weights relations st e G lower c lt,
+)

@@ -61,7 +61,8 @@ module _ (weights : List ℕ) (aw : AreWeights weights) where
   falling_ties (x ∷ a) [] l = cc l
   falling_ties (x ∷ a) (y ∷ b) l = by_first (word_cmp weights y x) refl l (falling_ties a b)
     where
-      by_first : (o : Ordering) → word_cmp weights y x ≡ o → ordering_then o (falling_cmp weights a b) ≡ Equal → (falling_cmp weights a b ≡ Equal → a ≡ b) → x ∷ a ≡ y ∷ b
+      by_first : (o : Ordering) → word_cmp weights y x ≡ o → ordering_then o (falling_cmp weights a b) ≡ Equal →
+          (falling_cmp weights a b ≡ Equal → a ≡ b) → x ∷ a ≡ y ∷ b
       by_first Less f l on = cc l
       by_first Equal f l on = ap₂ (λ (z : List ℕ) (c : List (List ℕ)). z ∷ c) (sym (word_cmp-ties weights y x f)) (on l)
       by_first Greater f l on = cc l
@@ -96,7 +97,8 @@ greater_differs weights w (inr e) = omega (arith, e.1.smaller)
 pub before_differs : (weights : List ℕ) (a b : List (List ℕ)) → StandsBefore weights a b → a ≢ b
 before_differs weights a b (inl lt) e = omega (arith, lt, ap (chain_degree weights) e)
 before_differs weights a b (inr (_, inl lt)) e = omega (arith, lt, ap length e)
-before_differs weights a b (inr (_, inr h)) e = differs h.1.before h.1.greater h.1.smaller h.1.rest_a h.1.rest_b (sym h.1.first_is ∙ e ∙ h.1.second_is) h.1.order
+before_differs weights a b (inr (_, inr h)) e = differs h.1.before h.1.greater h.1.smaller h.1.rest_a h.1.rest_b
+    (sym h.1.first_is ∙ e ∙ h.1.second_is) h.1.order
   where
     differs : (front : List (List ℕ)) (x y : List ℕ) (s t : List (List ℕ)) → front ++ x ∷ s ≡ front ++ y ∷ t → IsGreater weights x y → ⊥
     differs [] x y s t same g = let one : x ≡ y = cc same in greater_differs weights y (subst (λ (w : List ℕ). IsGreater weights w y) one g)

@@ -1,12 +1,14 @@
 -- The chains of a degree are the free letters and the chains of lower degrees with one piece more, each once.
-use Rattle.std.proofs.Common.{◌≡◌, ◌≢◌, ◌↔◌, ◌+◌, ◌-◌, ◌<◌, ◌≤◌, ◌&&◌, ◌==◌, ℕ, Bool, true, false, not, cond, List, [], ◌∷◌, ◌++◌, length, refl, sym, ap, ◌∙◌, inl, inr, arith, subst, AllPairs, append-nil, eq-eqb}
+use Rattle.std.proofs.Common.{◌≡◌, ◌≢◌, ◌↔◌, ◌+◌, ◌-◌, ◌<◌, ◌≤◌, ◌&&◌, ◌==◌, ℕ, Bool, true, false, not, cond, List, [], ◌∷◌, ◌++◌, length, refl, sym}
+use Rattle.std.proofs.Common.{ap, ◌∙◌, inl, inr, arith, subst, AllPairs, append-nil, eq-eqb}
 use Rattle.std.specs.List.{Contains, flat_map, range_with_len}
 use Rattle.std.proofs.lemmas.Bool.{eqb-true}
 use Rattle.std.proofs.lemmas.List.Elements.{All-nil, Contains-append_cases, Contains-append_left, Contains-append_right}
 use Rattle.std.proofs.lemmas.List.Kept.{AllPairs-cons}
 use Rattle.words.specs.Words.{AreWeights, degree_of, weight_of}
 use Rattle.words.proofs.Degrees.{Contains-range, range-bounds, range-rising}
-use Rattle.words.proofs.Members.{AllPairs-append, AllPairs-map, AllPairs-nil, All-from_members, Contains-cases, Contains-first, Contains-flat_map, Contains-flat_map_cases, Contains-map, Contains-map_cases, Contains-none}
+use Rattle.words.proofs.Members.{AllPairs-append, AllPairs-map, AllPairs-nil, All-from_members, Contains-cases, Contains-first, Contains-flat_map}
+use Rattle.words.proofs.Members.{Contains-flat_map_cases, Contains-map, Contains-map_cases, Contains-none}
 use Rattle.words.proofs.Weights.{degree_of-positive}
 use Rattle.free_poly.specs.declared.term.Term.{Term}
 use Rattle.overlaps.specs.Walk.{lead_word}
@@ -36,7 +38,8 @@ module _ (weights : List ℕ) (G : List (List Term)) (tips : AreListedTips (leng
   abbrev names : ℕ
   names = length weights
 
-  free_letter-says : (d x : ℕ) (r : List ℕ) → Contains (free_letter weights G d x) r → (x ∷ [] ≡ r) × (weight_of weights x ≡ d) × (stands (leads_of G) (x ∷ []) ≡ false)
+  free_letter-says : (d x : ℕ) (r : List ℕ) → Contains (free_letter weights G d x) r →
+      (x ∷ [] ≡ r) × (weight_of weights x ≡ d) × (stands (leads_of G) (x ∷ []) ≡ false)
   free_letter-says d x r m = by_tests (weight_of weights x == d) refl (stands (leads_of G) (x ∷ [])) refl m
     where
       by_tests : (a : Bool) → (weight_of weights x == d) ≡ a → (s : Bool) → stands (leads_of G) (x ∷ []) ≡ s → Contains (cond (a && not s) ((x ∷ []) ∷ []) []) r
@@ -69,10 +72,12 @@ module _ (weights : List ℕ) (G : List (List Term)) (tips : AreListedTips (leng
   -- and each first piece of the degree is a free letter
   pub free_letters-is : (d : ℕ) (r : List ℕ) → IsFirst T names r → degree_of weights r ≡ d → Contains (free_letters weights G d) r
   free_letters-is d r f e =
-      let free = stands-not (leads_of G) (f.letter ∷ []) (letter_free T names (are_tips names (leads_of G) tips) f.letter (λ t. f.no_tip (subst T (sym f.is) t))) in
+      let free = stands-not (leads_of G) (f.letter ∷ []) (letter_free T names (are_tips names (leads_of G) tips) f.letter
+      (λ t. f.no_tip (subst T (sym f.is) t))) in
       let degree : weight_of weights f.letter ≡ d = omega (arith, e, ap (degree_of weights) f.is) in
       subst (Contains (free_letters weights G d)) (sym f.is)
-      (Contains-flat_map (free_letter weights G d) (range_with_len 0 (length weights)) f.letter (f.letter ∷ []) (Contains-range 0 (length weights) f.letter (omega arith) (omega (arith, f.within)))
+      (Contains-flat_map (free_letter weights G d) (range_with_len 0 (length weights)) f.letter (f.letter ∷ [])
+      (Contains-range 0 (length weights) f.letter (omega arith) (omega (arith, f.within)))
       (by_tests f.letter (weight_of weights f.letter == d) (eq-eqb _ _ degree) (stands (leads_of G) (f.letter ∷ [])) free))
     where
       by_tests : (x : ℕ) (a : Bool) → a ≡ true → (s : Bool) → s ≡ false → Contains (cond (a && not s) ((x ∷ []) ∷ []) []) (x ∷ [])
@@ -110,7 +115,8 @@ module _ (weights : List ℕ) (G : List (List Term)) (tips : AreListedTips (leng
       )
 
   -- and each chain of the degree with more than one piece is made so
-  pub next_of-is : AreWeights weights → (d : ℕ) (c : List (List ℕ)) (r : List ℕ) → IsChain T names c → IsChain T names (c ++ r ∷ []) → chain_degree weights (c ++ r ∷ []) ≡ d
+  pub next_of-is : AreWeights weights → (d : ℕ) (c : List (List ℕ)) (r : List ℕ) → IsChain T names c → IsChain T names (c ++ r ∷ []) →
+      chain_degree weights (c ++ r ∷ []) ≡ d
       → Contains (next_of weights G d c) r
   next_of-is aw d c r h k e = by_last (last_of_chain T names c r k)
     where
@@ -122,7 +128,8 @@ module _ (weights : List ℕ) (G : List (List Term)) (tips : AreListedTips (leng
           (subst (λ (x : List ℕ). IsExtension T x r) (sym last) (next_to_extension T (are_tips names (leads_of G) tips) names q r n))
           (omega (arith, e, chain_degree-ended weights c r, degree_of-positive weights aw r n.some))
 
-  module _ (aw : AreWeights weights) (d : ℕ) (below : List (List (List ℕ))) (exactly : (c : List (List ℕ)) → Contains below c ↔ (IsChain T names c × (chain_degree weights c < d))) where
+  module _ (aw : AreWeights weights) (d : ℕ) (below : List (List (List ℕ)))
+      (exactly : (c : List (List ℕ)) → Contains below c ↔ (IsChain T names c × (chain_degree weights c < d))) where
     -- what is listed is a chain of the degree
     pub chains_at-says : (c : List (List ℕ)) → Contains (chains_at weights G d below) c → IsChain T names c × (chain_degree weights c ≡ d)
     chains_at-says c m = elim (Contains-append_cases (continued [] (free_letters weights G d)) (flat_map (onward weights G d) below) c m) [
@@ -141,7 +148,8 @@ module _ (weights : List ℕ) (G : List (List Term)) (tips : AreListedTips (leng
     pub chains_at-is : (c : List (List ℕ)) → IsChain T names c → chain_degree weights c ≡ d → Contains (chains_at weights G d below) c
     chains_at-is c h e = by_end (chain_ended T names c h)
       where
-        by_last : (f : List (List ℕ)) (r : List ℕ) → c ≡ f ++ r ∷ [] → IsChain T names (f ++ r ∷ []) → IsLast T names f r → Contains (chains_at weights G d below) c
+        by_last : (f : List (List ℕ)) (r : List ℕ) → c ≡ f ++ r ∷ [] → IsChain T names (f ++ r ∷ []) → IsLast T names f r →
+            Contains (chains_at weights G d below) c
         by_last f r is chain (alone none first) =
             let own : (r ∷ []) ≡ c = ap (λ (x : List (List ℕ)). x ++ r ∷ []) (sym none) ∙ sym is in
             Contains-append_left (continued [] (free_letters weights G d)) (flat_map (onward weights G d) below) c
@@ -163,9 +171,11 @@ module _ (weights : List ℕ) (G : List (List Term)) (tips : AreListedTips (leng
     pub chains_at-apart : ((i j : ℕ) → i < length G → j < length G → lead_word G i ≡ lead_word G j → i ≡ j) → AllPairs (λ a b. a ≢ b) below
         → AllPairs (λ a b. a ≢ b) (chains_at weights G d below)
     chains_at-apart distinct apart =
-        AllPairs-append (λ a b. a ≢ b) (continued [] (free_letters weights G d)) (flat_map (onward weights G d) below) (continued-apart [] (free_letters weights G d) (free_letters-apart d))
+        AllPairs-append (λ a b. a ≢ b) (continued [] (free_letters weights G d)) (flat_map (onward weights G d) below)
+        (continued-apart [] (free_letters weights G d) (free_letters-apart d))
         (AllPairs-joined (onward weights G d) (λ a b. a ≢ b) (λ a b. a ≢ b) below apart
-        (λ c m. continued-apart c (next_of weights G d c) (next_pieces-apart weights G tips (last_piece c) distinct (degree_of weights (last_piece c) + (d - chain_degree weights c))))
+        (λ c m. continued-apart c (next_of weights G d c) (next_pieces-apart weights G tips (last_piece c) distinct
+        (degree_of weights (last_piece c) + (d - chain_degree weights c))))
         (λ a b u v m n ne i j e.
         let r = continued-says a (next_of weights G d a) u i in
         let s = continued-says b (next_of weights G d b) v j in

@@ -1,5 +1,6 @@
 -- A list whose members have mates of the other parity has as many even members as odd ones.
-use Rattle.std.proofs.Common.{◌≡◌, ◌≢◌, ◌⊎◌, ◌+◌, ◌≤◌, ◌%◌, ◌==◌, ℕ, Bool, true, false, cond, suc, List, [], ◌∷◌, ◌++◌, length, refl, sym, ap, ◌∙◌, inl, inr, arith, subst, length-append, AllPairs, count_by, eq-eqb, filter}
+use Rattle.std.proofs.Common.{◌≡◌, ◌≢◌, ◌⊎◌, ◌+◌, ◌≤◌, ◌%◌, ◌==◌, ℕ, Bool, true, false, cond, suc, List, [], ◌∷◌, ◌++◌, length, refl, sym, ap, ◌∙◌}
+use Rattle.std.proofs.Common.{inl, inr, arith, subst, length-append, AllPairs, count_by, eq-eqb, filter}
 use Rattle.std.specs.List.{Contains}
 use Rattle.std.proofs.lemmas.Bool.{eqb-true}
 use Rattle.std.proofs.lemmas.List.Elements.{All-contains, Contains-append_cases, Contains-append_left, Contains-append_right}
@@ -64,7 +65,8 @@ module _ {X : Type 0} (f : X → Bool) where
   pub in_those : (xs : List X) (x : X) → Contains xs x → f x ≡ true → Contains (those xs) x
   in_those [] x m e = absurd (Contains-none x m)
   in_those (y ∷ xs) x m e = elim (Contains-cases y xs x m) [
-    | inl is ↦ subst (λ (b : Bool). Contains (cond b (y ∷ those xs) (those xs)) x) (sym (ap f is ∙ e)) (subst (Contains (y ∷ those xs)) is (Contains-first y (those xs)))
+    | inl is ↦ subst (λ (b : Bool). Contains (cond b (y ∷ those xs) (those xs)) x) (sym (ap f is ∙ e))
+        (subst (Contains (y ∷ those xs)) is (Contains-first y (those xs)))
     | inr n ↦ by_test (f y) (in_those xs x n e)
   ]
     where
@@ -77,7 +79,8 @@ module _ {X : Type 0} (f : X → Bool) where
   those-says [] x m = absurd (Contains-none x m)
   those-says (y ∷ xs) x m = by_test (f y) refl m (those-says xs x)
     where
-      by_test : (b : Bool) → f y ≡ b → Contains (cond b (y ∷ those xs) (those xs)) x → (Contains (those xs) x → Contains xs x × (f x ≡ true)) → Contains (y ∷ xs) x × (f x ≡ true)
+      by_test : (b : Bool) → f y ≡ b → Contains (cond b (y ∷ those xs) (those xs)) x →
+          (Contains (those xs) x → Contains xs x × (f x ≡ true)) → Contains (y ∷ xs) x × (f x ≡ true)
       by_test true e n on = elim (Contains-cases y (those xs) x n) [
         | inl is ↦ (subst (Contains (y ∷ xs)) is (Contains-first y xs), sym (ap f is) ∙ e)
         | inr k ↦ let r = on k in (Contains-more y xs x r.0, r.1)
@@ -90,7 +93,8 @@ module _ {X : Type 0} (f : X → Bool) where
   AllPairs-those R (y ∷ xs) h = by_test (f y) (AllPairs-those R xs (AllPairs-rest R y xs h))
     where
       by_test : (b : Bool) → AllPairs R (those xs) → AllPairs R (cond b (y ∷ those xs) (those xs))
-      by_test true r = AllPairs-cons R y (those xs) (All-from_members (R y) (those xs) (λ z m. All-contains (R y) xs z (AllPairs-first R y xs h) (those-says xs z m).0)) r
+      by_test true r = AllPairs-cons R y (those xs) (All-from_members (R y) (those xs)
+          (λ z m. All-contains (R y) xs z (AllPairs-first R y xs h) (those-says xs z m).0)) r
       by_test false r = r
 
 -- of two numbers that differ by 1 one is even and one is odd
@@ -106,7 +110,8 @@ parity_odd m n (inr e) h = omega (arith, e, h)
 -- a relation that goes both ways, gives each member one mate in the list, and changes the parity of a key
 module _ {X : Type 0} (M : X → X → Type 0) (key : X → ℕ) where
   -- has as many members with an even key as with an odd one
-  pub as_many : (xs : List X) → AllPairs (λ a b. a ≢ b) xs → ((a : X) → Contains xs a → (b : X) × Contains xs b × M a b × M b a × ((key b ≡ suc (key a)) ⊎ (key a ≡ suc (key b))))
+  pub as_many : (xs : List X) → AllPairs (λ a b. a ≢ b) xs → ((a : X) → Contains xs a →
+      (b : X) × Contains xs b × M a b × M b a × ((key b ≡ suc (key a)) ⊎ (key a ≡ suc (key b))))
       → ((a b c : X) → Contains xs a → M a b → M a c → b ≡ c) → count_by (λ a. key a % 2 == 0) xs ≡ count_by (λ a. key a % 2 == 1) xs
   as_many xs apart mate one =
       let evens = those (λ a. key a % 2 == 0) xs in
@@ -120,7 +125,8 @@ module _ {X : Type 0} (M : X → X → Type 0) (key : X → ℕ) where
       (λ a m.
       let s = those-says (λ a. key a % 2 == 1) xs a m in
       let r = mate a s.0 in
-      (r.0, in_those (λ a. key a % 2 == 0) xs r.0 r.1 (eq-eqb _ _ (parity_odd (key r.0) (key a) r.4 (eqb-true _ _ s.1))), (r.1, r.3))) (λ a b y m n. same a b y) in
+      (r.0, in_those (λ a. key a % 2 == 0) xs r.0 r.1 (eq-eqb _ _ (parity_odd (key r.0) (key a) r.4 (eqb-true _ _ s.1))), (r.1, r.3)))
+      (λ a b y m n. same a b y) in
       omega (arith, up, down, length-those (λ a. key a % 2 == 0) xs, length-those (λ a. key a % 2 == 1) xs)
     where
       -- y is a member of which x is the mate

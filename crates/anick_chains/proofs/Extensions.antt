@@ -69,7 +69,14 @@ module _ (T : List ℕ → Type 0) (tips : AreTips T) (names : ℕ) where
           let i = h.inside in
           let joined : c ++ r ≡ (c ++ i.before) ++ h.tip ++ i.after = ap (λ (y : List ℕ). c ++ y) i.joined ∙ simp append_assoc refl in
           let same : h.tip ≡ c ++ r = tips.apart h.tip (c ++ r) h.is_tip t (record { before = c ++ i.before; after = i.after; joined = joined }) in
-          more (none c (omega (arith, ap length same, ap length i.joined, length-append (i.before ++ h.tip) i.after, length-append i.before h.tip, length-append c r)))
+          more (none c (omega (
+            arith,
+            ap length same,
+            ap length i.joined,
+            length-append (i.before ++ h.tip) i.after,
+            length-append i.before h.tip,
+            length-append c r,
+          )))
         where
           none : (c : List ℕ) → length c ≡ 0 → c ≡ []
           none [] e = refl

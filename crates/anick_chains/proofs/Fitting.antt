@@ -1,5 +1,6 @@
 -- The tips of a degree that begin with a word stand together in the basis.
-use Rattle.std.proofs.Common.{◌≡◌, ◌≢◌, ◌⊎◌, ◌<◌, ◌≤◌, ◌==◌, ◌&&◌, ℕ, Bool, true, false, List, length, take, refl, sym, ap, ◌∙◌, inl, inr, arith, subst, bytes_eq, eq-eqb}
+use Rattle.std.proofs.Common.{◌≡◌, ◌≢◌, ◌⊎◌, ◌<◌, ◌≤◌, ◌==◌, ◌&&◌, ℕ, Bool, true, false, List, length, take, refl, sym, ap, ◌∙◌, inl, inr, arith}
+use Rattle.std.proofs.Common.{subst, bytes_eq, eq-eqb}
 use Rattle.std.proofs.lemmas.Bool.{cases_Bool, cases_lt, eqb-true}
 use Rattle.std.proofs.lemmas.Slice.Eq.{bytes_eq-Decides}
 use Rattle.words.specs.Words.{degree_of}
@@ -50,7 +51,8 @@ module _ (b : Elements) (kept : IsKept b) (c : List ℕ) (d first end : ℕ) (is
     (is_end : end ≡ count_upto b.weights d b.elements) (fits : end ≤ length b.elements) where
   -- no tip outside the places of the degree goes on
   pub outside : (k : ℕ) → k < length b.elements → (k < first) ⊎ (end ≤ k) → goes_on b.weights b.elements c d k ≡ false
-  outside k within (inl under) = goes_on-other b.weights b.elements c d k (λ e. omega (arith, e, before_degree b kept d k within (omega (arith, under, is_first))))
+  outside k within (inl under) = goes_on-other b.weights b.elements c d k
+      (λ e. omega (arith, e, before_degree b kept d k within (omega (arith, under, is_first))))
   outside k within (inr from) = goes_on-other b.weights b.elements c d k (λ e. omega (arith, e, behind_degree b kept d k within (omega (arith, from, is_end))))
 
   -- nor one before the first place that does not stand above
@@ -62,7 +64,8 @@ module _ (b : Elements) (kept : IsKept b) (c : List ℕ) (d first end : ℕ) (is
   ]
 
   -- nor one from the first place on where a tip below does not begin with the word
-  pub none_after : (right : ℕ) → first ≤ right → right < end → (IsAbove c (lead_word b.elements right) → ⊥) → (take (length c) (lead_word b.elements right) ≡ c → ⊥)
+  pub none_after : (right : ℕ) → first ≤ right → right < end → (IsAbove c (lead_word b.elements right) → ⊥) →
+      (take (length c) (lead_word b.elements right) ≡ c → ⊥)
       → (k : ℕ) → right ≤ k → k < length b.elements → goes_on b.weights b.elements c d k ≡ false
   none_after right from under low other k later within = elim (cases_lt k end) [
     | inr behind ↦ outside k within (inr behind)
@@ -76,4 +79,5 @@ module _ (b : Elements) (kept : IsKept b) (c : List ℕ) (d first end : ℕ) (is
   -- the tips of the degree at these places that begin with the word go on
   pub there : (k : ℕ) → first ≤ k → k < end → take (length c) (lead_word b.elements k) ≡ c → goes_on b.weights b.elements c d k ≡ true
   there k from under e =
-      goes_on-both b.weights b.elements c d k e (in_degree b kept d k (omega (arith, from, is_first)) (omega (arith, under, is_end)) (omega (arith, under, fits)))
+      goes_on-both b.weights b.elements c d k e (in_degree b kept d k (omega (arith, from, is_first)) (omega (arith, under, is_end))
+      (omega (arith, under, fits)))

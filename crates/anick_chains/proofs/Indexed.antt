@@ -1,5 +1,6 @@
 -- What an index of the leading words of a basis answers on the tips that stand in a word.
-use Rattle.std.proofs.Common.{◌≡◌, ◌++◌, ◌+◌, ℕ, true, false, cond, List, [], ◌∷◌, length, take, drop, get_or, refl, sym, ap, ◌∙◌, arith, subst, Some, append-nil, append_assoc}
+use Rattle.std.proofs.Common.{◌≡◌, ◌++◌, ◌+◌, ℕ, true, false, cond, List, [], ◌∷◌, length, take, drop, get_or, refl, sym, ap, ◌∙◌, arith, subst, Some}
+use Rattle.std.proofs.Common.{append-nil, append_assoc}
 use Rattle.std.specs.List.{Contains}
 use Rattle.std.proofs.lemmas.List.{take-append-drop}
 use Rattle.std.proofs.lemmas.List.Elements.{All-contains}
@@ -44,7 +45,8 @@ module _ (b : Elements) (kept : IsKept b) (leads : List Lead) (index : IsIndexOf
   starts_says at element s =
       let g = (index s.lead).0 s.among in
       let within = slice_get_within b.elements s.lead.element g.0 g.1 in
-      let word : lead_word b.elements s.lead.element ≡ s.lead.word = ap lead_or_none (get_or_from_slice_get b.elements s.lead.element g.0 [] g.1) ∙ lead-is g.0 s.lead.word g.2 in
+      let word : lead_word b.elements s.lead.element ≡ s.lead.word =
+      ap lead_or_none (get_or_from_slice_get b.elements s.lead.element g.0 [] g.1) ∙ lead-is g.0 s.lead.word g.2 in
       record {
         tip = s.lead.word;
         is_tip = subst (Contains (leads_of b.elements)) word (lead_listed b.elements s.lead.element within);

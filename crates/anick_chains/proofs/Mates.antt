@@ -1,5 +1,6 @@
 -- Each pair has exactly one mate, and is the mate of its mate.
-use Rattle.std.proofs.Common.{ap₂, ◌≡◌, ◌≢◌, ◌⊎◌, ◌+◌, ◌<◌, ℕ, suc, List, [], ◌∷◌, ◌++◌, length, refl, sym, ap, ◌∙◌, inl, inr, arith, subst, length-append, append-nil}
+use Rattle.std.proofs.Common.{ap₂, ◌≡◌, ◌≢◌, ◌⊎◌, ◌+◌, ◌<◌, ℕ, suc, List, [], ◌∷◌, ◌++◌, length, refl, sym, ap, ◌∙◌, inl, inr, arith, subst}
+use Rattle.std.proofs.Common.{length-append, append-nil}
 use Rattle.std.proofs.lemmas.List.{append_assoc, append_cancel_left}
 use Rattle.std.proofs.lemmas.List.Elements.{All-append, All-cons, All-head, All-nil, All-tail}
 use Rattle.words.specs.Words.{IsOver, degree_of}
@@ -16,7 +17,8 @@ chain_degree-append weights [] rs = omega arith
 chain_degree-append weights (q ∷ qs) rs = omega (arith, chain_degree-append weights qs rs)
 
 -- one piece more
-pub chain_degree-ended : (weights : List ℕ) (qs : List (List ℕ)) (q : List ℕ) → chain_degree weights (qs ++ q ∷ []) ≡ chain_degree weights qs + degree_of weights q
+pub chain_degree-ended : (weights : List ℕ) (qs : List (List ℕ)) (q : List ℕ) →
+    chain_degree weights (qs ++ q ∷ []) ≡ chain_degree weights qs + degree_of weights q
 chain_degree-ended weights qs q = chain_degree-append weights qs (q ∷ []) ∙ omega arith
 
 same_pair : (a b : Pair) → a.pieces ≡ b.pieces → a.word ≡ b.word → a ≡ b
@@ -28,7 +30,8 @@ module _ (T : List ℕ → Type 0) (names : ℕ) where
     alone : qs ≡ [] → IsFirst T names q → IsLast qs q
     after : (rs : List (List ℕ)) (r : List ℕ) → qs ≡ rs ++ r ∷ [] → IsChain T names qs → IsNext T names r q → IsLast qs q
 
-  next_last : (p : List ℕ) (qs : List (List ℕ)) (q r : List ℕ) → AreNext T names p (qs ++ q ∷ []) → IsNext T names q r → AreNext T names p ((qs ++ q ∷ []) ++ r ∷ [])
+  next_last : (p : List ℕ) (qs : List (List ℕ)) (q r : List ℕ) → AreNext T names p (qs ++ q ∷ []) → IsNext T names q r →
+      AreNext T names p ((qs ++ q ∷ []) ++ r ∷ [])
   next_last p [] q r h n = (h.0, (n, tt))
   next_last p (s ∷ qs) q r h n = (h.0, next_last s qs q r h.1 n)
 
@@ -93,7 +96,15 @@ module _ (T : List ℕ → Type 0) (names : ℕ) where
           let over = subst (IsOver names) word h.over in
           let normal : HasTip T (x ∷ b.word) → ⊥ = λ k. h.normal (subst (HasTip T) (sym word) k) in
           record {
-            chain = inr (subst (IsChain T names) (sym pieces) (record { letter = x; within = All-head (λ y. y < names) x b.word over; is = refl; no_tip = λ t. normal (HasTip-here T [] (x ∷ []) b.word t) }, tt));
+            chain = inr (subst (IsChain T names) (sym pieces) (
+              record {
+                letter = x;
+                within = All-head (λ y. y < names) x b.word over;
+                is = refl;
+                no_tip = λ t. normal (HasTip-here T [] (x ∷ []) b.word t);
+              },
+              tt,
+            ));
             over = All-tail (λ y. y < names) x b.word over;
             normal = λ k. normal (HasTip-end T (x ∷ []) b.word k);
             degree = omega (arith, h.degree, ap (chain_degree weights) none, ap (degree_of weights) word, ap (chain_degree weights) pieces);
@@ -105,7 +116,14 @@ module _ (T : List ℕ → Type 0) (names : ℕ) where
             chain = before l;
             over = subst (IsOver names) (sym word) (All-append (λ y. y < names) q a.word (last_over b.pieces q l) h.over);
             normal = λ k. free (subst (HasTip T) word k);
-            degree = omega (arith, h.degree, ap (chain_degree weights) pieces, chain_degree-ended weights b.pieces q, ap (degree_of weights) word, degree_of-append weights q a.word);
+            degree = omega (
+              arith,
+              h.degree,
+              ap (chain_degree weights) pieces,
+              chain_degree-ended weights b.pieces q,
+              ap (degree_of weights) word,
+              degree_of-append weights q a.word,
+            );
           }
         where
           before : IsLast b.pieces q → (b.pieces ≡ []) ⊎ IsChain T names b.pieces
@@ -126,17 +144,26 @@ module _ (T : List ℕ → Type 0) (names : ℕ) where
             chain = inr (subst (IsChain T names) (sym (more ∙ ap (λ (rs : List (List ℕ)). rs ++ r ∷ []) pieces)) (longer_chain qs q r c n));
             over = All-back (λ y. y < names) r b.word over;
             normal = λ k. normal (HasTip-end T r b.word k);
-            degree = omega (arith, h.degree, ap (chain_degree weights) more, chain_degree-ended weights a.pieces r, ap (degree_of weights) word, degree_of-append weights r b.word);
+            degree = omega (
+              arith,
+              h.degree,
+              ap (chain_degree weights) more,
+              chain_degree-ended weights a.pieces r,
+              ap (degree_of weights) word,
+              degree_of-append weights r b.word,
+            );
           }
 
       -- and the pair is its mate
       pub mate_back : (a b : Pair) → P a → IsMate T a b → IsMate T b a
       mate_back a b h (begun x none word pieces) =
           back (x ∷ []) (pieces ∙ ap (λ (rs : List (List ℕ)). rs ++ (x ∷ []) ∷ []) (sym none)) (λ k. h.normal (subst (HasTip T) (sym word) k)) word
-      mate_back a b h (back q pieces free word) = by_last (last_of_chain b.pieces q (some_piece b.pieces q (subst (λ (rs : List (List ℕ)). (rs ≡ []) ⊎ IsChain T names rs) pieces h.chain)))
+      mate_back a b h (back q pieces free word) = by_last (last_of_chain b.pieces q
+          (some_piece b.pieces q (subst (λ (rs : List (List ℕ)). (rs ≡ []) ⊎ IsChain T names rs) pieces h.chain)))
         where
           by_last : IsLast b.pieces q → IsMate T b a
-          by_last (alone none f) = begun f.letter none (word ∙ ap (λ (x : List ℕ). x ++ a.word) f.is) (pieces ∙ ap₂ (λ (rs : List (List ℕ)) (x : List ℕ). rs ++ x ∷ []) none f.is)
+          by_last (alone none f) = begun f.letter none (word ∙ ap (λ (x : List ℕ). x ++ a.word) f.is)
+              (pieces ∙ ap₂ (λ (rs : List (List ℕ)) (x : List ℕ). rs ++ x ∷ []) none f.is)
           by_last (after rs r is c n) = ahead rs r q is (ends-shortest T r q n.ends) word pieces
       mate_back a b h (ahead qs q r pieces short word more) = back r more (λ k. h.normal (subst (HasTip T) (sym word) k)) word
 
@@ -154,7 +181,8 @@ module _ (T : List ℕ → Type 0) (names : ℕ) where
           same_pair b c e.0 (word ∙ ap (λ (x : List ℕ). x ++ a.word) e.1 ∙ sym word')
       same_mate a b c h (back q pieces free word) (ahead qs r s pieces' short word' more) =
           let e = same_ends b.pieces qs q r (sym pieces ∙ pieces') in
-          absurd (free (subst (HasTip T) (append_assoc r s c.word ∙ ap₂ (λ (x y : List ℕ). x ++ y) (sym e.1) (sym word')) (HasTip-front T (r ++ s) c.word short.tip)))
+          absurd (free (subst (HasTip T) (append_assoc r s c.word ∙ ap₂ (λ (x y : List ℕ). x ++ y) (sym e.1) (sym word'))
+          (HasTip-front T (r ++ s) c.word short.tip)))
       same_mate a b c h (ahead qs q r pieces short word more) (begun x none word' pieces') = absurd (no_end qs q (sym pieces ∙ none))
       same_mate a b c h (ahead qs q r pieces short word more) (back s pieces' free word') =
           let e = same_ends qs c.pieces q s (sym pieces ∙ pieces') in
@@ -163,7 +191,8 @@ module _ (T : List ℕ → Type 0) (names : ℕ) where
           let e = same_ends qs qs' q q' (sym pieces ∙ pieces') in
           let whole : r ++ b.word ≡ r' ++ c.word = sym word ∙ word' in
           let same = same_shortest T q r b.word r' c.word short (subst (λ (x : List ℕ). IsShortest T x r') (sym e.1) short') whole in
-          same_pair b c (more ∙ ap (λ (x : List ℕ). a.pieces ++ x ∷ []) same ∙ sym more') (append_cancel_left r b.word c.word (whole ∙ ap (λ (x : List ℕ). x ++ c.word) (sym same)))
+          same_pair b c (more ∙ ap (λ (x : List ℕ). a.pieces ++ x ∷ []) same ∙ sym more')
+          (append_cancel_left r b.word c.word (whole ∙ ap (λ (x : List ℕ). x ++ c.word) (sym same)))
 
       -- a mate has a piece more or less
       pub mate_length : (a b : Pair) → IsMate T a b → IsOneLonger b a
@@ -187,7 +216,8 @@ module _ (T : List ℕ → Type 0) (names : ℕ) where
                 elim (decide (e.last ++ a.word)) [
                   | inr free ↦ (record { pieces = e.front; word = e.last ++ a.word }, back e.last (is ∙ e.is) free refl)
                   | inl there ↦
-                      let r = shortest_from T decide e.last [] a.word (λ t rest none some k. nothing t rest none some) (subst (λ (x : List ℕ). HasTip T (x ++ a.word)) (sym (append-nil e.last)) there) in
+                      let r = shortest_from T decide e.last [] a.word (λ t rest none some k. nothing t rest none some)
+                      (subst (λ (x : List ℕ). HasTip T (x ++ a.word)) (sym (append-nil e.last)) there) in
                       (record { pieces = a.pieces ++ r.0 ∷ []; word = r.1 }, ahead e.front e.last r.0 (is ∙ e.is) r.3 r.2 refl)
                 ]
               where

@@ -1,10 +1,12 @@
 -- Lists joined of the lists of members, and words by a member of them.
-use Rattle.std.proofs.Common.{◌≡◌, ◌≢◌, ◌+◌, ◌-◌, ◌<◌, ◌≤◌, ℕ, zero, suc, List, [], ◌∷◌, ◌++◌, length, take, drop, get_or, refl, sym, ap, ◌∙◌, arith, AllPairs, length-append}
+use Rattle.std.proofs.Common.{◌≡◌, ◌≢◌, ◌+◌, ◌-◌, ◌<◌, ◌≤◌, ℕ, zero, suc, List, [], ◌∷◌, ◌++◌, length, take, drop, get_or, refl, sym, ap, ◌∙◌, arith}
+use Rattle.std.proofs.Common.{AllPairs, length-append}
 use Rattle.std.specs.List.{Contains, flat_map, range_with_len}
 use Rattle.std.proofs.lemmas.List.{append-nil, take-append-drop, take_more}
 use Rattle.std.proofs.lemmas.Grind.{flat_map-append}
 use Rattle.std.proofs.lemmas.List.Elements.{All-contains}
-use Rattle.words.proofs.Members.{AllPairs-append, AllPairs-first, AllPairs-nil, AllPairs-rest, All-from_members, Contains-first, Contains-flat_map_cases, Contains-more}
+use Rattle.words.proofs.Members.{AllPairs-append, AllPairs-first, AllPairs-nil, AllPairs-rest, All-from_members, Contains-first}
+use Rattle.words.proofs.Members.{Contains-flat_map_cases, Contains-more}
 use Rattle.overlaps.proofs.Sums.{joined-more}
 
 module _ {X Y : Type 0} (f : X → List Y) (R : X → X → Type 0) (S : Y → Y → Type 0) where

@@ -13,7 +13,8 @@ use Rattle.anick_chains.specs.BasisTips.{leads_of}
 use Rattle.anick_chains.specs.Listed.{AreListed}
 use Rattle.anick_chains.proofs.BasisChains.{has_minimal_chains}
 
-module _ (b : Elements) (kept : IsKept b) (p : ℕ) (relations : List (List Term)) (st : IsSetting p b.weights relations) (upto : IsReducedUpto p relations b) where
+module _ (b : Elements) (kept : IsKept b) (p : ℕ) (relations : List (List Term)) (st : IsSetting p b.weights relations)
+    (upto : IsReducedUpto p relations b) where
   lower : AreLower p b.weights relations (b.done + 1) b.elements
   lower = lists_lower p b.weights relations st (b.done + 1) b (record { kept = kept; next = refl; same_weights = refl; reduced = upto })
 
@@ -24,7 +25,11 @@ module _ (b : Elements) (kept : IsKept b) (p : ℕ) (relations : List (List Term
     degrees = h.degrees;
     chains = record {
       exactly = λ c. (
-        (λ m. let r = (h.chains.exactly c).0 m in ((has_minimal_chains p b.weights relations st (b.done + 1) b.elements lower c (omega (arith, le, r.1))).0 r.0, r.1)),
+        (λ m. let r = (h.chains.exactly c).0 m in (
+          (has_minimal_chains p b.weights relations st (b.done + 1) b.elements lower c
+              (omega (arith, le, r.1))).0 r.0,
+          r.1,
+        )),
         (λ r. (h.chains.exactly c).1 ((has_minimal_chains p b.weights relations st (b.done + 1) b.elements lower c (omega (arith, le, r.1))).1 r.0, r.1)),
       );
       ordered = h.chains.ordered;

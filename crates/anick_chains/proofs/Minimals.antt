@@ -57,7 +57,8 @@ module _ (p : ℕ) (weights : List ℕ) (relations : List (List Term)) (st : IsS
   }
 
 -- a list of words of which none is a factor of another, and none is empty, is one of tips
-listed_tips : (tips : List (List ℕ)) → ((w : List ℕ) → Contains tips w → w ≢ []) → ((v w : List ℕ) → Contains tips v → Contains tips w → IsFactor v w → v ≡ w) → AreTips (Contains tips)
+listed_tips : (tips : List (List ℕ)) → ((w : List ℕ) → Contains tips w → w ≢ []) →
+    ((v w : List ℕ) → Contains tips v → Contains tips w → IsFactor v w → v ≡ w) → AreTips (Contains tips)
 listed_tips tips some apart = record { decide = listed tips; apart = apart; some = λ m. some [] m refl }
 
 -- each pair over the minimal words has its mate

@@ -32,7 +32,8 @@ module _ (b : Elements) (kept : IsKept b) (free : IsFactorFree b.elements) (e : 
       let l = chain_ended T names x.pieces chain in
       let last : last_piece x.pieces ≡ l.last = ap last_piece l.is ∙ last_piece-is l.front l.last in
       subst (IsOver names) (sym last)
-      (last_over T names (are_tips names (leads_of b.elements) (listed_tips b kept free)) l.front l.last (last_of_chain T names l.front l.last (subst (IsChain T names) l.is chain)))
+      (last_over T names (are_tips names (leads_of b.elements) (listed_tips b kept free)) l.front l.last
+      (last_of_chain T names l.front l.last (subst (IsChain T names) l.is chain)))
 
 module _ (weights : List ℕ) (G : List (List Term)) (d : ℕ) (found : List Chain) where
   abbrev f : Chain → List (List (List ℕ))
@@ -43,7 +44,8 @@ module _ (weights : List ℕ) (G : List (List Term)) (d : ℕ) (found : List Cha
   onward_all n le = ap (flat_map f) (take_all n found le) ∙ sym (flat_map-map (onward weights G d) (λ (x : Chain). x.pieces) found)
 
   -- where one more chain makes the list longer than a number, the whole is
-  pub onward_many : (old block : List Chain) (room i : ℕ) (x : Chain) → i < length found → x ≡ get_or found i x → block ≡ old ++ with_degree d (flat_map f (take i found))
+  pub onward_many : (old block : List Chain) (room i : ℕ) (x : Chain) → i < length found → x ≡ get_or found i x →
+      block ≡ old ++ with_degree d (flat_map f (take i found))
       → room < length block + length (next_of weights G d x.pieces) → room < length old + length (flat_map (onward weights G d) (pieces_of found))
   onward_many old block room i x lt is so_far more =
       omega (
@@ -63,14 +65,16 @@ module _ (weights : List ℕ) (G : List (List Term)) (d : ℕ) (found : List Cha
 chain_over : (T : List ℕ → Type 0) (names : ℕ) (c : List (List ℕ)) → IsChain T names c → All (IsOver names) c
 chain_over T names [] h = absurd h
 chain_over T names (q ∷ qs) h =
-    All-cons (IsOver names) q qs (subst (IsOver names) (sym h.0.is) (All-cons (λ x. x < names) h.0.letter [] h.0.within (All-nil (λ x. x < names)))) (rest q qs h.1)
+    All-cons (IsOver names) q qs (subst (IsOver names) (sym h.0.is)
+    (All-cons (λ x. x < names) h.0.letter [] h.0.within (All-nil (λ x. x < names)))) (rest q qs h.1)
   where
     rest : (p : List ℕ) (rs : List (List ℕ)) → AreNext T names p rs → All (IsOver names) rs
     rest p [] k = All-nil (IsOver names)
     rest p (r ∷ rs) k = All-cons (IsOver names) r rs k.0.over (rest r rs k.1)
 
 -- and so are those of all listed chains
-pub listed_over : (T : List ℕ → Type 0) (names : ℕ) (weights : List ℕ) (e : ℕ) (found : List Chain) → AreListed T names weights e found → All (λ x. All (IsOver names) x.pieces) found
+pub listed_over : (T : List ℕ → Type 0) (names : ℕ) (weights : List ℕ) (e : ℕ) (found : List Chain) → AreListed T names weights e found →
+    All (λ x. All (IsOver names) x.pieces) found
 listed_over T names weights e found h =
     All-from_members (λ x. All (IsOver names) x.pieces) found
     (λ x m. chain_over T names x.pieces ((h.chains.exactly x.pieces).0 (Contains-map (λ (y : Chain). y.pieces) found x m)).0)

@@ -27,7 +27,8 @@ module _ (b : Elements) (kept : IsKept b) (q : List ℕ) (before d first end : �
 
   -- at the end of the degree all have been met
   pub run_ends : joined E end ≡ ends_of b.weights b.elements q before d
-  run_ends = sym (joined-same E end (length b.elements) fits (λ k from within. nothing k (outside b kept shared d first end is_first is_end fits k within (inr from))))
+  run_ends = sym (joined-same E end (length b.elements) fits (λ k from within. nothing k
+      (outside b kept shared d first end is_first is_end fits k within (inr from))))
 
   -- and also where the first tip stands that does not begin with what is shared
   pub run_stops : (right : ℕ) → first ≤ right → right < end → (IsAbove shared (lead_word b.elements right) → ⊥)

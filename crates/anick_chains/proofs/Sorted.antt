@@ -52,7 +52,9 @@ module _ (weights : List ℕ) (aw : AreWeights weights) where
   strictly : (xs : List Chain) → IsSorted found_cmp xs → IsDistinct AreTied xs → AllPairs (λ x y. found_cmp x y ≡ Less) xs
   strictly xs sorted apart i j e before within =
       less (found_cmp (get_or xs i e) (get_or xs j e)) (apart_from_distinct AreTied xs i j e apart before within)
-      (ap is_lt (sym (found_total.antisymm (get_or xs j e) (get_or xs i e))) ∙ sorted_far (λ x y. is_lt (found_cmp x y)) (ranks_by found_total (λ (x : Chain). x)) xs sorted i j e (omega (arith, before)) within)
+      (ap is_lt (sym (found_total.antisymm (get_or xs j e) (get_or xs i e)))
+      ∙ sorted_far (λ x y. is_lt (found_cmp x y)) (ranks_by found_total (λ (x : Chain). x)) xs sorted i j e (omega (arith, before))
+      within)
     where
       less : (r : Ordering) → is_eq r ≡ false → is_lt (ordering_reverse r) ≡ false → r ≡ Less
       less Less f g = refl
@@ -65,7 +67,8 @@ module _ (weights : List ℕ) (aw : AreWeights weights) where
     chain_of c = record { degree = d; pieces = c }
 
     found : (x : Chain) → Contains sorted x → (c : List (List ℕ)) × Contains all c × (chain_of c ≡ x)
-    found x m = Contains-map_cases chain_of all x (subst (λ (xs : List Chain). Contains xs x) is (Contains-permutation sorted block x (IsPermutation-sym block sorted moved) m))
+    found x m = Contains-map_cases chain_of all x (subst (λ (xs : List Chain). Contains xs x) is
+        (Contains-permutation sorted block x (IsPermutation-sym block sorted moved) m))
 
     -- the sorted list has the same chains
     pub sorted_says : (c : List (List ℕ)) → Contains (pieces_of sorted) c → Contains all c
@@ -76,7 +79,8 @@ module _ (weights : List ℕ) (aw : AreWeights weights) where
 
     pub sorted_has : (c : List (List ℕ)) → Contains all c → Contains (pieces_of sorted) c
     sorted_has c m =
-        Contains-map (λ (y : Chain). y.pieces) sorted (chain_of c) (Contains-permutation block sorted (chain_of c) moved (subst (λ (xs : List Chain). Contains xs (chain_of c)) (sym is) (Contains-map chain_of all c m)))
+        Contains-map (λ (y : Chain). y.pieces) sorted (chain_of c) (Contains-permutation block sorted (chain_of c) moved
+        (subst (λ (xs : List Chain). Contains xs (chain_of c)) (sym is) (Contains-map chain_of all c m)))
 
     -- each with its degree
     pub sorted_degrees : All (λ x. x.degree ≡ chain_degree weights x.pieces) sorted
@@ -88,7 +92,8 @@ module _ (weights : List ℕ) (aw : AreWeights weights) where
     pub sorted_stands : IsSorted found_cmp sorted → AllPairs (StandsBefore weights) (pieces_of sorted)
     sorted_stands up =
         let pairs = strictly sorted up (IsDistinct-IsPermutation AreTied tied_both block sorted moved (subst (IsDistinct AreTied) (sym is)
-        (IsDistinct-from_apart AreTied (with_degree d all) (AllPairs-map chain_of (λ a b. a ≢ b) (λ x y. AreTied x y ≡ false) (λ a b ne. untied (chain_of a) (chain_of b) ne) all apart)))) in
+        (IsDistinct-from_apart AreTied (with_degree d all) (AllPairs-map chain_of (λ a b. a ≢ b) (λ x y. AreTied x y ≡ false)
+        (λ a b ne. untied (chain_of a) (chain_of b) ne) all apart)))) in
         AllPairs-map (λ (x : Chain). x.pieces) (λ x y. StandsBefore weights x.pieces y.pieces) (StandsBefore weights) (λ x y s. s) sorted
         (λ i j e before within. inr (
           each (get_or sorted i e) (i, omega (arith, before, within), get_or_default sorted i (get_or sorted i e) e (omega (arith, before, within)))
@@ -97,4 +102,5 @@ module _ (weights : List ℕ) (aw : AreWeights weights) where
         ))
       where
         each : (x : Chain) → Contains sorted x → chain_degree weights x.pieces ≡ d
-        each x m = let r = found x m in subst (λ (y : Chain). chain_degree weights y.pieces ≡ d) r.2 (All-contains (λ c. chain_degree weights c ≡ d) all r.0 degree r.1)
+        each x m = let r = found x m in subst (λ (y : Chain). chain_degree weights y.pieces ≡ d) r.2
+            (All-contains (λ c. chain_degree weights c ≡ d) all r.0 degree r.1)

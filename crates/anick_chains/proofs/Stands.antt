@@ -20,7 +20,8 @@ module _ (tips : List (List ℕ)) where
       at : (ts : List (List ℕ)) → Contains ts t → begins ts (t ++ v) ≡ true
       at [] m = absurd (Contains-none t m)
       at (s ∷ ts) m = elim (Contains-cases s ts t m) [
-        | inl e ↦ ap (λ (b : Bool). cond b true (begins ts (t ++ v))) (here (take (length s) (t ++ v)) s (ap (λ (x : List ℕ). take (length x) (t ++ v)) e ∙ before_suffix t v ∙ sym e))
+        | inl e ↦ ap (λ (b : Bool). cond b true (begins ts (t ++ v)))
+            (here (take (length s) (t ++ v)) s (ap (λ (x : List ℕ). take (length x) (t ++ v)) e ∙ before_suffix t v ∙ sym e))
         | inr n ↦ by_test (bytes_eq (take (length s) (t ++ v)) s) (at ts n)
       ]
         where
@@ -35,8 +36,16 @@ module _ (tips : List (List ℕ)) where
       at [] e = cc e
       at (s ∷ ts) e = by_test (bytes_eq (take (length s) w) s) refl e (at ts)
         where
-          by_test : (b : Bool) → bytes_eq (take (length s) w) s ≡ b → cond b true (begins ts w) ≡ true → (begins ts w ≡ true → (t : List ℕ) × (v : List ℕ) × Contains ts t × (w ≡ t ++ v)) → (t : List ℕ) × (v : List ℕ) × Contains (s ∷ ts) t × (w ≡ t ++ v)
-          by_test true f e on = (s, drop (length s) w, Contains-first s ts, sym (take-append-drop (length s) w) ∙ ap (λ (x : List ℕ). x ++ drop (length s) w) ((bytes_eq-Decides (take (length s) w) s).0 f))
+          by_test : (b : Bool) → bytes_eq (take (length s) w) s ≡ b → cond b true (begins ts w) ≡ true →
+              (begins ts w ≡ true → (t : List ℕ) × (v : List ℕ) × Contains ts t × (w ≡ t ++ v)) →
+              (t : List ℕ) × (v : List ℕ) × Contains (s ∷ ts) t × (w ≡ t ++ v)
+          by_test true f e on = (
+            s,
+            drop (length s) w,
+            Contains-first s ts,
+            sym (take-append-drop (length s) w)
+                ∙ ap (λ (x : List ℕ). x ++ drop (length s) w) ((bytes_eq-Decides (take (length s) w) s).0 f),
+          )
           by_test false f e on = let r = on e in (r.0, r.1, Contains-more s ts r.0 r.2, r.3)
 
   stands-is : (u t v : List ℕ) → Contains tips t → stands tips (u ++ t ++ v) ≡ true
@@ -55,7 +64,8 @@ module _ (tips : List (List ℕ)) where
   stands-says [] e = let r = begins-says [] e in record { tip = r.0; is_tip = r.2; inside = record { before = []; after = r.1; joined = r.3 } }
   stands-says (x ∷ w) e = by_test (begins tips (x ∷ w)) refl e (stands-says w)
     where
-      by_test : (b : Bool) → begins tips (x ∷ w) ≡ b → cond b true (stands tips w) ≡ true → (stands tips w ≡ true → HasTip (Contains tips) w) → HasTip (Contains tips) (x ∷ w)
+      by_test : (b : Bool) → begins tips (x ∷ w) ≡ b → cond b true (stands tips w) ≡ true →
+          (stands tips w ≡ true → HasTip (Contains tips) w) → HasTip (Contains tips) (x ∷ w)
       by_test true f e on = let r = begins-says (x ∷ w) f in record { tip = r.0; is_tip = r.2; inside = record { before = []; after = r.1; joined = r.3 } }
       by_test false f e on = HasTip-end (Contains tips) (x ∷ []) w (on e)
 

@@ -1,5 +1,6 @@
 -- The list of chains grows by the chains of one more degree.
-use Rattle.std.proofs.Common.{◌≡◌, ◌≢◌, ◌↔◌, ◌+◌, ◌-◌, ◌<◌, ◌≤◌, ℕ, List, [], ◌∷◌, ◌++◌, length, map, get_or, refl, sym, ap, ◌∙◌, inl, inr, arith, AllPairs, All, subst, length-append}
+use Rattle.std.proofs.Common.{◌≡◌, ◌≢◌, ◌↔◌, ◌+◌, ◌-◌, ◌<◌, ◌≤◌, ℕ, List, [], ◌∷◌, ◌++◌, length, map, get_or, refl, sym, ap, ◌∙◌, inl, inr, arith}
+use Rattle.std.proofs.Common.{AllPairs, All, subst, length-append}
 use Rattle.std.specs.List.{Contains, flat_map}
 use Rattle.std.specs.List.Sorted.{IsPermutation, IsSorted}
 use Rattle.std.proofs.lemmas.Bool.{cases_lt}
@@ -42,7 +43,8 @@ module _ (b : Elements) (kept : IsKept b) (free : IsFactorFree b.elements) where
   pub lead_distinct : (i j : ℕ) → i < length b.elements → j < length b.elements → lead_word b.elements i ≡ lead_word b.elements j → i ≡ j
   lead_distinct i j lt_i lt_j e =
       let at = λ (k : ℕ) (lt : k < length b.elements). monic-lead (get_or b.elements k []) (element_kept b kept k lt).monic in
-      free i j (get_or b.elements i []) (get_or b.elements j []) (lead_word b.elements i) (lead_word b.elements j) (slice_get-get_or b.elements i [] lt_i) (slice_get-get_or b.elements j [] lt_j)
+      free i j (get_or b.elements i []) (get_or b.elements j []) (lead_word b.elements i) (lead_word b.elements j)
+      (slice_get-get_or b.elements i [] lt_i) (slice_get-get_or b.elements j [] lt_j)
       (at i lt_i) (at j lt_j) (subst (IsFactor (lead_word b.elements i)) e (factor_itself (lead_word b.elements i)))
 
   -- no chain has degree 0
@@ -66,7 +68,12 @@ module _ (b : Elements) (kept : IsKept b) (free : IsFactorFree b.elements) where
 
     -- a list of chains tells their number
     pub number_listed : IsNumber T names weights e (length found)
-    number_listed = record { chains = pieces_of found; exactly = h.chains.exactly; apart = below_apart; count = sym (length-map found (λ (c : Chain). c.pieces)) }
+    number_listed = record {
+      chains = pieces_of found;
+      exactly = h.chains.exactly;
+      apart = below_apart;
+      count = sym (length-map found (λ (c : Chain). c.pieces));
+    }
 
     module _ (d : ℕ) (next : d ≡ e + 1) where
       abbrev below : List (List (List ℕ))
@@ -93,13 +100,15 @@ module _ (b : Elements) (kept : IsKept b) (free : IsFactorFree b.elements) where
       apart : AllPairs (λ x y. x ≢ y) all
       apart = chains_at-apart weights b.elements tips kept.weights d below chains_below lead_distinct below_apart
 
-      cases : (c : List (List ℕ)) → IsChain T names c × (chain_degree weights c ≤ d) → (rest : List (List (List ℕ))) → (Contains all c → Contains rest c) → Contains (below ++ rest) c
+      cases : (c : List (List ℕ)) → IsChain T names c × (chain_degree weights c ≤ d) → (rest : List (List (List ℕ))) →
+          (Contains all c → Contains rest c) → Contains (below ++ rest) c
       cases c k rest at = elim (cases_lt (chain_degree weights c) d) [
         | inl lt ↦ Contains-append_left below rest c ((chains_below c).1 (k.0, lt))
         | inr le ↦ Contains-append_right below rest c (at (has c k.0 (omega (arith, le, k.1))))
       ]
 
-      both : (c : List (List ℕ)) (rest : List (List (List ℕ))) → (Contains rest c → Contains all c) → Contains (below ++ rest) c → IsChain T names c × (chain_degree weights c ≤ d)
+      both : (c : List (List ℕ)) (rest : List (List (List ℕ))) → (Contains rest c → Contains all c) → Contains (below ++ rest) c →
+          IsChain T names c × (chain_degree weights c ≤ d)
       both c rest at m = elim (Contains-append_cases below rest c m) [
         | inl n ↦ let r = (chains_below c).0 n in (r.0, omega (arith, r.1))
         | inr n ↦ let r = says c (at n) in (r.0, omega (arith, r.1))
@@ -109,7 +118,8 @@ module _ (b : Elements) (kept : IsKept b) (free : IsFactorFree b.elements) where
       pub all_length : length all ≡ length (free_letters weights b.elements d) + length (flat_map (onward weights b.elements d) below)
       all_length =
           length-append (continued [] (free_letters weights b.elements d)) (flat_map (onward weights b.elements d) below)
-          ∙ ap (λ (n : ℕ). n + length (flat_map (onward weights b.elements d) below)) (length-map (free_letters weights b.elements d) (λ (r : List ℕ). [] ++ r ∷ []))
+          ∙ ap (λ (n : ℕ). n + length (flat_map (onward weights b.elements d) below))
+          (length-map (free_letters weights b.elements d) (λ (r : List ℕ). [] ++ r ∷ []))
 
       -- the number up to the degree is that below and that of the degree
       pub number_more : IsNumber T names weights d (length found + length all)
@@ -122,19 +132,22 @@ module _ (b : Elements) (kept : IsKept b) (free : IsFactorFree b.elements) where
       }
 
       -- the chains of the degree, sorted, go behind the others
-      pub listed_more : (block sorted : List Chain) → block ≡ with_degree d all → IsPermutation block sorted → IsSorted (λ x y. pieces_cmp weights x.pieces y.pieces) sorted
+      pub listed_more : (block sorted : List Chain) → block ≡ with_degree d all → IsPermutation block sorted →
+          IsSorted (λ x y. pieces_cmp weights x.pieces y.pieces) sorted
           → AreListed T names weights d (found ++ sorted)
       listed_more block sorted is moved up =
           let degree : All (λ c. chain_degree weights c ≡ d) all = All-from_members (λ c. chain_degree weights c ≡ d) all (λ c m. (says c m).1) in
           let whole : pieces_of (found ++ sorted) ≡ below ++ pieces_of sorted = map-append (λ (c : Chain). c.pieces) found sorted in
           record {
-            degrees = All-append (λ (c : Chain). c.degree ≡ chain_degree weights c.pieces) found sorted h.degrees (sorted_degrees weights kept.weights d all apart degree block sorted is moved);
+            degrees = All-append (λ (c : Chain). c.degree ≡ chain_degree weights c.pieces) found sorted h.degrees
+                (sorted_degrees weights kept.weights d all apart degree block sorted is moved);
             chains = subst (AreChains T names weights d) (sym whole) (record {
               exactly = λ c. (
                 (λ m. both c (pieces_of sorted) (λ n. sorted_says weights kept.weights d all apart degree block sorted is moved c n) m),
                 (λ k. cases c k (pieces_of sorted) (λ n. sorted_has weights kept.weights d all apart degree block sorted is moved c n)),
               );
-              ordered = AllPairs-append (StandsBefore weights) below (pieces_of sorted) h.chains.ordered (sorted_stands weights kept.weights d all apart degree block sorted is moved up)
+              ordered = AllPairs-append (StandsBefore weights) below (pieces_of sorted) h.chains.ordered
+                  (sorted_stands weights kept.weights d all apart degree block sorted is moved up)
                   (λ x m. All-from_members (StandsBefore weights x) (pieces_of sorted) (λ y n.
                   inl (omega (arith, ((chains_below x).0 m).1, (says y (sorted_says weights kept.weights d all apart degree block sorted is moved y n)).1))));
             });

@@ -80,7 +80,8 @@ module _ (T : List ℕ → Type 0) where
           let a = ended (c ∷ x) (λ is. cc is) in
           let b = ended r some in
           let whole : (q ++ b.front) ++ b.last ∷ [] ≡ (u ++ v ++ a.front) ++ a.last ∷ [] =
-          append_assoc q b.front (b.last ∷ []) ∙ sym (ap (λ (y : List ℕ). q ++ y) b.is) ∙ e ∙ ap (λ (y : List ℕ). u ++ v ++ y) a.is ∙ sym (append_assoc (u ++ v) a.front (a.last ∷ [])) in
+          append_assoc q b.front (b.last ∷ []) ∙ sym (ap (λ (y : List ℕ). q ++ y) b.is) ∙ e ∙ ap (λ (y : List ℕ). u ++ v ++ y) a.is
+          ∙ sym (append_assoc (u ++ v) a.front (a.last ∷ [])) in
           let s = same_ends (q ++ b.front) (u ++ v ++ a.front) b.last a.last whole in
           absurd (h.least b.front (b.last ∷ []) b.is (λ is. cc is) (subst (HasTip T) (sym s.0) (HasTip-here u v a.front t)))
 
@@ -91,7 +92,8 @@ module _ (T : List ℕ → Type 0) where
     least = λ s rest is some inner.
         let i = inner.inside in
         let e : q ++ r ≡ i.before ++ inner.tip ++ (i.after ++ rest) =
-        ap (λ (x : List ℕ). q ++ x) is ∙ sym (append_assoc q s rest) ∙ ap (λ (x : List ℕ). x ++ rest) i.joined ∙ append_assoc (i.before ++ inner.tip) i.after rest in
+        ap (λ (x : List ℕ). q ++ x) is ∙ sym (append_assoc q s rest) ∙ ap (λ (x : List ℕ). x ++ rest) i.joined
+        ∙ append_assoc (i.before ++ inner.tip) i.after rest in
         some (append-none i.after rest (h.only i.before inner.tip (i.after ++ rest) inner.is_tip e).2);
   }
 

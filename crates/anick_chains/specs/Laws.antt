@@ -1,5 +1,6 @@
 -- The pairing law, and how a chain goes on.
-use Rattle.std.specs.Prelude.{ℕ, ◌≡◌, ◌≢◌, ◌<◌, ◌⊎◌, ◌↔◌, ◌%◌, ◌==◌, Bool, suc, List, [], ◌∷◌, ◌++◌, AllPairs, Contains, length, count_by}
+use Rattle.std.specs.Prelude.{ℕ, ◌≡◌, ◌≢◌, ◌<◌, ◌⊎◌, ◌↔◌, ◌%◌, ◌==◌, Bool, suc, List, [], ◌∷◌, ◌++◌, AllPairs}
+use Rattle.std.specs.Prelude.{Contains, length, count_by}
 use Rattle.words.specs.Words.{IsFactor, IsOver}
 use Rattle.free_poly.specs.declared.term.Term.{Term}
 use Rattle.ideal_laws.specs.Ideal.{IsMinimal}
@@ -54,7 +55,8 @@ abbrev pub HasListedMates : Type 0
 HasListedMates = (tips : List (List ℕ)) → ((w : List ℕ) → Contains tips w → w ≢ [])
     → ((v w : List ℕ) → Contains tips v → Contains tips w → IsFactor v w → v ≡ w)
     → (weights : List ℕ) (d : ℕ) → 0 < d
-    → ((a : Pair) → IsPair (Contains tips) (length weights) weights d a → HasMate (Contains tips) (length weights) weights d a)
+    → ((a : Pair) → IsPair (Contains tips) (length weights) weights d a →
+    HasMate (Contains tips) (length weights) weights d a)
     × HasEvenOdd (Contains tips) (length weights) weights d
 
 -- the piece ends with a word that begins a tip, whose rest is the next piece, and up to the last letter of that no tip
@@ -79,4 +81,5 @@ pub record AreListedTips (names : ℕ) (tips : List (List ℕ)) : Type 0 where
 -- a piece goes on with the end of a tip that it begins
 abbrev pub HasExtensions : Type 0
 HasExtensions = (names : ℕ) (tips : List (List ℕ)) → AreListedTips names tips → (piece next : List ℕ)
-    → (HasTip (Contains tips) piece → ⊥) → IsNext (Contains tips) names piece next ↔ IsExtension (Contains tips) piece next
+    → (HasTip (Contains tips) piece → ⊥) → IsNext (Contains tips) names piece next
+    ↔ IsExtension (Contains tips) piece next

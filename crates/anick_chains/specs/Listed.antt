@@ -9,9 +9,10 @@ abbrev pub pieces_of : List Chain → List (List (List ℕ))
 pieces_of found = map (λ c. c.pieces) found
 
 -- exactly the chains up to a degree, in their order, each with its degree
-pub record AreListed (T : List ℕ → Type 0) (names : ℕ) (weights : List ℕ) (bound : ℕ) (found : List Chain) : Type 0 where
-  pub degrees : All (λ c. c.degree ≡ chain_degree weights c.pieces) found
-  pub chains : AreChains T names weights bound (pieces_of found)
+pub record AreListed (T : List ℕ → Type 0) (names : ℕ) (weights : List ℕ) (bound : ℕ) (found : List Chain) : Type 0
+  where
+    pub degrees : All (λ c. c.degree ≡ chain_degree weights c.pieces) found
+    pub chains : AreChains T names weights bound (pieces_of found)
 
 -- lists of pieces as chains of this degree
 abbrev pub with_degree : ℕ → List (List (List ℕ)) → List Chain

@@ -24,7 +24,8 @@ StandsBefore weights a b = (chain_degree weights a < chain_degree weights b)
     ⊎ ((chain_degree weights a ≡ chain_degree weights b) × StandsInDegree weights a b)
 
 -- exactly the chains up to a degree, in their order
-pub record AreChains (T : List ℕ → Type 0) (names : ℕ) (weights : List ℕ) (bound : ℕ) (chains : List (List (List ℕ))) : Type 0 where
+pub record AreChains (T : List ℕ → Type 0) (names : ℕ) (weights : List ℕ) (bound : ℕ)
+    (chains : List (List (List ℕ))) : Type 0 where
   pub exactly : (c : List (List ℕ)) → Contains chains c ↔ (IsChain T names c × (chain_degree weights c ≤ bound))
   pub ordered : AllPairs (StandsBefore weights) chains
 

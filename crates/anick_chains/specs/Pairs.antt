@@ -24,6 +24,7 @@ pub record IsShortest (T : List ℕ → Type 0) (q r : List ℕ) : Type 0 where
 -- shortest prefix of the word that gives a tip after the last piece becomes the new last piece.
 pub data IsMate (T : List ℕ → Type 0) (a b : Pair) : Type 0 where
   begun : (x : ℕ) → a.pieces ≡ [] → a.word ≡ x ∷ b.word → b.pieces ≡ (x ∷ []) ∷ [] → IsMate T a b
-  back : (q : List ℕ) → a.pieces ≡ b.pieces ++ q ∷ [] → (HasTip T (q ++ a.word) → ⊥) → b.word ≡ q ++ a.word → IsMate T a b
+  back : (q : List ℕ) → a.pieces ≡ b.pieces ++ q ∷ [] → (HasTip T (q ++ a.word) → ⊥) → b.word ≡ q ++ a.word →
+      IsMate T a b
   ahead : (qs : List (List ℕ)) (q r : List ℕ) → a.pieces ≡ qs ++ q ∷ [] → IsShortest T q r → a.word ≡ r ++ b.word
       → b.pieces ≡ a.pieces ++ r ∷ [] → IsMate T a b

@@ -22,7 +22,8 @@ fits c b = (c.degree == b.degree) && (length c.pieces == b.size)
 abbrev pub with_chain : Chain → List Block → List Block
 with_chain c [] = one_chain c ∷ []
 with_chain c (b ∷ bs) =
-    if fits c b then record { degree = b.degree; size = b.size; chains = c.pieces ∷ b.chains } ∷ bs else one_chain c ∷ b ∷ bs
+    if fits c b then record { degree = b.degree; size = b.size; chains = c.pieces ∷ b.chains } ∷ bs else one_chain c
+    ∷ b ∷ bs
 
 -- the chains by degree and length, each block as long as it can be
 abbrev pub blocks_of : List Chain → List Block

@@ -1,6 +1,7 @@
 -- The pieces that may follow a piece, by the letters before what a tip shares with it, and the chains of a degree, by
 -- the chains of lower degrees.
-use Rattle.std.specs.Prelude.{ℕ, ◌-◌, ◌+◌, ◌==◌, ◌&&◌, Bool, true, false, not, cond, List, [], ◌∷◌, ◌++◌, length, map, take, drop, bytes_eq}
+use Rattle.std.specs.Prelude.{ℕ, ◌-◌, ◌+◌, ◌==◌, ◌&&◌, Bool, true, false, not, cond, List, [], ◌∷◌, ◌++◌, length, map}
+use Rattle.std.specs.Prelude.{take, drop, bytes_eq}
 use Rattle.std.specs.List.{flat_map, range_with_len}
 use Rattle.words.specs.Words.{degree_of, weight_of}
 use Rattle.free_poly.specs.declared.term.Term.{Term}
@@ -20,7 +21,8 @@ stands tips (x ∷ w) = cond (begins tips (x ∷ w)) true (stands tips w)
 
 -- whether the leading word at a place begins with this word and has the degree d
 abbrev pub goes_on : List ℕ → List (List Term) → List ℕ → ℕ → ℕ → Bool
-goes_on weights G shared d k = bytes_eq (take (length shared) (lead_word G k)) shared && (degree_of weights (lead_word G k) == d)
+goes_on weights G shared d k = bytes_eq (take (length shared) (lead_word G k)) shared &&
+    (degree_of weights (lead_word G k) == d)
 
 -- the word, in a list, unless a tip stands in the piece followed by all of the word but its last letter
 abbrev pub unless_stands : List (List ℕ) → List ℕ → List ℕ → List (List ℕ)

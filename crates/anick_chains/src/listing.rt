@@ -42,10 +42,12 @@ pub fn chains(
     ensures minimal { IfOk result (λ found.
         (p : ℕ) (relations : List (List Term)) → IsSetting p basis.now.weights relations
         → IsReducedUpto p relations basis.now
-        → AreListed (IsMinimal p basis.now.weights relations) (length basis.now.weights) basis.now.weights bound found) }
+        → AreListed (IsMinimal p basis.now.weights relations) (length basis.now.weights) basis.now.weights bound
+        found) }
 
     ensures many { (degree : ℕ) → IsErrOf result (ChainFault.TooMany degree)
-        → IsFirstMany (Contains (leads_of basis.now.elements)) (length basis.now.weights) basis.now.weights bound most degree }
+        → IsFirstMany (Contains (leads_of basis.now.elements)) (length basis.now.weights) basis.now.weights bound
+        most degree }
 {
     let _letters = alphabet.len();
     let _done = basis.done();
@@ -97,11 +99,13 @@ fn push_degree(
     requires few { length found.old.items ≤ most }
 
     ensures listed { OnOk result
-        (AreListed (Contains (leads_of basis.now.elements)) (length basis.now.weights) basis.now.weights degree found.new.items) }
+        (AreListed (Contains (leads_of basis.now.elements)) (length basis.now.weights) basis.now.weights degree
+        found.new.items) }
     ensures within { OnOk result (length found.new.items ≤ most) }
 
     ensures many { (d : ℕ) → IsErrOf result (ChainFault.TooMany d) → (d ≡ degree) × (n : ℕ)
-        × IsNumber (Contains (leads_of basis.now.elements)) (length basis.now.weights) basis.now.weights degree n × (most < n) }
+        × IsNumber (Contains (leads_of basis.now.elements)) (length basis.now.weights) basis.now.weights degree n
+        × (most < n) }
 {
     let _done = basis.done();
     let room = most as usize - found.len();

@@ -44,7 +44,8 @@ fn push_letter(
 ) -> Result<(), NoMemory>
     requires index { IsIndexOf basis.now.elements index.now }
     requires letter { letter < length basis.now.weights }
-    ensures { OnOk result (found.new.items ≡ found.old.items ++ free_letter basis.now.weights basis.now.elements degree letter) }
+    ensures { OnOk result (found.new.items ≡ found.old.items
+        ++ free_letter basis.now.weights basis.now.elements degree letter) }
 {
     let _done = basis.done();
     if u32::from(basis.weight(letter)) != degree {
@@ -132,9 +133,11 @@ pub(crate) fn push_continued(
 ) -> Result<(), ChainFault>
     requires few { length block.old.items ≤ room }
 
-    ensures continued { OnOk result (block.new.items ≡ block.old.items ++ with_degree degree (continued front.now next.items)) }
+    ensures continued { OnOk result (block.new.items ≡ block.old.items
+        ++ with_degree degree (continued front.now next.items)) }
     ensures within { OnOk result (length block.new.items ≤ room) }
-    ensures many { (d : ℕ) → IsErrOf result (ChainFault.TooMany d) → (d ≡ degree) × (room < length block.old.items + length next.items) }
+    ensures many { (d : ℕ) → IsErrOf result (ChainFault.TooMany d) →
+        (d ≡ degree) × (room < length block.old.items + length next.items) }
 {
     if next.len() > room - block.len() {
         return Err(ChainFault::TooMany { degree });

@@ -47,7 +47,8 @@ fn push_ends(
     requires index { IsIndexOf basis.now.elements index.now }
     requires split { before < length piece.now }
     requires room { before + d ≤ 64 }
-    ensures { OnOk result (found.new.items ≡ found.old.items ++ ends_of basis.now.weights basis.now.elements piece.now before d) }
+    ensures { OnOk result (found.new.items ≡ found.old.items
+        ++ ends_of basis.now.weights basis.now.elements piece.now before d) }
 {
     let _done = basis.done();
     let shared = &piece[before..];
@@ -73,7 +74,8 @@ fn push_end(
 ) -> Result<(), NoMemory>
     requires index { IsIndexOf basis.now.elements index.now }
     requires small { length piece.now + (length next.now - 1) ≤ 64 }
-    ensures { OnOk result (found.new.items ≡ found.old.items ++ unless_stands (leads_of basis.now.elements) piece.now next.now) }
+    ensures { OnOk result (found.new.items ≡ found.old.items
+        ++ unless_stands (leads_of basis.now.elements) piece.now next.now) }
 {
     let _done = basis.done();
     let both = Word::joined(alloc, piece, &next[..next.len().saturating_sub(1)])?;

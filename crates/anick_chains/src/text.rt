@@ -1,4 +1,5 @@
-ghost use Rattle.std.specs.Prelude.{◌≡◌, ◌++◌, ◌<◌, ◌≤◌, ◌↔◌, ℕ, All, IfOk, IsTrue, OnOk, codes, length, slice_index_or};
+ghost use Rattle.std.specs.Prelude.{◌≡◌, ◌++◌, ◌<◌, ◌≤◌, ◌↔◌, ℕ, All, IfOk, IsTrue, OnOk, codes, length};
+ghost use Rattle.std.specs.Prelude.{slice_index_or};
 ghost use Rattle.std.specs.List.{flat_map, join_by};
 ghost use Rattle.words.specs.Words.{IsOver};
 ghost use Rattle.poly_writer.specs.Texts.{word_text};
@@ -41,7 +42,8 @@ fn block_end(chains: &[Chain], at: usize, degree: u32, size: usize) -> usize
     ensures more { at < result }
     ensures within { result ≤ length chains.now }
     ensures same { (k : ℕ) (c : Chain) → at ≤ k → k < result → HasShape degree size (slice_index_or chains.now k c) }
-    ensures longest { (c : Chain) → result < length chains.now → HasShape degree size (slice_index_or chains.now result c) → ⊥ }
+    ensures longest { (c : Chain) → result < length chains.now →
+        HasShape degree size (slice_index_or chains.now result c) → ⊥ }
 {
     for end in at + 1..chains.len() {
         if !has_shape(&chains[end], degree, size) {
@@ -91,7 +93,8 @@ fn push_count(text: &mut Vec<u8>, degree: u32, size: usize, count: usize) -> Res
 
 fn push_lines(text: &mut Vec<u8>, alphabet: &Alphabet, chains: &[Chain]) -> Result<(), NoMemory>
     requires letters { All (λ c. All (IsOver (length alphabet.now.weights)) c.pieces) chains.now }
-    ensures { OnOk result (text.new.items ≡ text.old.items ++ flat_map (λ c. chain_line alphabet.now.names c.pieces) chains.now) }
+    ensures { OnOk result (text.new.items ≡ text.old.items
+        ++ flat_map (λ c. chain_line alphabet.now.names c.pieces) chains.now) }
 {
     for chain in chains {
         push_line(text, alphabet, chain.pieces.as_slice())?;

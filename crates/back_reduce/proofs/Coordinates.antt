@@ -23,7 +23,8 @@ module _ (K : Field) (X : Type 0) where
   nothing_had : (es : List (X × W)) (v : W) (y : X) → IsZeroAtLeads K X v es → had es v y ≡ K.zero
   nothing_had [] v y z = refl
   nothing_had (e ∷ es) v y z =
-      ap (λ (n : K.F). K.add (K.mul n (e.1 y)) (had es v y)) z.0 ∙ ap (λ (n : K.F). K.add n (had es v y)) (zero_mul (e.1 y)) ∙ zero_add K (had es v y) ∙ nothing_had es v y z.1
+      ap (λ (n : K.F). K.add (K.mul n (e.1 y)) (had es v y)) z.0 ∙ ap (λ (n : K.F). K.add n (had es v y)) (zero_mul (e.1 y))
+      ∙ zero_add K (had es v y) ∙ nothing_had es v y z.1
 
   zero_had : (es : List (X × W)) (y : X) → had es (λ x. K.zero) y ≡ K.zero
   zero_had [] y = refl
@@ -53,12 +54,15 @@ module _ (K : Field) (X : Type 0) where
   row_had xs es (skip x ys es' z r) g h y = row_had ys es' r g h y
   row_had xs es (lead x ys v es' one z zl r) g (inl is) y =
       let own : had ((x, v) ∷ es') v y ≡ v y =
-      ap (λ (n : K.F). K.add (K.mul n (v y)) (had es' v y)) one ∙ ap₂ K.add (K.mul_comm K.one (v y) ∙ K.mul_one (v y)) (nothing_had es' v y zl) ∙ K.add_zero (v y) in
+      ap (λ (n : K.F). K.add (K.mul n (v y)) (had es' v y)) one ∙ ap₂ K.add (K.mul_comm K.one (v y) ∙ K.mul_one (v y))
+      (nothing_had es' v y zl) ∙ K.add_zero (v y) in
       ap (λ (u : W). u y) is ∙ sym own ∙ ap (λ (u : W). had ((x, v) ∷ es') u y) (sym is)
   row_had xs es (lead x ys v es' one z zl r) g (inr h) y =
-      row_had ys es' r g h y ∙ sym (ap (λ (n : K.F). K.add (K.mul n (v y)) (had es' g y)) (zero_of_row x es' g z h) ∙ ap (λ (n : K.F). K.add n (had es' g y)) (zero_mul (v y)) ∙ zero_add K (had es' g y))
+      row_had ys es' r g h y ∙ sym (ap (λ (n : K.F). K.add (K.mul n (v y)) (had es' g y)) (zero_of_row x es' g z h)
+      ∙ ap (λ (n : K.F). K.add n (had es' g y)) (zero_mul (v y)) ∙ zero_add K (had es' g y))
 
-  sum_had : (xs : List X) (es : List (X × W)) → IsReduced K X xs es → (cs : List (K.F × W)) → All (λ c. IsOneOf K X (rows es) c.1) cs → (y : X) → sum_of K X cs y ≡ had es (sum_of K X cs) y
+  sum_had : (xs : List X) (es : List (X × W)) → IsReduced K X xs es → (cs : List (K.F × W)) → All (λ c. IsOneOf K X (rows es) c.1) cs →
+      (y : X) → sum_of K X cs y ≡ had es (sum_of K X cs) y
   sum_had xs es r [] each y = sym (zero_had es y)
   sum_had xs es r (c ∷ cs) each y =
       ap₂ (λ (m n : K.F). K.add (K.mul c.0 m) n) (row_had xs es r c.1 (All-head (λ (d : K.F × W). IsOneOf K X (rows es) d.1) c cs each) y)
@@ -79,7 +83,8 @@ module _ (K : Field) (X : Type 0) where
 
   -- reduced rows with the span of vectors are the reduced basis of this span
   pub basis_from : (xs : List X) (gs : List W) (es : List (X × W)) → IsReduced K X xs es
-      → ((g : W) → IsOneOf K X (rows es) g → IsInSpan K X (IsOneOf K X gs) g) → ((v : W) → IsInSpan K X (IsOneOf K X gs) v → IsInSpan K X (IsOneOf K X (rows es)) v) → IsBasis K X xs gs es
+      → ((g : W) → IsOneOf K X (rows es) g → IsInSpan K X (IsOneOf K X gs) g) →
+      ((v : W) → IsInSpan K X (IsOneOf K X gs) v → IsInSpan K X (IsOneOf K X (rows es)) v) → IsBasis K X xs gs es
   basis_from xs gs es r inside back = record {
     reduced = r;
     inside = each_in gs es inside;

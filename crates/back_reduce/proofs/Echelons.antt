@@ -1,5 +1,6 @@
 -- The rows of pivots, each reduced by those of later columns, are the reduced row echelon form.
-use Rattle.std.proofs.Common.{◌≡◌, ◌↔◌, ◌+◌, ◌<◌, ◌≤◌, ℕ, zero, suc, List, [], ◌∷◌, All, Result, Ok, Err, map, length, get_or, refl, sym, ap, ◌∙◌, inl, inr, arith, subst}
+use Rattle.std.proofs.Common.{◌≡◌, ◌↔◌, ◌+◌, ◌<◌, ◌≤◌, ℕ, zero, suc, List, [], ◌∷◌, All, Result, Ok, Err, map, length, get_or, refl, sym, ap, ◌∙◌}
+use Rattle.std.proofs.Common.{inl, inr, arith, subst}
 use Rattle.std.specs.Result.{IfOk}
 use Rattle.std.specs.List.{AllZip, Contains, range_with_len}
 use Rattle.std.proofs.lemmas.List.{length-map}
@@ -41,20 +42,25 @@ module _ (p m : ℕ) where
     rising = λ i j d below within. h.rising (suc i) (suc j) d (omega (arith, below)) (omega (arith, within));
   }
 
-  form_of : (a : ℕ) (all leaders : List Leader) (ends : List (List ℕ)) → AreLeaders p m leaders → ((l : Leader) → Contains leaders l → Contains all l) → All (λ l. a ≤ l.column) leaders
+  form_of : (a : ℕ) (all leaders : List Leader) (ends : List (List ℕ)) → AreLeaders p m leaders →
+      ((l : Leader) → Contains leaders l → Contains all l) → All (λ l. a ≤ l.column) leaders
       → AllZip (IsReducedTo p all) leaders ends → IsFormFrom m a (columns_of leaders) ends
   form_of a all [] [] h part from z = tt
   form_of a all [] (e ∷ ends) h part from z = absurd z
   form_of a all (own ∷ leaders) [] h part from z = absurd z
   form_of a all (own ∷ leaders) (e ∷ ends) h part from z =
       let start : IsLeader p m own.column own.row.items = All-head (λ l. IsLeader p m l.column l.row.items) own leaders h.each in
-      let above : (k : ℕ) (d : Leader) → k < length leaders → own.column < (get_or leaders k d).column = λ k d within. h.rising zero (suc k) d (omega arith) (omega (arith, within)) in (
+      let above : (k : ℕ) (d : Leader) → k < length leaders → own.column < (get_or leaders k d).column =
+      λ k d within. h.rising zero (suc k) d (omega arith) (omega (arith, within)) in (
         All-head (λ (l : Leader). a ≤ l.column) own leaders from,
         leader_within p m own.column own.row.items start,
         z.0.leader.one,
         z.0.leader.before,
-        All-map (λ d. get_or e d 0 ≡ 0) (λ (l : Leader). l.column) leaders (λ k d within. z.0.zero_later (get_or leaders k d) (part (get_or leaders k d) (Contains-more own leaders (get_or leaders k d) (Contains-get_or leaders k d within))) (above k d within)),
-        form_of (own.column + 1) all leaders ends (leaders_tail own leaders h) (λ l there. part l (Contains-more own leaders l there)) (λ k d within. omega (arith, above k d within)) z.1,
+        All-map (λ d. get_or e d 0 ≡ 0) (λ (l : Leader). l.column) leaders
+            (λ k d within. z.0.zero_later (get_or leaders k d) (part (get_or leaders k d)
+            (Contains-more own leaders (get_or leaders k d) (Contains-get_or leaders k d within))) (above k d within)),
+        form_of (own.column + 1) all leaders ends (leaders_tail own leaders h) (λ l there. part l (Contains-more own leaders l there))
+            (λ k d within. omega (arith, above k d within)) z.1,
       )
 
   module _ (modulus : IsFieldModulus p) where
@@ -99,13 +105,19 @@ module _ (p m : ℕ) where
           (IsInSpan-one Ke ℕ Q (vec p modulus own.row.items) (start_one leaders own b.1.left))
 
       start_in : (n : ℕ) (l : Leader) → Contains leaders l → m ≤ l.column + n → IsInRowSpan p modulus ends (vec p modulus l.row.items)
-      start_in zero l there le = absurd (omega (arith, le, leader_within p m l.column l.row.items (All-contains (λ (l : Leader). IsLeader p m l.column l.row.items) leaders l are.each there)))
+      start_in zero l there le = absurd (omega (
+        arith,
+        le,
+        leader_within p m l.column l.row.items
+            (All-contains (λ (l : Leader). IsLeader p m l.column l.row.items) leaders l are.each there),
+      ))
       start_in (suc n) l there le =
           let b = beside_left (IsReducedTo p leaders) leaders ends l z there in
           let r = b.0 in
           let Q = OneOf p modulus ends in
           plus_back p modulus (IsLaterVector p modulus leaders l.column) Q
-          (λ v later. subst (IsInSpan Ke ℕ Q) (sym later.is) (start_in n later.later later.there (omega (arith, le, later.after)))) l.row.items r (b.1.related.sum modulus)
+          (λ v later. subst (IsInSpan Ke ℕ Q) (sym later.is) (start_in n later.later later.there (omega (arith, le, later.after))))
+          l.row.items r (b.1.related.sum modulus)
           (IsInSpan-one Ke ℕ Q (vec p modulus r) (contained_one ends r b.1.right))
 
       pub ends_from : (v : Ve) → IsInRowSpan p modulus ends v → IsInRowSpan p modulus (starts_of leaders) v
@@ -134,9 +146,13 @@ module _ (p m : ℕ) where
         let form = form_of 0 leaders leaders ends are (λ l there. there) (λ k d within. omega arith) z in
         let es = led p modulus (columns_of leaders) ends in
         let shown : map (λ e. e.1) es ≡ map (vec p modulus) ends = rows_of_led p modulus m 0 (columns_of leaders) ends form in
-        basis_from (K p modulus) ℕ (range_with_len 0 m) (map (vec p modulus) rows) es (reduced_from p modulus m m 0 (columns_of leaders) ends (omega arith) form)
-        (λ g one. (same modulus g).0 (ends_from modulus leaders ends are z g (IsInSpan-one (K p modulus) ℕ (OneOf p modulus ends) g (subst (λ (l : List (V p modulus)). IsOneOf (K p modulus) ℕ l g) shown one))))
-        (λ v s. subst (λ (l : List (V p modulus)). IsInSpan (K p modulus) ℕ (IsOneOf (K p modulus) ℕ l) v) (sym shown) (starts_from modulus leaders ends are z v ((same modulus v).1 s))));
+        basis_from (K p modulus) ℕ (range_with_len 0 m) (map (vec p modulus) rows) es
+        (reduced_from p modulus m m 0 (columns_of leaders) ends (omega arith) form)
+        (λ g one. (same modulus g).0 (ends_from modulus leaders ends are z g
+        (IsInSpan-one (K p modulus) ℕ (OneOf p modulus ends) g (subst (λ (l : List (V p modulus)). IsOneOf (K p modulus) ℕ l g) shown
+        one))))
+        (λ v s. subst (λ (l : List (V p modulus)). IsInSpan (K p modulus) ℕ (IsOneOf (K p modulus) ℕ l) v) (sym shown)
+        (starts_from modulus leaders ends are z v ((same modulus v).1 s))));
   }
     where
       length_all_zip_of : (xs : List Leader) (ys : List (List ℕ)) → AllZip (IsReducedTo p leaders) xs ys → length xs ≡ length ys
@@ -145,15 +161,18 @@ module _ (p m : ℕ) where
       length_all_zip_of (x ∷ xs) [] h = absurd h
       length_all_zip_of (x ∷ xs) (y ∷ ys) h = ap suc (length_all_zip_of xs ys h.1)
 
-mapped : {D : Type 0} (p : ℕ) (row : D → List ℕ) (all xs : List Leader) (ds : List D) → AllZip (λ own d. IsReducedRow p all own.column own.row.items (row d)) xs ds → AllZip (IsReducedTo p all) xs (map row ds)
+mapped : {D : Type 0} (p : ℕ) (row : D → List ℕ) (all xs : List Leader) (ds : List D) →
+    AllZip (λ own d. IsReducedRow p all own.column own.row.items (row d)) xs ds → AllZip (IsReducedTo p all) xs (map row ds)
 mapped p row all [] [] h = tt
 mapped p row all [] (d ∷ ds) h = absurd h
 mapped p row all (x ∷ xs) [] h = absurd h
 mapped p row all (x ∷ xs) (d ∷ ds) h = (h.0, mapped p row all xs ds h.1)
 
 -- what the rows of a problem's leaders are reduced to
-pub problem_rref : {C D E : Type 0} (problem : Problem) (p : ℕ) (shown leaders : List Leader) (result : Result C E) (items : C → List D) (row : D → List ℕ) → problem.modulus ≡ p → shown ≡ leaders → AreLeadersOf problem leaders
-    → IfOk result (λ c. AllZip (λ own d. IsReducedRow p shown own.column own.row.items (row d)) shown (items c)) → IfOk result (λ c. IsRref problem.modulus problem.m (rows_of problem) (map row (items c)))
+pub problem_rref : {C D E : Type 0} (problem : Problem) (p : ℕ) (shown leaders : List Leader) (result : Result C E) (items : C → List D)
+    (row : D → List ℕ) → problem.modulus ≡ p → shown ≡ leaders → AreLeadersOf problem leaders
+    → IfOk result (λ c. AllZip (λ own d. IsReducedRow p shown own.column own.row.items (row d)) shown (items c)) →
+    IfOk result (λ c. IsRref problem.modulus problem.m (rows_of problem) (map row (items c)))
 problem_rref problem p shown leaders (Err e) items row is same h z = tt
 problem_rref problem p shown leaders (Ok c) items row is same h z =
     let q = problem.modulus in

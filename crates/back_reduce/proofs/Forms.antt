@@ -13,7 +13,8 @@ abbrev pub IsFormFrom : ℕ → ℕ → List ℕ → List (List ℕ) → Type 0
 IsFormFrom m a [] [] = Unit {0}
 IsFormFrom m a [] (r ∷ rs) = ⊥
 IsFormFrom m a (c ∷ cs) [] = ⊥
-IsFormFrom m a (c ∷ cs) (r ∷ rs) = (a ≤ c) × (c < m) × (get_or r c 0 ≡ 1) × ((k : ℕ) → k < c → get_or r k 0 ≡ 0) × All (λ d. get_or r d 0 ≡ 0) cs × IsFormFrom m (c + 1) cs rs
+IsFormFrom m a (c ∷ cs) (r ∷ rs) = (a ≤ c) × (c < m) × (get_or r c 0 ≡ 1) × ((k : ℕ) → k < c → get_or r k 0 ≡ 0)
+    × All (λ d. get_or r d 0 ≡ 0) cs × IsFormFrom m (c + 1) cs rs
 
 pub form_later : (m a b : ℕ) (cs : List ℕ) (rs : List (List ℕ)) → b ≤ a → IsFormFrom m a cs rs → IsFormFrom m b cs rs
 form_later m a b [] [] le h = tt
@@ -35,14 +36,20 @@ module _ (p : ℕ) (modulus : IsFieldModulus p) where
   zero_before m a x [] [] lt h = tt
   zero_before m a x [] (r ∷ rs) lt h = absurd h
   zero_before m a x (c ∷ cs) [] lt h = absurd h
-  zero_before m a x (c ∷ cs) (r ∷ rs) lt h = (vec-zero p modulus r x (h.3 x (omega (arith, lt, h.0))), zero_before m (c + 1) x cs rs (omega (arith, lt, h.0)) h.5)
+  zero_before m a x (c ∷ cs) (r ∷ rs) lt h = (
+    vec-zero p modulus r x (h.3 x (omega (arith, lt, h.0))),
+    zero_before m (c + 1) x cs rs (omega (arith, lt, h.0)) h.5,
+  )
 
-  zero_at_leads : (m a : ℕ) (r : List ℕ) (cs : List ℕ) (rs : List (List ℕ)) → All (λ d. get_or r d 0 ≡ 0) cs → IsFormFrom m a cs rs → IsZeroAtLeads Kf ℕ (vec p modulus r) (led cs rs)
+  zero_at_leads : (m a : ℕ) (r : List ℕ) (cs : List ℕ) (rs : List (List ℕ)) → All (λ d. get_or r d 0 ≡ 0) cs → IsFormFrom m a cs rs →
+      IsZeroAtLeads Kf ℕ (vec p modulus r) (led cs rs)
   zero_at_leads m a r [] [] z h = tt
   zero_at_leads m a r [] (s ∷ rs) z h = absurd h
   zero_at_leads m a r (c ∷ cs) [] z h = absurd h
-  zero_at_leads m a r (c ∷ cs) (s ∷ rs) z h =
-      (vec-zero p modulus r c (All-head (λ (d : ℕ). get_or r d 0 ≡ 0) c cs z), zero_at_leads m (c + 1) r cs rs (All-tail (λ (d : ℕ). get_or r d 0 ≡ 0) c cs z) h.5)
+  zero_at_leads m a r (c ∷ cs) (s ∷ rs) z h = (
+    vec-zero p modulus r c (All-head (λ (d : ℕ). get_or r d 0 ≡ 0) c cs z),
+    zero_at_leads m (c + 1) r cs rs (All-tail (λ (d : ℕ). get_or r d 0 ≡ 0) c cs z) h.5,
+  )
 
   pub reduced_from : (n m a : ℕ) (cs : List ℕ) (rs : List (List ℕ)) → a + n ≡ m → IsFormFrom m a cs rs → IsReduced Kf ℕ (range_with_len a n) (led cs rs)
   reduced_from zero m a [] [] e h = done
@@ -57,7 +64,8 @@ module _ (p : ℕ) (modulus : IsFieldModulus p) where
         let rest : IsFormFrom m (a + 1) cs rs = form_later m (c + 1) (a + 1) cs rs (omega (arith, is)) h.5 in
         let one : vec p modulus r a ≡ Kf.one = vec-one p modulus r a (ap (λ (i : ℕ). get_or r i 0) (sym is) ∙ h.2) in
         let P : ℕ → Type 0 = λ i. IsReduced Kf ℕ (a ∷ range_with_len (a + 1) n) ((i, vec p modulus r) ∷ led cs rs) in
-        subst P (sym is) (lead a (range_with_len (a + 1) n) (vec p modulus r) (led cs rs) one (zero_before m (a + 1) a cs rs (omega arith) rest) (zero_at_leads m (c + 1) r cs rs h.4 h.5)
+        subst P (sym is) (lead a (range_with_len (a + 1) n) (vec p modulus r) (led cs rs) one
+        (zero_before m (a + 1) a cs rs (omega arith) rest) (zero_at_leads m (c + 1) r cs rs h.4 h.5)
         (reduced_from n m (a + 1) cs rs (omega (arith, e)) rest))
     | inr other ↦
         let le : a + 1 ≤ c = omega (arith, h.0, other) in

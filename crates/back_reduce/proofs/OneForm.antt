@@ -1,5 +1,6 @@
 -- Rows of residues have exactly one reduced row echelon form.
-use Rattle.std.proofs.Common.{◌≡◌, ◌+◌, ◌*◌, ◌%◌, ◌<◌, ◌≤◌, ℕ, zero, suc, List, [], ◌∷◌, All, map, length, get_or, zip, refl, sym, ap, ap₂, ◌∙◌, inl, inr, arith, subst}
+use Rattle.std.proofs.Common.{◌≡◌, ◌+◌, ◌*◌, ◌%◌, ◌<◌, ◌≤◌, ℕ, zero, suc, List, [], ◌∷◌, All, map, length, get_or, zip, refl, sym, ap, ap₂, ◌∙◌, inl}
+use Rattle.std.proofs.Common.{inr, arith, subst}
 use Rattle.std.specs.List.{range_with_len}
 use Rattle.std.proofs.Math.Nat.{mod-eq_of_lt, mul_assoc, mul_comm, mul-one, one-mul}
 use Rattle.std.proofs.lemmas.Nat.{mul-mod_first, mul-mod_second}
@@ -53,7 +54,8 @@ module _ (p m : ℕ) (modulus : IsFieldModulus p) where
         let size : length r.0 ≡ m = (All-contains (IsRow p m) rows r.0 are r.1).size in
         ap (λ (u : Vo). u c) r.2 ∙ vec-past p modulus r.0 c (omega (arith, size, beyond)))) v s
 
-    same_pairs : (es : List (ℕ × Vo)) → AreInSpan Ko ℕ (map (vec p modulus) rows) es → zip (map (λ e. e.0) es) (map (vec p modulus) (map (λ e. entries e.1) es)) ≡ es
+    same_pairs : (es : List (ℕ × Vo)) → AreInSpan Ko ℕ (map (vec p modulus) rows) es →
+        zip (map (λ e. e.0) es) (map (vec p modulus) (map (λ e. entries e.1) es)) ≡ es
     same_pairs [] s = refl
     same_pairs (e ∷ es) s = λ i. (e.0, λ c. vec-entries e.1 (member_past e.1 s.0) c i) ∷ same_pairs es s.1 i
 
@@ -75,7 +77,8 @@ module _ (p m : ℕ) (modulus : IsFieldModulus p) where
       let both : vec p modulus r i ≡ vec p modulus s i = same_at 0 m i (vec p modulus r) (vec p modulus s) e (omega arith) (omega (arith, within, h.size)) in
       sym first ∙ ap (λ (x : Ko.F). x.0) both ∙ second))
 
-  same_rows : (cs : List ℕ) (rs : List (List ℕ)) (ds : List ℕ) (ss : List (List ℕ)) → length cs ≡ length rs → length ds ≡ length ss → All (IsRow p m) rs → All (IsRow p m) ss
+  same_rows : (cs : List ℕ) (rs : List (List ℕ)) (ds : List ℕ) (ss : List (List ℕ)) → length cs ≡ length rs → length ds ≡ length ss →
+      All (IsRow p m) rs → All (IsRow p m) ss
       → AreSameRows Ko ℕ (range_with_len 0 m) (zip cs (map (vec p modulus) rs)) (zip ds (map (vec p modulus) ss)) → rs ≡ ss
   same_rows [] [] [] [] l k h g e = refl
   same_rows [] [] [] (s ∷ ss) l k h g e = absurd (omega (arith, k))
@@ -99,7 +102,8 @@ module _ (p m : ℕ) (modulus : IsFieldModulus p) where
 -- a residue has one inverse
 one_inverse : (p a b c : ℕ) → b < p → c < p → (a * b) % p ≡ 1 → (a * c) % p ≡ 1 → b ≡ c
 one_inverse p a b c lb lc eb ec =
-    let left : (b * (a * c)) % p ≡ b = sym (mul-mod_second b (a * c) p) ∙ ap (λ (n : ℕ). (b * n) % p) ec ∙ ap (λ (n : ℕ). n % p) (mul-one b) ∙ mod-eq_of_lt lb in
+    let left : (b * (a * c)) % p ≡ b = sym (mul-mod_second b (a * c) p) ∙ ap (λ (n : ℕ). (b * n) % p) ec ∙ ap (λ (n : ℕ). n % p) (mul-one b)
+    ∙ mod-eq_of_lt lb in
     let right : (a * b * c) % p ≡ c = sym (mul-mod_first (a * b) c p) ∙ ap (λ (n : ℕ). (n * c) % p) eb ∙ ap (λ (n : ℕ). n % p) (one-mul c) ∙ mod-eq_of_lt lc in
     sym left ∙ ap (λ (n : ℕ). n % p) (sym (mul_assoc b a c) ∙ ap (λ (n : ℕ). n * c) (mul_comm b a)) ∙ right
 
@@ -113,7 +117,8 @@ same_inverse p a x y =
 -- so the proofs that a number is a field modulus are one
 one_modulus : (p : ℕ) (f g : IsFieldModulus p) → f ≡ g
 one_modulus p f g =
-    let inverse : (a : ℕ) (pos : 0 < a) (lt : a < p) → f.has_inverse a pos lt ≡ g.has_inverse a pos lt = λ a pos lt. same_inverse p a (f.has_inverse a pos lt) (g.has_inverse a pos lt) in
+    let inverse : (a : ℕ) (pos : 0 < a) (lt : a < p) → f.has_inverse a pos lt ≡ g.has_inverse a pos lt =
+    λ a pos lt. same_inverse p a (f.has_inverse a pos lt) (g.has_inverse a pos lt) in
     let prop : IsProp (2 ≤ p) = hlevel props in
     let two : f.two_or_more ≡ g.two_or_more = prop f.two_or_more g.two_or_more in
     λ i. record { two_or_more = two i; has_inverse = λ a pos lt. inverse a pos lt i }
@@ -127,6 +132,7 @@ has_one_rref p m rows modulus are =
       each = All-map (IsRow p m) (λ e. entries p m modulus e.1) found.0 (λ k d within. is_row p m modulus (get_or found.0 k d).1);
       leads = leads;
       count = length-map found.0 (λ e. e.0) ∙ sym (length-map found.0 (λ e. entries p m modulus e.1));
-      basis = λ other. subst (λ (f : IsFieldModulus p). IsBasis (K p f) ℕ (range_with_len 0 m) (map (vec p f) rows) (zip leads (map (vec p f) echelon))) (one_modulus p modulus other) (basis_lists p m modulus rows are found.0 found.1);
+      basis = λ other. subst (λ (f : IsFieldModulus p). IsBasis (K p f) ℕ (range_with_len 0 m) (map (vec p f) rows)
+          (zip leads (map (vec p f) echelon))) (one_modulus p modulus other) (basis_lists p m modulus rows are found.0 found.1);
     } in
     record { echelon = echelon; form = form; one = λ other h. one_rref p m modulus rows echelon other form h }

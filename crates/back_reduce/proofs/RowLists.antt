@@ -1,5 +1,6 @@
 -- The rows of a problem, and held rows, as lists and one by one.
-use Rattle.std.proofs.Common.{◌≡◌, ◌+◌, ◌*◌, ◌<◌, ◌≤◌, ℕ, zero, suc, List, [], ◌∷◌, ◌++◌, All, Option, None, Some, map, length, drop, refl, sym, ap, ◌∙◌, inl, inr, arith, subst}
+use Rattle.std.proofs.Common.{◌≡◌, ◌+◌, ◌*◌, ◌<◌, ◌≤◌, ℕ, zero, suc, List, [], ◌∷◌, ◌++◌, All, Option, None, Some, map, length, drop, refl, sym, ap}
+use Rattle.std.proofs.Common.{◌∙◌, inl, inr, arith, subst}
 use Rattle.std.specs.List.{flat_map, range_with_len}
 use Rattle.std.proofs.lemmas.Bool.{cases_eq}
 use Rattle.std.proofs.lemmas.List.{length-drop, length-take-le}
@@ -69,7 +70,8 @@ module _ (p : ℕ) (modulus : IsFieldModulus p) where
       held_from : (a n c r : ℕ) → a ≤ c → c < a + n → holder c ≡ Some r → OneOf (map g (columns_from a n)) (vec p modulus (g c))
       held_from a zero c r le lt e = absurd (omega (arith, le, lt))
       held_from a (suc n) c r le lt e = elim (cases_eq c a) [
-        | inl is ↦ subst (λ (i : ℕ). OneOf (map g (columns_from a (suc n))) (vec p modulus (g i))) (sym is) (first_held a r n (holder a) (ap holder (sym is) ∙ e))
+        | inl is ↦ subst (λ (i : ℕ). OneOf (map g (columns_from a (suc n))) (vec p modulus (g i))) (sym is)
+            (first_held a r n (holder a) (ap holder (sym is) ∙ e))
         | inr other ↦ later_held a n (holder a) (vec p modulus (g c)) (held_from (a + 1) n c r (omega (arith, le, other)) (omega (arith, lt)) e)
       ]
 
@@ -85,7 +87,8 @@ module _ (p : ℕ) (modulus : IsFieldModulus p) where
       from_later : (a n : ℕ) (v : Vr) → IsFrom (a + 1) n v → IsFrom a (suc n) v
       from_later a n v h = record { column = h.column; holds = h.holds; from = omega (arith, h.from); below = omega (arith, h.below); held = h.held; is = h.is }
 
-      mutual_step : (a n : ℕ) (x : Option ℕ) (v : Vr) → holder a ≡ x → (OneOf (map g (columns_from (a + 1) n)) v → IsFrom (a + 1) n v) → OneOf (map g (where_held x a ++ columns_from (a + 1) n)) v → IsFrom a (suc n) v
+      mutual_step : (a n : ℕ) (x : Option ℕ) (v : Vr) → holder a ≡ x → (OneOf (map g (columns_from (a + 1) n)) v → IsFrom (a + 1) n v) →
+          OneOf (map g (where_held x a ++ columns_from (a + 1) n)) v → IsFrom a (suc n) v
       mutual_step a n None v e k h = from_later a n v (k h)
       mutual_step a n (Some r) v e k (inl is) = record { column = a; holds = r; from = omega arith; below = omega arith; held = e; is = is }
       mutual_step a n (Some r) v e k (inr h) = from_later a n v (k h)
@@ -98,11 +101,13 @@ module _ (p : ℕ) (modulus : IsFieldModulus p) where
   pub problem_row : (problem : Problem) (k : ℕ) → k < problem.n → OneOf (rows_of problem) (vec p modulus (row_of problem.m problem.cells.items k))
   problem_row problem k lt = one_of_range (row_of problem.m problem.cells.items) 0 problem.n k (omega arith) (omega arith)
 
-  pub row_problem : (problem : Problem) (v : Vr) → OneOf (rows_of problem) v → (k : ℕ) × (k < problem.n) × (v ≡ vec p modulus (row_of problem.m problem.cells.items k))
+  pub row_problem : (problem : Problem) (v : Vr) → OneOf (rows_of problem) v →
+      (k : ℕ) × (k < problem.n) × (v ≡ vec p modulus (row_of problem.m problem.cells.items k))
   row_problem problem v h = let r = range_one_of (row_of problem.m problem.cells.items) 0 problem.n v h in (r.0, omega (arith, r.2), r.3)
 
   -- the held rows one by one
-  pub one_held : (m : ℕ) (holder : ℕ → Option ℕ) (value : ℕ → ℕ → ℕ) (c r : ℕ) → c < m → holder c ≡ Some r → OneOf (held_rows m holder value) (vec p modulus (held_row m value c))
+  pub one_held : (m : ℕ) (holder : ℕ → Option ℕ) (value : ℕ → ℕ → ℕ) (c r : ℕ) → c < m → holder c ≡ Some r →
+      OneOf (held_rows m holder value) (vec p modulus (held_row m value c))
   one_held m holder value c r lt e = held_from (held_row m value) holder 0 m c r (omega arith) (omega arith) e
 
   pub held_one : (m : ℕ) (holder : ℕ → Option ℕ) (value : ℕ → ℕ → ℕ) (v : Vr) → OneOf (held_rows m holder value) v → IsFrom (held_row m value) holder 0 m v

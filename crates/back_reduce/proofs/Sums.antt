@@ -22,14 +22,20 @@ module _ (p : ℕ) (modulus : IsFieldModulus p) where
 
   module _ (P : Vp → Type 0) where
     pub plus_nothing : (row now : List ℕ) → now ≡ row → IsPlusSum p modulus P row now
-    plus_nothing row now e = record { rest = λ c. Kp.zero; inside = IsInSpan-zero Kp ℕ P; sum = λ c. ap (λ (r : List ℕ). vec p modulus r c) e ∙ sym (Kp.add_zero (vec p modulus row c)) }
+    plus_nothing row now e = record {
+      rest = λ c. Kp.zero;
+      inside = IsInSpan-zero Kp ℕ P;
+      sum = λ c. ap (λ (r : List ℕ). vec p modulus r c) e ∙ sym (Kp.add_zero (vec p modulus row c));
+    }
 
     -- one more multiple
-    pub plus_more : (a : ℕ) (row now next pivot : List ℕ) → length now ≡ length pivot → next ≡ plus_multiple p a now pivot → IsInSpan Kp ℕ P (vec p modulus pivot)
+    pub plus_more : (a : ℕ) (row now next pivot : List ℕ) → length now ≡ length pivot → next ≡ plus_multiple p a now pivot →
+        IsInSpan Kp ℕ P (vec p modulus pivot)
         → IsPlusSum p modulus P row now → IsPlusSum p modulus P row next
     plus_more a row now next pivot l e inside s = record {
       rest = λ c. Kp.add (s.rest c) (Kp.mul (res p modulus a) (vec p modulus pivot c));
-      inside = IsInSpan-add Kp ℕ P s.rest (λ c. Kp.mul (res p modulus a) (vec p modulus pivot c)) s.inside (IsInSpan-scaled Kp ℕ P (res p modulus a) (vec p modulus pivot) inside);
+      inside = IsInSpan-add Kp ℕ P s.rest (λ c. Kp.mul (res p modulus a) (vec p modulus pivot c)) s.inside
+          (IsInSpan-scaled Kp ℕ P (res p modulus a) (vec p modulus pivot) inside);
       sum = λ c. ap (λ (r : List ℕ). vec p modulus r c) e ∙ vec-plus p modulus a now pivot l c
           ∙ ap (λ (n : Kp.F). Kp.add n (Kp.mul (res p modulus a) (vec p modulus pivot c))) (s.sum c)
           ∙ Kp.add_assoc (vec p modulus row c) (s.rest c) (Kp.mul (res p modulus a) (vec p modulus pivot c));

@@ -1,5 +1,6 @@
 -- Two rows in the other order have the same pivots.
-use Rattle.std.proofs.Common.{◌≡◌, ◌↔◌, ◌-◌, ◌*◌, ◌++◌, ℕ, List, [], ◌∷◌, Option, None, Some, map, length, take, drop, refl, sym, ap, ◌∙◌, inl, inr, arith, subst}
+use Rattle.std.proofs.Common.{◌≡◌, ◌↔◌, ◌-◌, ◌*◌, ◌++◌, ℕ, List, [], ◌∷◌, Option, None, Some, map, length, take, drop, refl, sym, ap, ◌∙◌, inl, inr}
+use Rattle.std.proofs.Common.{arith, subst}
 use Rattle.std.specs.List.{flat_map, range_with_len}
 use Rattle.std.specs.Option.{option_map}
 use Rattle.std.proofs.lemmas.List.{drop_at, take_all, take_at}
@@ -34,8 +35,10 @@ free : (x : Option ℕ) → option_map (λ r. 1 - r) x ≡ None → x ≡ None
 free None e = refl
 free (Some q) e = cc e
 
-other_order : (p : ℕ) (modulus : IsFieldModulus p) (r s : List ℕ) (v : ResidueVector p modulus ℕ) → IsInRowSpan p modulus (r ∷ s ∷ []) v → IsInRowSpan p modulus (s ∷ r ∷ []) v
-other_order p modulus r s v = IsInSpan-trans (K p modulus) ℕ (OneOf p modulus (r ∷ s ∷ [])) (OneOf p modulus (s ∷ r ∷ [])) (λ u one. IsInSpan-one (K p modulus) ℕ (OneOf p modulus (s ∷ r ∷ [])) u (turned u one)) v
+other_order : (p : ℕ) (modulus : IsFieldModulus p) (r s : List ℕ) (v : ResidueVector p modulus ℕ) → IsInRowSpan p modulus (r ∷ s ∷ []) v →
+    IsInRowSpan p modulus (s ∷ r ∷ []) v
+other_order p modulus r s v = IsInSpan-trans (K p modulus) ℕ (OneOf p modulus (r ∷ s ∷ [])) (OneOf p modulus (s ∷ r ∷ []))
+    (λ u one. IsInSpan-one (K p modulus) ℕ (OneOf p modulus (s ∷ r ∷ [])) u (turned u one)) v
   where
     turned : (u : V p modulus) → OneOf p modulus (r ∷ s ∷ []) u → OneOf p modulus (s ∷ r ∷ []) u
     turned u (inl e) = inr (inl e)
@@ -45,7 +48,8 @@ other_order p modulus r s v = IsInSpan-trans (K p modulus) ℕ (OneOf p modulus 
 two_rows : (problem : Problem) (m : ℕ) → problem.m ≡ m → problem.n ≡ 2 → rows_of problem ≡ row_of m problem.cells.items 0 ∷ row_of m problem.cells.items 1 ∷ []
 two_rows problem m width two = λ i. map (row_of (width i) problem.cells.items) (range_with_len 0 (two i))
 
-pub swapped_are : (problem other : Problem) (holder : ℕ → Option ℕ) (value : ℕ → ℕ → ℕ) → AreSwapped problem other → ArePivots other holder value → ArePivots problem (other_holder holder) value
+pub swapped_are : (problem other : Problem) (holder : ℕ → Option ℕ) (value : ℕ → ℕ → ℕ) → AreSwapped problem other →
+    ArePivots other holder value → ArePivots problem (other_holder holder) value
 swapped_are problem other holder value s h =
     let m = problem.m in
     let row = row_of m problem.cells.items in
@@ -53,10 +57,13 @@ swapped_are problem other holder value s h =
     let own : rows_of problem ≡ row 0 ∷ row 1 ∷ [] = two_rows problem m refl s.two in
     let held : held_rows m (other_holder holder) value ≡ held_rows other.m holder value =
     ap (map (held_row m value)) (same_columns m holder) ∙ ap (λ (n : ℕ). held_rows n holder value) (sym s.width) in
-    let SameSpan : ℕ → List (List ℕ) → List (List ℕ) → Type 0 = λ q A B. (modulus : IsFieldModulus q) (v : ResidueVector q modulus ℕ) → IsInRowSpan q modulus A v ↔ IsInRowSpan q modulus B v in
-    let spans : SameSpan problem.modulus (held_rows other.m holder value) (rows_of other) = subst (λ (q : ℕ). SameSpan q (held_rows other.m holder value) (rows_of other)) s.modulus h.span in
+    let SameSpan : ℕ → List (List ℕ) → List (List ℕ) → Type 0 = λ q A B. (modulus : IsFieldModulus q) (v : ResidueVector q modulus ℕ) →
+    IsInRowSpan q modulus A v ↔ IsInRowSpan q modulus B v in
+    let spans : SameSpan problem.modulus (held_rows other.m holder value) (rows_of other) =
+    subst (λ (q : ℕ). SameSpan q (held_rows other.m holder value) (rows_of other)) s.modulus h.span in
     let shown : SameSpan problem.modulus (held_rows m (other_holder holder) value) (row 1 ∷ row 0 ∷ []) =
-    subst (λ (l : List (List ℕ)). SameSpan problem.modulus l (row 1 ∷ row 0 ∷ [])) (sym held) (subst (SameSpan problem.modulus (held_rows other.m holder value)) rows spans) in
+    subst (λ (l : List (List ℕ)). SameSpan problem.modulus l (row 1 ∷ row 0 ∷ [])) (sym held)
+    (subst (SameSpan problem.modulus (held_rows other.m holder value)) rows spans) in
     record {
       each = λ c r lt e. known (holder c) r e (λ q is turned. (
           let k = h.each c q (omega (arith, lt, s.width)) is in
@@ -83,9 +90,11 @@ first_row : (f s : List ℕ) (m : ℕ) → m ≡ length f → row_of m (f ++ s) 
 first_row f s m e = let none : 0 * m ≡ 0 = omega arith in ap (λ (n : ℕ). take m (drop n (f ++ s))) none ∙ take_at f s m (sym e)
 
 second_row : (f s : List ℕ) (m : ℕ) → m ≡ length f → length s ≡ length f → row_of m (f ++ s) 1 ≡ s
-second_row f s m e l = let one : 1 * m ≡ m = omega arith in ap (λ (n : ℕ). take m (drop n (f ++ s))) one ∙ ap (take m) (drop_at f s m (sym e)) ∙ take_all m s (omega (arith, e, l))
+second_row f s m e l = let one : 1 * m ≡ m = omega arith in ap (λ (n : ℕ). take m (drop n (f ++ s))) one
+    ∙ ap (take m) (drop_at f s m (sym e)) ∙ take_all m s (omega (arith, e, l))
 
-pub stacked_are_swapped : (p : ℕ) (problem other : Problem) (f s : List ℕ) → length s ≡ length f → IsStacked p problem f s → IsStacked p other s f → AreSwapped problem other
+pub stacked_are_swapped : (p : ℕ) (problem other : Problem) (f s : List ℕ) → length s ≡ length f → IsStacked p problem f s →
+    IsStacked p other s f → AreSwapped problem other
 stacked_are_swapped p problem other f s l h k =
     let m = problem.m in
     let wide : m ≡ length s = omega (arith, h.width, l) in
@@ -95,5 +104,6 @@ stacked_are_swapped p problem other f s l h k =
       two = h.two;
       two_others = k.two;
       first = ap (λ (c : List ℕ). row_of m c 0) k.cells ∙ first_row s f m wide ∙ sym (ap (λ (c : List ℕ). row_of m c 1) h.cells ∙ second_row f s m h.width l);
-      second = ap (λ (c : List ℕ). row_of m c 1) k.cells ∙ second_row s f m wide (sym l) ∙ sym (ap (λ (c : List ℕ). row_of m c 0) h.cells ∙ first_row f s m h.width);
+      second = ap (λ (c : List ℕ). row_of m c 1) k.cells ∙ second_row s f m wide (sym l)
+          ∙ sym (ap (λ (c : List ℕ). row_of m c 0) h.cells ∙ first_row f s m h.width);
     }

@@ -1,8 +1,10 @@
 -- Rows as vectors, and multiples of rows added to others.
-use Rattle.std.proofs.Common.{◌≡◌, ◌≢◌, ◌+◌, ◌-◌, ◌*◌, ◌%◌, ◌<◌, ℕ, zero, suc, List, [], ◌∷◌, ◌++◌, All, drop, map, length, get_or, take, refl, sym, ap, ap₂, ◌∙◌, inl, inr, arith, length-append, mul-zero, mul-one, add-zero}
+use Rattle.std.proofs.Common.{◌≡◌, ◌≢◌, ◌+◌, ◌-◌, ◌*◌, ◌%◌, ◌<◌, ℕ, zero, suc, List, [], ◌∷◌, ◌++◌, All, drop, map, length, get_or, take, refl, sym}
+use Rattle.std.proofs.Common.{ap, ap₂, ◌∙◌, inl, inr, arith, length-append, mul-zero, mul-one, add-zero}
 use Rattle.std.proofs.Math.Nat.{add-mod, mod-eq_of_lt, mod-mod, mod_self, zero-mod}
 use Rattle.std.proofs.lemmas.Bool.{cases_lt}
-use Rattle.std.proofs.lemmas.List.{append-nil, drop_all, get_or_append_left, get_or-append_right, get_or-drop, get_or_past, get_or-take, length-drop, length-take-le, take_all}
+use Rattle.std.proofs.lemmas.List.{append-nil, drop_all, get_or_append_left, get_or-append_right, get_or-drop, get_or_past, get_or-take, length-drop}
+use Rattle.std.proofs.lemmas.List.{length-take-le, take_all}
 use Rattle.std.proofs.lemmas.Nat.{mul-mod}
 use borrow.Rule.Slice.PartMut.{put_mid}
 use Rattle.field_table.proofs.Multiples.{plus_multiple_by_places}
@@ -17,7 +19,8 @@ length-plus_multiple p a [] x = refl
 length-plus_multiple p a (r ∷ y) [] = refl
 length-plus_multiple p a (r ∷ y) (s ∷ x) = ap suc (length-plus_multiple p a y x)
 
-pub plus_multiple-at : (p a : ℕ) (y x : List ℕ) (k : ℕ) → length y ≡ length x → k < length y → get_or (plus_multiple p a y x) k 0 ≡ (get_or y k 0 + a * get_or x k 0) % p
+pub plus_multiple-at : (p a : ℕ) (y x : List ℕ) (k : ℕ) → length y ≡ length x → k < length y →
+    get_or (plus_multiple p a y x) k 0 ≡ (get_or y k 0 + a * get_or x k 0) % p
 plus_multiple-at p a [] x k l within = absurd (omega (arith, within))
 plus_multiple-at p a (r ∷ y) [] k l within = absurd (omega (arith, l))
 plus_multiple-at p a (r ∷ y) (s ∷ x) zero l within = refl
@@ -33,23 +36,28 @@ leader_within p m c row h = omega (arith, within row c h.one, h.size)
     within (x ∷ xs) (suc k) e = omega (arith, within xs k e)
 
 -- a multiple of a leader changes nothing before its column
-pub kept_entry : (p m a c k : ℕ) (row pivot : List ℕ) → length row ≡ m → All (λ r. r < p) row → IsLeader p m c pivot → k < c → k < m → get_or (plus_multiple p a row pivot) k 0 ≡ get_or row k 0
+pub kept_entry : (p m a c k : ℕ) (row pivot : List ℕ) → length row ≡ m → All (λ r. r < p) row → IsLeader p m c pivot → k < c → k < m →
+    get_or (plus_multiple p a row pivot) k 0 ≡ get_or row k 0
 kept_entry p m a c k row pivot l residues h lt within =
     plus_multiple-at p a row pivot k (l ∙ sym h.size) (omega (arith, within, l))
-    ∙ ap (λ (n : ℕ). (get_or row k 0 + a * n) % p) (h.before k lt) ∙ ap (λ (n : ℕ). (get_or row k 0 + n) % p) (mul-zero a) ∙ ap (λ (n : ℕ). n % p) (add-zero (get_or row k 0))
+    ∙ ap (λ (n : ℕ). (get_or row k 0 + a * n) % p) (h.before k lt) ∙ ap (λ (n : ℕ). (get_or row k 0 + n) % p) (mul-zero a)
+    ∙ ap (λ (n : ℕ). n % p) (add-zero (get_or row k 0))
     ∙ mod-eq_of_lt (residues k 0 (omega (arith, within, l)))
 
 -- the multiple by the negative makes the entry at its column 0
-pub gone_entry : (p m c : ℕ) (row pivot : List ℕ) → length row ≡ m → All (λ r. r < p) row → IsLeader p m c pivot → c < m → get_or row c 0 ≢ 0 → get_or (plus_multiple p (negative_of p (get_or row c 0)) row pivot) c 0 ≡ 0
+pub gone_entry : (p m c : ℕ) (row pivot : List ℕ) → length row ≡ m → All (λ r. r < p) row → IsLeader p m c pivot → c < m →
+    get_or row c 0 ≢ 0 → get_or (plus_multiple p (negative_of p (get_or row c 0)) row pivot) c 0 ≡ 0
 gone_entry p m c row pivot l residues h within other =
     let y = get_or row c 0 in
     let lt : y < p = residues c 0 (omega (arith, within, l)) in
     let negative : (p - y) % p ≡ p - y = mod-eq_of_lt (omega (arith, lt, other)) in
     plus_multiple-at p ((p - y) % p) row pivot c (l ∙ sym h.size) (omega (arith, within, l))
-    ∙ ap (λ (n : ℕ). (y + (p - y) % p * n) % p) h.one ∙ ap (λ (n : ℕ). (y + n) % p) (mul-one ((p - y) % p) ∙ negative) ∙ ap (λ (n : ℕ). n % p) (omega (arith, lt)) ∙ mod_self p
+    ∙ ap (λ (n : ℕ). (y + (p - y) % p * n) % p) h.one ∙ ap (λ (n : ℕ). (y + n) % p) (mul-one ((p - y) % p) ∙ negative)
+    ∙ ap (λ (n : ℕ). n % p) (omega (arith, lt)) ∙ mod_self p
 
 -- what is added from the column of a leader on is added to the whole
-pub added_from : (p a at k j : ℕ) (row leader rest : List ℕ) → All (λ r. r < p) row → IsLeader p (length row) at leader → k ≡ length row - at → j ≡ length leader - at
+pub added_from : (p a at k j : ℕ) (row leader rest : List ℕ) → All (λ r. r < p) row → IsLeader p (length row) at leader →
+    k ≡ length row - at → j ≡ length leader - at
     → rest ≡ plus_multiple p a (take k (drop at row)) (take j (drop at leader)) → put_mid at k row rest ≡ plus_multiple p a row leader
 added_from p a at k j row leader rest residues h left right is =
     let within : at < length row = leader_within p (length row) at leader h in
@@ -59,17 +67,27 @@ added_from p a at k j row leader rest residues h left right is =
     let same : length (drop at row) ≡ length (drop at leader) = length-drop at row ∙ ap (λ (n : ℕ). n - at) (sym h.size) ∙ sym (length-drop at leader) in
     let sums : rest ≡ plus_multiple p a (drop at row) (drop at leader) = is ∙ ap₂ (plus_multiple p a) left_whole right_whole in
     let front : length (take at row) ≡ at = length-take-le at row (omega (arith, within)) in
-    let long : length (take at row ++ rest) ≡ length row = omega (arith, length-append (take at row) rest, front, ap length sums, length-plus_multiple p a (drop at row) (drop at leader), length-drop at row, within) in
+    let long : length (take at row ++ rest) ≡ length row = omega (
+      arith,
+      length-append (take at row) rest,
+      front,
+      ap length sums,
+      length-plus_multiple p a (drop at row) (drop at leader),
+      length-drop at row,
+      within,
+    ) in
     ap (λ (z : List ℕ). take at row ++ (rest ++ z)) none ∙ ap (λ (z : List ℕ). take at row ++ z) (append-nil rest)
     ∙ plus_multiple_by_places p a row leader (take at row ++ rest) long (sym h.size) (λ i inside. elim (cases_lt i at) [
       | inl before ↦ get_or_append_left (take at row) rest 0 i (omega (arith, before, front)) ∙ get_or-take at row i 0 before
-          ∙ sym (ap (λ (n : ℕ). (get_or row i 0 + a * n) % p) (h.before i before) ∙ ap (λ (n : ℕ). (get_or row i 0 + n) % p) (mul-zero a) ∙ ap (λ (n : ℕ). n % p) (add-zero (get_or row i 0)) ∙ mod-eq_of_lt (residues i 0 inside))
+          ∙ sym (ap (λ (n : ℕ). (get_or row i 0 + a * n) % p) (h.before i before) ∙ ap (λ (n : ℕ). (get_or row i 0 + n) % p) (mul-zero a)
+          ∙ ap (λ (n : ℕ). n % p) (add-zero (get_or row i 0)) ∙ mod-eq_of_lt (residues i 0 inside))
       | inr from ↦ (
           let n = i - at in
           let shown : at + n ≡ i = omega (arith, from) in
           get_or-append_right (take at row) rest at i 0 front from ∙ ap (λ (r : List ℕ). get_or r n 0) sums
           ∙ plus_multiple-at p a (drop at row) (drop at leader) n same (omega (arith, length-drop at row, from, inside))
-          ∙ ap₂ (λ (r s : ℕ). (r + a * s) % p) (get_or-drop at row n 0 ∙ ap (λ (m : ℕ). get_or row m 0) shown) (get_or-drop at leader n 0 ∙ ap (λ (m : ℕ). get_or leader m 0) shown))
+          ∙ ap₂ (λ (r s : ℕ). (r + a * s) % p) (get_or-drop at row n 0 ∙ ap (λ (m : ℕ). get_or row m 0) shown)
+          (get_or-drop at leader n 0 ∙ ap (λ (m : ℕ). get_or leader m 0) shown))
     ])
 
 entry-plus : (p a : ℕ) (y x : List ℕ) (c : ℕ) → length y ≡ length x → get_or (plus_multiple p a y x) c 0 % p ≡ (get_or y c 0 + a * get_or x c 0) % p
@@ -101,7 +119,8 @@ module _ (p : ℕ) (modulus : IsFieldModulus p) where
   vec row = vector p modulus row
 
   pub vec-plus : (a : ℕ) (y x : List ℕ) → length y ≡ length x → (c : ℕ) → vec (plus_multiple p a y x) c ≡ K.add (vec y c) (K.mul (res a) (vec x c))
-  vec-plus a y x l c = same_residue p _ _ (entry-plus p a y x c l ∙ add-mod (get_or y c 0) (a * get_or x c 0) p ∙ ap (λ (n : ℕ). (get_or y c 0 % p + n) % p) (mul-mod a (get_or x c 0) p))
+  vec-plus a y x l c = same_residue p _ _ (entry-plus p a y x c l ∙ add-mod (get_or y c 0) (a * get_or x c 0) p
+      ∙ ap (λ (n : ℕ). (get_or y c 0 % p + n) % p) (mul-mod a (get_or x c 0) p))
 
   pub vec-scaled : (a : ℕ) (row : List ℕ) (c : ℕ) → vec (map (λ r. product_of p a r) row) c ≡ K.mul (res a) (vec row c)
   vec-scaled a row c = same_residue p _ _ (

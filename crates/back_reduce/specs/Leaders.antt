@@ -17,7 +17,8 @@ pub record AreLeaders (p m : ℕ) (leaders : List Leader) : Type 0 where
 pub record AreLeadersOf (problem : Problem) (leaders : List Leader) : Type 0 where
   pub are : AreLeaders problem.modulus problem.m leaders
   pub span : (modulus : IsFieldModulus problem.modulus) (v : ResidueVector problem.modulus modulus ℕ)
-      → IsInRowSpan problem.modulus modulus (map (λ l. l.row.items) leaders) v ↔ IsInRowSpan problem.modulus modulus (rows_of problem) v
+      → IsInRowSpan problem.modulus modulus (map (λ l. l.row.items) leaders) v
+      ↔ IsInRowSpan problem.modulus modulus (rows_of problem) v
 
 -- one row and others of its length
 pub record IsLeaderAmong (p : ℕ) (leaders : List Leader) (own : Leader) : Type 0 where
@@ -25,13 +26,15 @@ pub record IsLeaderAmong (p : ℕ) (leaders : List Leader) (own : Leader) : Type
   pub leader : IsLeader p (length own.row.items) own.column own.row.items
 
 -- v is a row of a later column
-pub record IsLaterVector (p : ℕ) (modulus : IsFieldModulus p) (leaders : List Leader) (column : ℕ) (v : ResidueVector p modulus ℕ) : Type 0 where
+pub record IsLaterVector (p : ℕ) (modulus : IsFieldModulus p) (leaders : List Leader) (column : ℕ)
+    (v : ResidueVector p modulus ℕ) : Type 0 where
   pub later : Leader
   pub there : Contains leaders later
   pub after : column < later.column
   pub is : v ≡ vector p modulus later.row.items
 
--- the row now still leads at its column, is 0 at each later column of a leader, and is the row and a sum of multiples of leaders of later columns
+-- the row now still leads at its column, is 0 at each later column of a leader, and is the row and a sum of multiples
+-- of leaders of later columns
 pub record IsReducedRow (p : ℕ) (leaders : List Leader) (column : ℕ) (row now : List ℕ) : Type 0 where
   pub leader : IsLeader p (length row) column now
   pub zero_later : (later : Leader) → Contains leaders later → column < later.column → slice_index now later.column ≡ 0

@@ -31,10 +31,12 @@ pub record IsHolder (p m n : ℕ) (value : ℕ → ℕ) (c r : ℕ) : Type 0 whe
   pub before : (k : ℕ) → k < c → value k ≡ 0
   pub one : value c ≡ 1
 
--- each held column has a row of its own, which is 0 before it and 1 at it, and the held rows have the span of the problem's rows
+-- each held column has a row of its own, which is 0 before it and 1 at it, and the held rows have the span of the
+-- problem's rows
 pub record ArePivots (problem : Problem) (holder : ℕ → Option ℕ) (value : ℕ → ℕ → ℕ) : Type 0 where
   pub each : (c r : ℕ) → c < problem.m → holder c ≡ Some r → IsHolder problem.modulus problem.m problem.n (value c) c r
   pub apart : (c d r : ℕ) → c < problem.m → d < problem.m → holder c ≡ Some r → holder d ≡ Some r → c ≡ d
   pub free : (c k : ℕ) → c < problem.m → k < problem.m → holder c ≡ None → value c k ≡ 0
   pub span : (modulus : IsFieldModulus problem.modulus) (v : ResidueVector problem.modulus modulus ℕ)
-      → IsInRowSpan problem.modulus modulus (held_rows problem.m holder value) v ↔ IsInRowSpan problem.modulus modulus (rows_of problem) v
+      → IsInRowSpan problem.modulus modulus (held_rows problem.m holder value) v
+      ↔ IsInRowSpan problem.modulus modulus (rows_of problem) v

@@ -6,12 +6,15 @@ use Rattle.linear_algebra.specs.Echelon.{IsBasis}
 use Rattle.linear_algebra.specs.Mod.{residue_field}
 use Rattle.back_reduce.specs.Rows.{IsRow, vector}
 
--- rows of m residues with their leading columns, in rising order, each 1 at its own, where the others are 0, with the span of the given rows
+-- rows of m residues with their leading columns, in rising order, each 1 at its own, where the others are 0, with the
+-- span of the given rows
 pub record IsRref (p m : ℕ) (rows echelon : List (List ℕ)) : Type 0 where
   pub each : All (IsRow p m) echelon
   pub leads : List ℕ
   pub count : length leads ≡ length echelon
-  pub basis : (modulus : IsFieldModulus p) → IsBasis (residue_field p modulus) ℕ (range_with_len 0 m) (map (vector p modulus) rows) (zip leads (map (vector p modulus) echelon))
+  pub basis : (modulus : IsFieldModulus p) → IsBasis (residue_field p modulus) ℕ (range_with_len 0 m)
+      (map (vector p modulus) rows)
+      (zip leads (map (vector p modulus) echelon))
 
 -- exactly one list is the reduced row echelon form of rows of m residues
 pub record HasOneRref (p m : ℕ) (rows : List (List ℕ)) : Type 0 where

@@ -77,7 +77,8 @@ fn reduced_rows<R: Threads + Sync>(
     leaders: &[Leader],
 ) -> Result<Vec<Vec<u32>>, NoMemory>
     requires { All (IsLeaderAmong field.now leaders.now) leaders.now }
-    ensures { IfOk result (λ echelon. AllZip (λ own row. IsReducedRow field.now leaders.now own.column own.row.items row.items) leaders.now echelon.items) }
+    ensures { IfOk result (λ echelon. AllZip (λ own row. IsReducedRow field.now leaders.now own.column own.row.items
+        row.items) leaders.now echelon.items) }
 {
     leaders
         .par_iter()
@@ -85,7 +86,8 @@ fn reduced_rows<R: Threads + Sync>(
         .map(
             move |own: &Leader| -> Result<Vec<u32>, NoMemory>
                 requires { IsLeaderAmong field.now leaders.now own.now }
-                ensures { IfOk result (λ row. IsReducedRow field.entry.now leaders.entry.now own.now.column own.now.row.items row.items) }
+                ensures { IfOk result (λ row. IsReducedRow field.entry.now leaders.entry.now own.now.column
+                    own.now.row.items row.items) }
             { reduced_row(alloc, field, leaders, own) },
         )
         .collect::<Result<Vec<Vec<u32>>, NoMemory>>(rt, alloc)?

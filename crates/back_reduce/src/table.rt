@@ -38,7 +38,8 @@ pub(crate) fn free_column(field: &Field, table: &[Option<Held>], row: &mut [u32]
 pub(crate) fn clear_entry(field: &Field, row: &mut [u32], at: usize, leader: &[u32])
     requires row { All (λ r. r < field.now) row.old }
     requires leader { IsLeader field.now (length row.old) at leader.now }
-    ensures sums { row.new ≡ plus_multiple field.now (negative_of field.now (slice_index row.old at)) row.old leader.now }
+    ensures sums { row.new ≡ plus_multiple field.now (negative_of field.now (slice_index row.old at)) row.old
+        leader.now }
     ensures residues { All (λ r. r < field.now) row.new }
 {
     let a = field.neg(row[at]);

@@ -10,11 +10,21 @@ use Rattle.bergman_cli.specs.Normal.{AreAnswers}
 
 module _ (p : ℕ) (letters : Letters) (relations : List (List Term)) where
   -- the answer to one more question stands behind those to the others
-  pub AreAnswers-append : (k : ℕ) (fs : List (List Term)) (text : List ℕ) (f : List Term) (c : Certificate) (n : ℕ) → n ≡ k + length fs → AreAnswers p letters relations k fs text
-      → IsCertificate p letters.weights relations (lead_degree letters.weights f) f c → AreAnswers p letters relations k (fs ++ f ∷ []) (text ++ answer_text letters.names p n c)
+  pub AreAnswers-append : (k : ℕ) (fs : List (List Term)) (text : List ℕ) (f : List Term) (c : Certificate) (n : ℕ) → n ≡ k + length fs →
+      AreAnswers p letters relations k fs text
+      → IsCertificate p letters.weights relations (lead_degree letters.weights f) f c →
+      AreAnswers p letters relations k (fs ++ f ∷ []) (text ++ answer_text letters.names p n c)
   AreAnswers-append k [] text f c n at h is =
-      let same : n ≡ k = omega (arith, at) in
-      (c, is, ([], refl, ap (λ (t : List ℕ). t ++ answer_text letters.names p n c) h ∙ ap (λ (m : ℕ). answer_text letters.names p m c) same ∙ sym (append-nil (answer_text letters.names p k c))))
+      let same : n ≡ k = omega (arith, at) in (
+        c,
+        is,
+        (
+          [],
+          refl,
+          ap (λ (t : List ℕ). t ++ answer_text letters.names p n c) h ∙ ap (λ (m : ℕ). answer_text letters.names p m c) same
+              ∙ sym (append-nil (answer_text letters.names p k c)),
+        ),
+      )
   AreAnswers-append k (g ∷ gs) text f c n at h is =
       let later = AreAnswers-append (suc k) gs h.2.0 f c n (omega (arith, at)) h.2.1 is in (
         h.0,
@@ -22,6 +32,7 @@ module _ (p : ℕ) (letters : Letters) (relations : List (List Term)) where
         (
           h.2.0 ++ answer_text letters.names p n c,
           later,
-          ap (λ (t : List ℕ). t ++ answer_text letters.names p n c) h.2.2 ∙ append_assoc (answer_text letters.names p k h.0) h.2.0 (answer_text letters.names p n c),
+          ap (λ (t : List ℕ). t ++ answer_text letters.names p n c) h.2.2
+              ∙ append_assoc (answer_text letters.names p k h.0) h.2.0 (answer_text letters.names p n c),
         ),
       )

@@ -24,7 +24,8 @@ use Rattle.bergman_cli.specs.Jobs.{IsBuiltCommand, IsBuiltJob, IsUnbuiltCommand,
 use Rattle.bergman_cli.specs.Engines.{IsBuilt}
 use Rattle.bergman_cli.specs.Outcomes.{HasWrittenPart, HasWrittenSome, IsDue, IsOutcome, IsWorkEnd}
 use Rattle.bergman_cli.specs.Run.{Completes, IsCaused, IsDueTo, IsEnd, IsJobEnd, IsMishap, IsUngivenTo, OfGiven, OfWork, ReadsSource}
-use Rattle.bergman_cli.proofs.Given.{fault_mishap, given_input, given_is, input_is, long_mishap, make_or_reads, make_reads_nothing, no_text_fault, one_reading, read_mishap, told_input, ungiven_input}
+use Rattle.bergman_cli.proofs.Given.{fault_mishap, given_input, given_is, input_is, long_mishap, make_or_reads, make_reads_nothing, no_text_fault}
+use Rattle.bergman_cli.proofs.Given.{one_reading, read_mishap, told_input, ungiven_input}
 use Rattle.bergman_cli.proofs.Jobs.{listed, listed_some, no_fault, one_fault, one_job}
 use Rattle.bergman_cli.proofs.Works.{due_is_one, failed_writes, never, outcome_due, work_gained, work_memory, work_write}
 
@@ -107,10 +108,13 @@ module _ (job : Job) (left now : Option (List ℕ)) (b a : ℕ) (held more : Opt
   pub job_reads : (status : Status) → Ends status → ReadsNothing status → ⊥
   job_reads status (inl h) none = ungiven_not job.modulus left now b a job.command status h.0 (not_both_input status none) (λ is. subst ReadsNothing is none)
   job_reads status (inr h) none =
-      never job h.letters h.relations held more room before after job.command status (not_both status none) (λ is. subst ReadsNothing is none) (λ is. subst ReadsNothing is none) h.holds
+      never job h.letters h.relations held more room before after job.command status (not_both status none)
+      (λ is. subst ReadsNothing is none) (λ is. subst ReadsNothing is none) h.holds
 
-  pub job_own : (status : Status) → Ends status → IsOwn status → OfGiven job left now (λ letters relations. HasGained held more (IsOutcome job letters relations status))
-  job_own status (inl h) own = absurd (ungiven_not job.modulus left now b a job.command status h.0 (own_is_not_of_input status own) (own_is_not status NoMemory (λ none. none) own))
+  pub job_own : (status : Status) → Ends status → IsOwn status → OfGiven job left now
+      (λ letters relations. HasGained held more (IsOutcome job letters relations status))
+  job_own status (inl h) own = absurd (ungiven_not job.modulus left now b a job.command status h.0 (own_is_not_of_input status own)
+      (own_is_not status NoMemory (λ none. none) own))
   job_own status (inr h) own = record {
     text = h.text;
     is_given = h.is_given;
@@ -127,7 +131,8 @@ module _ (job : Job) (left now : Option (List ℕ)) (b a : ℕ) (held more : Opt
     | inr reads ↦ (reads, ungiven_input job.modulus left now b a status job.command reads h.0)
   ]
   job_input status (inr h) of =
-      absurd (never job h.letters h.relations held more room before after job.command status (λ own. own_is_not_of_input status own of) (of_input_is_not status WriteFault (λ none. none) of) (of_input_is_not status NoMemory (λ none. none) of) h.holds)
+      absurd (never job h.letters h.relations held more room before after job.command status (λ own. own_is_not_of_input status own of)
+      (of_input_is_not status WriteFault (λ none. none) of) (of_input_is_not status NoMemory (λ none. none) of) h.holds)
 
   pub job_write : Ends WriteFault → Rose before after
   job_write (inl h) = absurd (ungiven_not job.modulus left now b a job.command WriteFault h.0 (λ none. none) (λ is. cc))
@@ -149,7 +154,15 @@ module _ (job : Job) (left now : Option (List ℕ)) (b a : ℕ) (held more : Opt
   job_memory (inl h) = inl h.1
   job_memory (inr h) = elim (work_memory job h.letters h.relations held more room before after job.command h.holds) [
     | inl none ↦ inl none
-    | inr some ↦ inr (record { text = h.text; is_given = h.is_given; letters = h.letters; relations = h.relations; reads = h.reads; setting = h.setting; holds = some })
+    | inr some ↦ inr (record {
+      text = h.text;
+      is_given = h.is_given;
+      letters = h.letters;
+      relations = h.relations;
+      reads = h.reads;
+      setting = h.setting;
+      holds = some;
+    })
   ]
 
 module _ (words : List (List ℕ)) (left now : Option (List ℕ)) (b a : ℕ) (held more : Option (List ℕ)) (room : Option ℕ) (before after : ℕ) where
@@ -187,10 +200,12 @@ module _ (words : List (List ℕ)) (left now : Option (List ℕ)) (b a : ℕ) (h
 
   module _ (status : Status) (end : End status) where
     pub end_own : IsOwn status → OfWork words left now (λ job letters relations. HasGained held more (IsOutcome job letters relations status))
-    end_own own = let e = job_of_end status end (λ none. not_both status none own) in (e.0, e.1, job_own e.0 left now b a held more room before after status e.2 own)
+    end_own own = let e = job_of_end status end (λ none. not_both status none own) in
+        (e.0, e.1, job_own e.0 left now b a held more room before after status e.2 own)
 
     pub end_input : IsOfInput status → OfBuiltJob words (λ job. ReadsSource job.command × IsInputEnd job.modulus left now b a status)
-    end_input of = let e = job_of_end status end (λ none. not_both_input status none of) in (e.0, e.1, job_input e.0 left now b a held more room before after status e.2 of)
+    end_input of = let e = job_of_end status end (λ none. not_both_input status none of) in
+        (e.0, e.1, job_input e.0 left now b a held more room before after status e.2 of)
 
     pub end_write : status ≡ WriteFault → Rose before after
     end_write is = let e = subst End is end in job_write e.0 left now b a held more room before after e.2

@@ -52,9 +52,11 @@ module _ (T : List ℕ → Type 0) (names : ℕ) (weights : List ℕ) where
     pub few_not_many : (n d : ℕ) → IsNumber T names weights bound n → n ≤ most → IsFirstMany T names weights bound most d → ⊥
     few_not_many n d is few a = absurd (omega (arith, number_grows d bound a.number n a.upto a.is_number is, few, a.many))
 
-module _ (law : HasMinimalChains) (p : ℕ) (weights : List ℕ) (relations : List (List Term)) (st : IsSetting p weights relations) (e : ℕ) (G : List (List Term)) (lower : AreLower p weights relations e G) where
+module _ (law : HasMinimalChains) (p : ℕ) (weights : List ℕ) (relations : List (List Term)) (st : IsSetting p weights relations) (e : ℕ)
+    (G : List (List Term)) (lower : AreLower p weights relations e G) where
   -- the chains over the leading words of a basis are as many as those over the minimal words
-  pub number_minimal : (d n : ℕ) → d < e → IsNumber (Contains (leads_of G)) (length weights) weights d n → IsNumber (IsMinimal p weights relations) (length weights) weights d n
+  pub number_minimal : (d n : ℕ) → d < e → IsNumber (Contains (leads_of G)) (length weights) weights d n →
+      IsNumber (IsMinimal p weights relations) (length weights) weights d n
   number_minimal d n lt h = record {
     chains = h.chains;
     exactly = λ c. (
@@ -66,7 +68,8 @@ module _ (law : HasMinimalChains) (p : ℕ) (weights : List ℕ) (relations : Li
   }
 
   -- and so the first degree with too many is the same
-  pub many_minimal : (bound most d : ℕ) → bound < e → IsFirstMany (Contains (leads_of G)) (length weights) weights bound most d → IsFirstMany (IsMinimal p weights relations) (length weights) weights bound most d
+  pub many_minimal : (bound most d : ℕ) → bound < e → IsFirstMany (Contains (leads_of G)) (length weights) weights bound most d →
+      IsFirstMany (IsMinimal p weights relations) (length weights) weights bound most d
   many_minimal bound most d lt h = record {
     upto = h.upto;
     number = h.number;

@@ -66,7 +66,8 @@ module _ (job : Job) (letters : Letters) (relations : List (List Term)) where
   chains_prints NoMemory h none = none
 
   -- only the chain text is not empty
-  pub chains_writes : (status : Status) (text : List ℕ) → Due status → IsChainsText job letters relations status text → text ≢ [] → Writes commands.Chains status
+  pub chains_writes : (status : Status) (text : List ℕ) → Due status → IsChainsText job letters relations status text → text ≢ [] →
+      Writes commands.Chains status
   chains_writes Done text due h some = tt
   chains_writes (Usage fault) text due h some = absurd due
   chains_writes (Input problem) text due h some = absurd due
@@ -88,7 +89,8 @@ module _ (job : Job) (letters : Letters) (relations : List (List Term)) where
     not_stopped : (kind : LimitKind) (d value : ℕ) → Tasked Done → Tasked (Limit kind d value) → ⊥
     not_stopped kind d value a b = let e = stopped kind d value a b in cc e
 
-    one_many : (d value e other : ℕ) → HasManyChains job letters relations d value → HasManyChains job letters relations e other → Chains d value ≡ Chains e other
+    one_many : (d value e other : ℕ) → HasManyChains job letters relations d value → HasManyChains job letters relations e other →
+        Chains d value ≡ Chains e other
     one_many d value e other a b =
         let at : d ≡ e = one_first_many T (length letters.weights) letters.weights job.bound most_chains d e a.first b.first in
         let same : value ≡ other = a.kept ∙ sym b.kept in
@@ -145,7 +147,8 @@ module _ (job : Job) (letters : Letters) (relations : List (List Term)) where
 
   module _ (limits : List (LimitKind × ℕ)) (same : limits ≡ limits_of job.engine) (p : ℕ) (field : p ≡ job.modulus) where
     -- a limit of the engine
-    pub refused_chains : (answer : Answer) (kind : LimitKind) (d value : ℕ) → answer ≡ record { status = Limit kind d value; text = [] } → IsFirstRefused p letters.weights relations limits job.bound kind d value
+    pub refused_chains : (answer : Answer) (kind : LimitKind) (d value : ℕ) → answer ≡ record { status = Limit kind d value; text = [] } →
+        IsFirstRefused p letters.weights relations limits job.bound kind d value
         → IsChainsOutcome job letters relations answer.status answer.text
     refused_chains answer kind d value is first =
         let own = subst (λ (m : ℕ). IsFirstRefused m letters.weights relations (limits_of job.engine) job.bound kind d value) field
@@ -154,21 +157,26 @@ module _ (job : Job) (letters : Letters) (relations : List (List Term)) where
 
     own_whole : NonePassesUpto p letters.weights relations limits job.bound → Tasked Done
     own_whole none = (
-      subst (λ (m : ℕ). NonePassesUpto m letters.weights relations (limits_of job.engine) job.bound) field (subst (λ (l : List (LimitKind × ℕ)). NonePassesUpto p letters.weights relations l job.bound) same none),
+      subst (λ (m : ℕ). NonePassesUpto m letters.weights relations (limits_of job.engine) job.bound) field
+          (subst (λ (l : List (LimitKind × ℕ)). NonePassesUpto p letters.weights relations l job.bound) same none),
       λ shows. let e : false ≡ true = shows in cc e,
     )
 
-    module _ (st : IsSetting p letters.weights relations) (basis : Elements) (weights : basis.weights ≡ letters.weights) (kept : IsKept basis) (reduced : IsReducedUpto p relations basis)
+    module _ (st : IsSetting p letters.weights relations) (basis : Elements) (weights : basis.weights ≡ letters.weights)
+        (kept : IsKept basis) (reduced : IsReducedUpto p relations basis)
         (done : basis.done ≡ job.bound) (none : NonePassesUpto p letters.weights relations limits job.bound) where
       own_setting : IsSetting p basis.weights relations
       own_setting = subst (λ (ws : List ℕ). IsSetting p ws relations) (sym weights) st
 
       -- too many chains
       pub many_chains : HasMinimalChains → ListsLower → (most d value : ℕ) (text : List ℕ) → most ≡ most_chains → value ≡ most + 1 → text ≡ []
-          → IsFirstMany (Contains (leads_of basis.elements)) (length basis.weights) basis.weights job.bound most d → IsChainsOutcome job letters relations (Chains d value) text
+          → IsFirstMany (Contains (leads_of basis.elements)) (length basis.weights) basis.weights job.bound most d →
+          IsChainsOutcome job letters relations (Chains d value) text
       many_chains law lower most d value text count plus empty first =
-          let lists = lower p basis.weights relations own_setting (basis.done + 1) basis (record { kept = kept; next = refl; same_weights = refl; reduced = reduced }) in
-          let minimal = many_minimal law p basis.weights relations own_setting (basis.done + 1) basis.elements lists job.bound most d (omega (arith, done)) first in
+          let lists = lower p basis.weights relations own_setting (basis.done + 1) basis
+          (record { kept = kept; next = refl; same_weights = refl; reduced = reduced }) in
+          let minimal = many_minimal law p basis.weights relations own_setting (basis.done + 1) basis.elements lists job.bound most d
+          (omega (arith, done)) first in
           let own = subst (λ (m : ℕ). IsFirstMany (IsMinimal m letters.weights relations) (length letters.weights) letters.weights job.bound most d) field
           (subst (λ (ws : List ℕ). IsFirstMany (IsMinimal p ws relations) (length ws) ws job.bound most d) weights minimal) in
           let many = subst (λ (n : ℕ). IsFirstMany T (length letters.weights) letters.weights job.bound n d) count own in
@@ -176,7 +184,8 @@ module _ (job : Job) (letters : Letters) (relations : List (List Term)) where
 
       -- the chain text
       pub few_chains : (found : List Chain) (most : ℕ) (text : List ℕ) → most ≡ most_chains
-          → ((q : ℕ) (rs : List (List Term)) → IsSetting q basis.weights rs → IsReducedUpto q rs basis → AreListed (IsMinimal q basis.weights rs) (length basis.weights) basis.weights job.bound found)
+          → ((q : ℕ) (rs : List (List Term)) → IsSetting q basis.weights rs → IsReducedUpto q rs basis →
+          AreListed (IsMinimal q basis.weights rs) (length basis.weights) basis.weights job.bound found)
           → length found ≤ most → text ≡ chain_text letters.names job.list found → IsChainsOutcome job letters relations Done text
       few_chains found most text count listed within printed =
           let minimal = listed p relations own_setting reduced in

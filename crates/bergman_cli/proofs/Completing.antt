@@ -22,11 +22,13 @@ use Rattle.bergman_cli.specs.Engines.{IsBuilt}
 use Rattle.bergman_cli.specs.Jobs.{IsBuiltCommand, IsBuiltJob, OfBuiltJob}
 use Rattle.bergman_cli.specs.Outcomes.{IsDue, IsWorkEnd, IsWorkEndOf}
 use Rattle.bergman_cli.specs.Run.{Completes, IsCaused, IsDueTo, IsEnd, IsJobEnd, IsMishap, IsUngivenTo, OfGiven, ReadsSource}
-use Rattle.bergman_cli.proofs.Given.{fault_mishap, given_input, given_is, input_is, long_mishap, make_or_reads, no_text_fault, one_reading, read_mishap, told_input, ungiven_input}
+use Rattle.bergman_cli.proofs.Given.{fault_mishap, given_input, given_is, input_is, long_mishap, make_or_reads, no_text_fault, one_reading}
+use Rattle.bergman_cli.proofs.Given.{read_mishap, told_input, ungiven_input}
 use Rattle.bergman_cli.proofs.Jobs.{listed, listed_some, no_fault, one_job}
 use Rattle.bergman_cli.proofs.Works.{due_is_one, failed_writes, never, outcome_due, work_gained, work_memory, work_write}
 
-module _ (job : Job) (law : HasOneReading) (some : 0 < job.modulus) (left now : Option (List ℕ)) (b a : ℕ) (held more : Option (List ℕ)) (room : Option ℕ) (before after : ℕ) where
+module _ (job : Job) (law : HasOneReading) (some : 0 < job.modulus) (left now : Option (List ℕ)) (b a : ℕ) (held more : Option (List ℕ))
+    (room : Option ℕ) (before after : ℕ) where
   abbrev Ends : Status → Type 0
   Ends = IsJobEnd job left now b a held more room before after
 
@@ -34,20 +36,25 @@ module _ (job : Job) (law : HasOneReading) (some : 0 < job.modulus) (left now : 
   Comes own status = (status ≡ own) ⊎ IsMishap job.command own b a before after status
 
   -- the text of a job that reads its source is too long
-  too_long : (status : Status) → Ends status → ReadsSource job.command → (text : List ℕ) → left ≡ Some text → 1048576 < length text → Comes (Input TooLong) status
-  too_long status (inl h) reads text told long = long_mishap job.modulus left now b a before after text told job.command reads long status (ungiven_input job.modulus left now b a status job.command reads h.0)
+  too_long : (status : Status) → Ends status → ReadsSource job.command → (text : List ℕ) → left ≡ Some text → 1048576 < length text →
+      Comes (Input TooLong) status
+  too_long status (inl h) reads text told long = long_mishap job.modulus left now b a before after text told job.command reads long status
+      (ungiven_input job.modulus left now b a status job.command reads h.0)
   too_long status (inr h) reads text told long =
       let input = given_input job left now h.text job.command reads h.is_given in
       absurd (omega (arith, long, input.short, ap length (input_is left now text h.text told input)))
 
   -- it has a first fault
-  faulty : (status : Status) → Ends status → ReadsSource job.command → (text : List ℕ) → left ≡ Some text → length text ≤ 1048576 → (fault : InputFault) → FirstFault text job.modulus fault → Comes (Input (Text fault)) status
+  faulty : (status : Status) → Ends status → ReadsSource job.command → (text : List ℕ) → left ≡ Some text → length text ≤ 1048576 →
+      (fault : InputFault) → FirstFault text job.modulus fault → Comes (Input (Text fault)) status
   faulty status (inl h) reads text told short fault first =
-      fault_mishap job.modulus left now b a before after text told job.command reads law some short fault first status (ungiven_input job.modulus left now b a status job.command reads h.0)
+      fault_mishap job.modulus left now b a before after text told job.command reads law some short fault first status
+      (ungiven_input job.modulus left now b a status job.command reads h.0)
   faulty status (inr h) reads text told short fault first =
       let input = given_input job left now h.text job.command reads h.is_given in
       let same = input_is left now text h.text told input in
-      absurd (no_text_fault law text job.modulus some h.letters h.relations fault (subst (λ (t : List ℕ). Reads t job.modulus h.letters h.relations) (sym same) h.reads) first)
+      absurd (no_text_fault law text job.modulus some h.letters h.relations fault
+      (subst (λ (t : List ℕ). Reads t job.modulus h.letters h.relations) (sym same) h.reads) first)
 
   -- it has a reading, and this status is due on it
   module _ (own : Status) (due : IsDueTo job left own) where
@@ -57,17 +64,22 @@ module _ (job : Job) (law : HasOneReading) (some : 0 < job.modulus) (left now : 
       | inr reads ↦
           let told = told_input job left now due.text job.command reads due.is_told in
           read_mishap job.modulus left now b a before after due.text told.0 job.command reads told.1
-          (λ fault first. no_text_fault law due.text job.modulus some due.letters due.relations fault due.reads first) own status (ungiven_input job.modulus left now b a status job.command reads h)
+          (λ fault first. no_text_fault law due.text job.modulus some due.letters due.relations fault due.reads first) own status
+          (ungiven_input job.modulus left now b a status job.command reads h)
     ]
 
-    same_reading : (text : List ℕ) (letters : Letters) (relations : List (List Term)) → due.text ≡ text → Reads text job.modulus letters relations → (due.letters ≡ letters) × (due.relations ≡ relations)
+    same_reading : (text : List ℕ) (letters : Letters) (relations : List (List Term)) → due.text ≡ text →
+        Reads text job.modulus letters relations → (due.letters ≡ letters) × (due.relations ≡ relations)
     same_reading text letters relations same reads =
-        one_reading law due.text job.modulus some due.letters letters due.relations relations due.reads (subst (λ (t : List ℕ). Reads t job.modulus letters relations) (sym same) reads)
+        one_reading law due.text job.modulus some due.letters letters due.relations relations due.reads
+        (subst (λ (t : List ℕ). Reads t job.modulus letters relations) (sym same) reads)
 
     due_of : (letters : Letters) (relations : List (List Term)) → (due.letters ≡ letters) × (due.relations ≡ relations) → IsDue job letters relations own
-    due_of letters relations same = subst (λ (ls : Letters). IsDue job ls relations own) same.0 (subst (λ (rs : List (List Term)). IsDue job due.letters rs own) same.1 due.due)
+    due_of letters relations same = subst (λ (ls : Letters). IsDue job ls relations own) same.0
+        (subst (λ (rs : List (List Term)). IsDue job due.letters rs own) same.1 due.due)
 
-    worked : (status : Status) (letters : Letters) (relations : List (List Term)) → IsSetting job.modulus letters.weights relations → IsDue job letters relations own → IsWorkEnd job letters relations held more room before after status → Comes own status
+    worked : (status : Status) (letters : Letters) (relations : List (List Term)) → IsSetting job.modulus letters.weights relations →
+        IsDue job letters relations own → IsWorkEnd job letters relations held more room before after status → Comes own status
     worked status letters relations st is end = by_status status end
       where
         own_comes : (s : Status) → IsOwn s → IsWorkEnd job letters relations held more room before after s → Comes own s
@@ -92,7 +104,10 @@ module _ (job : Job) (law : HasOneReading) (some : 0 < job.modulus) (left now : 
         by_status (Products d value) e = own_comes (Products d value) tt e
         by_status (Unbuilt part) e = not_comes (Unbuilt part) (λ none. none) (λ same. cc) (λ same. cc) e
         by_status ReadFault e = not_comes ReadFault (λ none. none) (λ same. cc) (λ same. cc) e
-        by_status WriteFault e = inr (failed_writes job letters relations held more room before after job.command own st is e, (work_write job letters relations held more room before after job.command e).0)
+        by_status WriteFault e = inr (
+          failed_writes job letters relations held more room before after job.command own st is e,
+          (work_write job letters relations held more room before after job.command e).0,
+        )
         by_status NoMemory e = inr tt
 
     due_comes : (status : Status) → Ends status → Comes own status
@@ -119,7 +134,8 @@ module _ (job : Job) (law : HasOneReading) (some : 0 < job.modulus) (left now : 
   caused_comes WriteFault status end c = due_comes WriteFault c status end
   caused_comes NoMemory status end c = due_comes NoMemory c status end
 
-module _ (words : List (List ℕ)) (left now : Option (List ℕ)) (b a : ℕ) (held more : Option (List ℕ)) (room : Option ℕ) (before after : ℕ) (one : HasOneAnswer words) (job : Job) (is : IsBuiltJob words job) where
+module _ (words : List (List ℕ)) (left now : Option (List ℕ)) (b a : ℕ) (held more : Option (List ℕ)) (room : Option ℕ) (before after : ℕ)
+    (one : HasOneAnswer words) (job : Job) (is : IsBuiltJob words job) where
   abbrev End : Status → Type 0
   End = IsEnd words left now b a held more room before after
 
@@ -143,9 +159,13 @@ module _ (words : List (List ℕ)) (left now : Option (List ℕ)) (b a : ℕ) (h
   ends_of WriteFault end = same_job WriteFault end
   ends_of NoMemory end = same_job NoMemory end
 
-  pub job_completes : HasOneReading → (own status : Status) → End status → IsCaused job left own → (status ≡ own) ⊎ IsMishap job.command own b a before after status
-  job_completes law own status end cause = caused_comes job law (listed_some job.modulus (listed words job is.is_job)) left now b a held more room before after own status (ends_of status end) cause
+  pub job_completes : HasOneReading → (own status : Status) → End status → IsCaused job left own →
+      (status ≡ own) ⊎ IsMishap job.command own b a before after status
+  job_completes law own status end cause = caused_comes job law (listed_some job.modulus (listed words job is.is_job)) left now b a held
+      more room before after own status (ends_of status end) cause
 
-pub completes : (words : List (List ℕ)) (left now : Option (List ℕ)) (b a : ℕ) (held more : Option (List ℕ)) (room : Option ℕ) (before after : ℕ) → HasOneAnswer words → HasOneReading
+pub completes : (words : List (List ℕ)) (left now : Option (List ℕ)) (b a : ℕ) (held more : Option (List ℕ)) (room : Option ℕ)
+    (before after : ℕ) → HasOneAnswer words → HasOneReading
     → (status : Status) → IsEnd words left now b a held more room before after status → Completes words left b a before after status
-completes words left now b a held more room before after one law status end job own is cause = job_completes words left now b a held more room before after one job is law own status end cause
+completes words left now b a held more room before after one law status end job own is cause =
+    job_completes words left now b a held more room before after one job is law own status end cause

@@ -82,7 +82,8 @@ pub told_long : (left now : Option (List ℕ)) (text : List ℕ) (n : ℕ) → l
 told_long left now text n told h = lost_long text now n (subst (λ (l : Option (List ℕ)). Loses l now n) told h)
 
 -- the text that is told is the one that is given
-pub given_is : (command : Command) (job : Job) (left now : Option (List ℕ)) (text own : List ℕ) → IsToldTo command job left text → IsGivenTo command job left now own → text ≡ own
+pub given_is : (command : Command) (job : Job) (left now : Option (List ℕ)) (text own : List ℕ) → IsToldTo command job left text →
+    IsGivenTo command job left now own → text ≡ own
 given_is commands.Gb job left now text own told h = input_is left now text own told.0 h
 given_is commands.Make job left now text own told h = told ∙ sym h
 given_is commands.Module job left now text own told h = input_is left now text own told.0 h
@@ -110,13 +111,16 @@ module _ (law : HasOneReading) (text : List ℕ) (p : ℕ) (some : 0 < p) where
   no_text_fault l rs fault h k = let one = law text p some in reading_is_no_fault l rs fault (one.only (reading l rs) h ∙ sym (one.only (refused fault) k))
 
 -- where the text is told, is no fault of length, and has this end, a status of the input is this end or a mishap
-module _ (p : ℕ) (left now : Option (List ℕ)) (b a before after : ℕ) (text : List ℕ) (told : left ≡ Some text) (command : Command) (reads : ReadsSource command) where
+module _ (p : ℕ) (left now : Option (List ℕ)) (b a before after : ℕ) (text : List ℕ) (told : left ≡ Some text) (command : Command)
+    (reads : ReadsSource command) where
   -- the text has a reading
-  pub read_mishap : length text ≤ 1048576 → ((fault : InputFault) → FirstFault text p fault → ⊥) → (own status : Status) → IsInputEnd p left now b a status → IsMishap command own b a before after status
+  pub read_mishap : length text ≤ 1048576 → ((fault : InputFault) → FirstFault text p fault → ⊥) → (own status : Status) →
+      IsInputEnd p left now b a status → IsMishap command own b a before after status
   read_mishap short none own Done h = absurd h
   read_mishap short none own (Usage fault) h = absurd h
   read_mishap short none own (Input TooLong) h = absurd (omega (arith, short, told_long left now text 1048577 told h))
-  read_mishap short none own (Input (Text fault)) h = absurd (none fault (subst (λ (t : List ℕ). FirstFault t p fault) (sym (input_is left now text h.0 told h.1)) h.2))
+  read_mishap short none own (Input (Text fault)) h = absurd (none fault
+      (subst (λ (t : List ℕ). FirstFault t p fault) (sym (input_is left now text h.0 told h.1)) h.2))
   read_mishap short none own (Input (TooFewNames names)) h = absurd h
   read_mishap short none own (Input (Shape relation)) h = absurd h
   read_mishap short none own (Input (TooFewRelations relations)) h = absurd h
@@ -130,7 +134,8 @@ module _ (p : ℕ) (left now : Option (List ℕ)) (b a before after : ℕ) (text
   read_mishap short none own NoMemory h = tt
 
   -- the text is too long
-  pub long_mishap : 1048576 < length text → (status : Status) → IsInputEnd p left now b a status → (status ≡ Input TooLong) ⊎ IsMishap command (Input TooLong) b a before after status
+  pub long_mishap : 1048576 < length text → (status : Status) → IsInputEnd p left now b a status →
+      (status ≡ Input TooLong) ⊎ IsMishap command (Input TooLong) b a before after status
   long_mishap long Done h = absurd h
   long_mishap long (Usage fault) h = absurd h
   long_mishap long (Input TooLong) h = inl refl
@@ -148,13 +153,15 @@ module _ (p : ℕ) (left now : Option (List ℕ)) (b a before after : ℕ) (text
   long_mishap long NoMemory h = inr tt
 
   -- the text has this first fault
-  pub fault_mishap : HasOneReading → 0 < p → length text ≤ 1048576 → (fault : InputFault) → FirstFault text p fault → (status : Status) → IsInputEnd p left now b a status
+  pub fault_mishap : HasOneReading → 0 < p → length text ≤ 1048576 → (fault : InputFault) → FirstFault text p fault → (status : Status) →
+      IsInputEnd p left now b a status
       → (status ≡ Input (Text fault)) ⊎ IsMishap command (Input (Text fault)) b a before after status
   fault_mishap law some short fault first Done h = absurd h
   fault_mishap law some short fault first (Usage own) h = absurd h
   fault_mishap law some short fault first (Input TooLong) h = absurd (omega (arith, short, told_long left now text 1048577 told h))
   fault_mishap law some short fault first (Input (Text own)) h =
-      inl (ap (λ (f : InputFault). Input (Text f)) (one_text_fault law text p some own fault (subst (λ (t : List ℕ). FirstFault t p own) (sym (input_is left now text h.0 told h.1)) h.2) first))
+      inl (ap (λ (f : InputFault). Input (Text f)) (one_text_fault law text p some own fault
+      (subst (λ (t : List ℕ). FirstFault t p own) (sym (input_is left now text h.0 told h.1)) h.2) first))
   fault_mishap law some short fault first (Input (TooFewNames names)) h = absurd h
   fault_mishap law some short fault first (Input (Shape relation)) h = absurd h
   fault_mishap law some short fault first (Input (TooFewRelations relations)) h = absurd h

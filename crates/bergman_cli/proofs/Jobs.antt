@@ -56,7 +56,8 @@ module _ (words : List (List ℕ)) (job : Job) (j : IsJob words job) where
 
   third : (first next key : Key) (others : List Key) → All (Stands j.rest) (first ∷ next ∷ key ∷ others) → Stands j.rest key
   third first next key others all =
-      All-contains (Stands j.rest) (first ∷ next ∷ key ∷ others) key all (Contains-more first (next ∷ key ∷ others) key (Contains-more next (key ∷ others) key (Contains-first key others)))
+      All-contains (Stands j.rest) (first ∷ next ∷ key ∷ others) key all
+      (Contains-more first (next ∷ key ∷ others) key (Contains-more next (key ∷ others) key (Contains-first key others)))
 
   bound_stands : (command : Command) → All (Stands j.rest) (required_of command) → Stands j.rest keys.Deg
   bound_stands Gb all = second keys.Mod keys.Deg [] all
@@ -79,7 +80,9 @@ module _ (words : List (List ℕ)) (job : Job) (j : IsJob words job) where
   letters_range is =
       let all = subst (λ (command : Command). All (Stands j.rest) (required_of command)) is j.complete in
       let stands = All-contains (Stands j.rest) (required_of Make) keys.Vars all
-      (Contains-more keys.Mod (keys.Deg ∷ keys.Number ∷ keys.Vars ∷ []) keys.Vars (Contains-more keys.Deg (keys.Number ∷ keys.Vars ∷ []) keys.Vars (Contains-more keys.Number (keys.Vars ∷ []) keys.Vars (Contains-first keys.Vars [])))) in
+      (Contains-more keys.Mod (keys.Deg ∷ keys.Number ∷ keys.Vars ∷ []) keys.Vars
+      (Contains-more keys.Deg (keys.Number ∷ keys.Vars ∷ []) keys.Vars
+      (Contains-more keys.Number (keys.Vars ∷ []) keys.Vars (Contains-first keys.Vars [])))) in
       let t = told words job keys.Vars j stands in
       (omega (arith, one_count job.letters t.1.number t.1.value_is, t.1.above), omega (arith, one_count job.letters t.1.number t.1.value_is, t.1.below))
 
@@ -100,7 +103,9 @@ le_says m n e = grind (arith, nat_tests)
 
 -- the listed moduli are from 2 to 1000003
 listed_small : (p : ℕ) → Contains listed_moduli p → p ≤ 1000003
-listed_small p m = All-contains (λ n. n ≤ 1000003) listed_moduli p (λ k d within. le_says (get_or listed_moduli k d) 1000003 (AllPass-from_list_all (λ n. nat_le n 1000003) listed_moduli refl k d within)) m
+listed_small p m = All-contains (λ n. n ≤ 1000003) listed_moduli p
+    (λ k d within. le_says (get_or listed_moduli k d) 1000003 (AllPass-from_list_all (λ n. nat_le n 1000003) listed_moduli refl k d within))
+    m
 
 -- the numbers of a job are in their ranges
 pub sound_job : (words : List (List ℕ)) (job : Job) → IsJob words job → All IsFieldModulus listed_moduli → IsSound job
@@ -116,7 +121,8 @@ sound_job words job j all = record {
 
 pub listed_some : (p : ℕ) → Contains listed_moduli p → 0 < p
 listed_some p m =
-    let two = All-contains (λ n. 2 ≤ n) listed_moduli p (λ k d within. le_says 2 (get_or listed_moduli k d) (AllPass-from_list_all (λ n. nat_le 2 n) listed_moduli refl k d within)) m in
+    let two = All-contains (λ n. 2 ≤ n) listed_moduli p (λ k d within. le_says 2 (get_or listed_moduli k d)
+    (AllPass-from_list_all (λ n. nat_le 2 n) listed_moduli refl k d within)) m in
     omega (arith, two)
 
 module _ (words : List (List ℕ)) (one : HasOneAnswer words) where

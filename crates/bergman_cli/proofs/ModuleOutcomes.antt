@@ -21,14 +21,17 @@ module _ (job : Job) (given : Presentation) (answer : Answer) where
   Outcome a = IsModuleOutcome job given.alphabet given.relations a.status a.text
 
   -- fewer names than generators
-  pub names_outcome : (names : ℕ) → answer ≡ record { status = Input (TooFewNames names); text = [] } → names < job.gens → names ≡ length given.alphabet.weights → Outcome answer
+  pub names_outcome : (names : ℕ) → answer ≡ record { status = Input (TooFewNames names); text = [] } → names < job.gens →
+      names ≡ length given.alphabet.weights → Outcome answer
   names_outcome names is few same = subst Outcome (sym is) ((few, same), refl)
 
   -- a relation of neither kind
-  pub shape_outcome : (relation : ℕ) → answer ≡ record { status = Input (Shape relation); text = [] } → job.gens ≤ length given.alphabet.weights → IsFirstOther (free_letters given job.gens) given.relations relation → Outcome answer
+  pub shape_outcome : (relation : ℕ) → answer ≡ record { status = Input (Shape relation); text = [] } →
+      job.gens ≤ length given.alphabet.weights → IsFirstOther (free_letters given job.gens) given.relations relation → Outcome answer
   shape_outcome relation is names other = subst Outcome (sym is) ((names, other), refl)
 
-  module _ (names : job.gens ≤ length given.alphabet.weights) (shaped : AreShaped given job.gens) (limits : List (LimitKind × ℕ)) (same : limits ≡ limits_of job.engine) (p : ℕ) (field : p ≡ job.modulus)
+  module _ (names : job.gens ≤ length given.alphabet.weights) (shaped : AreShaped given job.gens) (limits : List (LimitKind × ℕ))
+      (same : limits ≡ limits_of job.engine) (p : ℕ) (field : p ≡ job.modulus)
       (st : IsSetting p given.alphabet.weights given.relations) (limit : ℕ) (standard : limit ≡ standard_limits.normal_words) where
     abbrev weights : List ℕ
     weights = given.alphabet.weights
@@ -60,12 +63,21 @@ module _ (job : Job) (given : Presentation) (answer : Answer) where
     own_limit : (kind : LimitKind) (d value : ℕ)
         → IsFirstRefused p weights given.relations limits job.bound kind d value
         ⊎ (NonePassesUpto p weights given.relations limits job.bound × (kind ≡ NormalWords) × IsFirstLarge p given job.gens limit job.bound d value)
-        → IsFirstRefused job.modulus weights given.relations (limits_of job.engine) job.bound kind d value ⊎ ((kind ≡ NormalWords) × IsCrowded job given.alphabet given.relations d value)
+        → IsFirstRefused job.modulus weights given.relations (limits_of job.engine) job.bound kind d value
+        ⊎ ((kind ≡ NormalWords) × IsCrowded job given.alphabet given.relations d value)
     own_limit kind d value (inl h) =
         inl (subst (λ (q : ℕ). IsFirstRefused q weights given.relations (limits_of job.engine) job.bound kind d value) field
         (subst (λ (l : List (LimitKind × ℕ)). IsFirstRefused p weights given.relations l job.bound kind d value) same h))
     own_limit kind d value (inr h) =
-        inr (h.1, (own_none h.0, h.2.upto, subst (λ (q : ℕ). IsFirstLargeModule q weights free given.relations most d value) field (large d value (subst (λ (n : ℕ). IsFirstLarge p given job.gens n job.bound d value) standard h.2))))
+        inr (
+          h.1,
+          (
+            own_none h.0,
+            h.2.upto,
+            subst (λ (q : ℕ). IsFirstLargeModule q weights free given.relations most d value) field
+                (large d value (subst (λ (n : ℕ). IsFirstLarge p given job.gens n job.bound d value) standard h.2)),
+          ),
+        )
 
     -- a limit of the engine, or of the normal module words
     pub limit_outcome : (kind : LimitKind) (d value : ℕ) → answer ≡ record { status = Limit kind d value; text = [] }
@@ -76,7 +88,16 @@ module _ (job : Job) (given : Presentation) (answer : Answer) where
 
     -- the whole module
     pub whole_outcome : (text numbers : List ℕ) → answer ≡ record { status = Done; text = text } → NonePassesUpto p weights given.relations limits job.bound
-        → AreModuleNumbers p given job.gens job.bound numbers → All (λ n. n ≤ limit) numbers → IsModuleText job given.alphabet given.relations text → Outcome answer
+        → AreModuleNumbers p given job.gens job.bound numbers → All (λ n. n ≤ limit) numbers →
+        IsModuleText job given.alphabet given.relations text → Outcome answer
     whole_outcome text numbers is none are few printed =
         let own = subst (λ (q : ℕ). AreModuleNumbers q given job.gens job.bound numbers) field are in
-        subst Outcome (sym is) (((names, shaped), own_none none, λ d lt. (get_or numbers d 0, own.each d (omega (arith, lt)), omega (arith, few d 0 (omega (arith, lt, own.size)), standard))), printed)
+        subst Outcome (sym is) (
+          (
+            (names, shaped),
+            own_none none,
+            λ d lt.
+                (get_or numbers d 0, own.each d (omega (arith, lt)), omega (arith, few d 0 (omega (arith, lt, own.size)), standard)),
+          ),
+          printed,
+        )

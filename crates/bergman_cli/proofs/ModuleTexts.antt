@@ -32,27 +32,32 @@ module _ (names : List (List ℕ)) (p : ℕ) (degrees : List ModuleDegree) (whol
       let rest = degree_texts names p (k + 1 + 1) (lists_of (drop (k + 1) degrees)) in
       let first = is ∙ ap (λ (d : ℕ). degree_text names p d (get_or degrees k m).elements) degree in
       append_assoc text lines rest
-      ∙ ap (λ (t : List ℕ). text ++ t) (ap (λ (t : List ℕ). t ++ rest) first ∙ sym (ap (λ (ds : List ModuleDegree). degree_texts names p (k + 1) (lists_of ds)) (drop_more degrees k m within)))
+      ∙ ap (λ (t : List ℕ). text ++ t) (ap (λ (t : List ℕ). t ++ rest) first
+      ∙ sym (ap (λ (ds : List ModuleDegree). degree_texts names p (k + 1) (lists_of ds)) (drop_more degrees k m within)))
       ∙ h
 
   -- and behind the last degree nothing is left
   pub text_end : (text : List ℕ) (k : ℕ) → length degrees ≤ k → IsTextBefore k text → text ≡ whole
-  text_end text k end h = sym (append-nil text) ∙ ap (λ (ds : List ModuleDegree). text ++ degree_texts names p (k + 1) (lists_of ds)) (sym (drop_all k degrees end)) ∙ h
+  text_end text k end h = sym (append-nil text) ∙ ap (λ (ds : List ModuleDegree). text ++ degree_texts names p (k + 1) (lists_of ds))
+      (sym (drop_all k degrees end)) ∙ h
 
 module _ (p : ℕ) (given : Presentation) (gens bound : ℕ) (degrees : List ModuleDegree) (are : AreModuleDegrees p given gens bound degrees) where
   -- what is printed is an element, and monic
-  pub printed_elements : (k : ℕ) (m : ModuleDegree) → k < bound → All (λ f. IsElement p given.alphabet.weights (k + 1) f × IsMonic f) (get_or degrees k m).elements
+  pub printed_elements : (k : ℕ) (m : ModuleDegree) → k < bound →
+      All (λ f. IsElement p given.alphabet.weights (k + 1) f × IsMonic f) (get_or degrees k m).elements
   printed_elements k m within = All-from_members (λ f. IsElement p given.alphabet.weights (k + 1) f × IsMonic f) (get_or degrees k m).elements
       (λ f c. let r = ((are.each k m within).exactly f).0 c in (r.inside.element, r.monic))
 
   -- the printed lists are the reduced bases
-  pub basis_printed : (text : List ℕ) → text ≡ basis_text given.alphabet.names p (lists_of degrees) → IsModuleBasisText p given.alphabet (free_letters given gens) given.relations bound text
+  pub basis_printed : (text : List ℕ) → text ≡ basis_text given.alphabet.names p (lists_of degrees) →
+      IsModuleBasisText p given.alphabet (free_letters given gens) given.relations bound text
   basis_printed text is = record {
     bases = lists_of degrees;
     count = length-map degrees (λ m. m.elements) ∙ are.size;
     each = λ k within.
         let m : ModuleDegree = record { degree = 0; elements = [] } in
-        subst (IsModuleBasisOf p given gens (k + 1)) (sym (get_or-map (λ (n : ModuleDegree). n.elements) degrees k m [] (omega (arith, within, are.size)))) (are.each k m within);
+        subst (IsModuleBasisOf p given gens (k + 1)) (sym (get_or-map (λ (n : ModuleDegree). n.elements) degrees k m []
+        (omega (arith, within, are.size)))) (are.each k m within);
     printed = is;
   }
 
@@ -74,7 +79,8 @@ module _ (job : Job) (given : Presentation) (p : ℕ) (field : p ≡ job.modulus
       let own = subst (λ (q : ℕ). AreModuleNumbers q given job.gens job.bound numbers) field h in
       record { numbers = numbers; count = own.size; each = λ k within. own.each k (omega (arith, within)); printed = refl }
 
-  shown : (show : Show) → job.show ≡ show → (basis series text : List ℕ) → IsPart (shows_basis show) (BasisText job.modulus) basis → IsPart (shows_series show) SeriesText series → text ≡ basis ++ series
+  shown : (show : Show) → job.show ≡ show → (basis series text : List ℕ) → IsPart (shows_basis show) (BasisText job.modulus) basis →
+      IsPart (shows_series show) SeriesText series → text ≡ basis ++ series
       → IsModuleText job given.alphabet given.relations text
   shown show is basis series text a b joined = record {
     basis = basis;
@@ -88,9 +94,11 @@ module _ (job : Job) (given : Presentation) (p : ℕ) (field : p ≡ job.modulus
   pub basis_shown : job.show ≡ shows.Basis → (text : List ℕ) → BasisText p text → IsModuleText job given.alphabet given.relations text
   basis_shown is text h = shown shows.Basis is text [] text (own_basis text h) refl (sym (append-nil text))
 
-  pub series_shown : job.show ≡ shows.Series → (numbers text : List ℕ) → AreModuleNumbers p given job.gens job.bound numbers → text ≡ module_series_text numbers → IsModuleText job given.alphabet given.relations text
+  pub series_shown : job.show ≡ shows.Series → (numbers text : List ℕ) → AreModuleNumbers p given job.gens job.bound numbers →
+      text ≡ module_series_text numbers → IsModuleText job given.alphabet given.relations text
   series_shown is numbers text h same = shown shows.Series is [] (module_series_text numbers) text refl (own_series numbers h) same
 
-  pub both_shown : job.show ≡ shows.Both → (numbers basis text : List ℕ) → BasisText p basis → AreModuleNumbers p given job.gens job.bound numbers → text ≡ basis ++ module_series_text numbers
+  pub both_shown : job.show ≡ shows.Both → (numbers basis text : List ℕ) → BasisText p basis →
+      AreModuleNumbers p given job.gens job.bound numbers → text ≡ basis ++ module_series_text numbers
       → IsModuleText job given.alphabet given.relations text
   both_shown is numbers basis text h n same = shown shows.Both is basis (module_series_text numbers) text (own_basis basis h) (own_series numbers n) same

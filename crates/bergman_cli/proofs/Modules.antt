@@ -31,7 +31,8 @@ module _ (free : ℕ) (relations : List (List Term)) where
   other_below : (a b : ℕ) → IsFirstOther free relations a → IsFirstOther free relations b → a < b → ⊥
   other_below a b ha hb lt =
       let size = length-take (b - 1) relations in
-      ha.other (subst (IsShaped free) (get_or-take (b - 1) relations (a - 1) [] (omega (arith, lt, ha.from))) (hb.before (a - 1) [] (omega (arith, lt, ha.from, ha.upto, hb.upto, size))))
+      ha.other (subst (IsShaped free) (get_or-take (b - 1) relations (a - 1) [] (omega (arith, lt, ha.from)))
+      (hb.before (a - 1) [] (omega (arith, lt, ha.from, ha.upto, hb.upto, size))))
 
   one_other : (a b : ℕ) → IsFirstOther free relations a → IsFirstOther free relations b → a ≡ b
   one_other a b ha hb = elim (cases_lt a b) [
@@ -62,13 +63,23 @@ module _ (job : Job) (letters : Letters) (relations : List (List Term)) where
 
     -- the basis of all relations together as a task
     abbrev task : Task
-    task = record { modulus = job.modulus; letters = letters; relations = relations; limits = limits_of job.engine; normal_words = most; bound = job.bound; shows_basis = false; shows_series = false }
+    task = record {
+      modulus = job.modulus;
+      letters = letters;
+      relations = relations;
+      limits = limits_of job.engine;
+      normal_words = most;
+      bound = job.bound;
+      shows_basis = false;
+      shows_series = false;
+    }
 
     whole_task : PassesNoLimit job letters relations → IsReach task whole
     whole_task none = (none, λ e. absurd (false≢true e))
 
     -- a degree has one module coefficient
-    one_coefficient : Shaped → (d m n : ℕ) → IsModuleCoefficient job.modulus letters.weights free relations d m → IsModuleCoefficient job.modulus letters.weights free relations d n → m ≡ n
+    one_coefficient : Shaped → (d m n : ℕ) → IsModuleCoefficient job.modulus letters.weights free relations d m →
+        IsModuleCoefficient job.modulus letters.weights free relations d n → m ≡ n
     one_coefficient shaped d m n a b =
         let ms : IsModuleSetting job.modulus letters.weights free relations = record { setting = st; shaped = shaped } in
         let has = dimension_of_products job.modulus letters.weights free relations ms d in

@@ -14,37 +14,57 @@ use Rattle.job_steps.specs.declared.status.Status.TheVariants.{Done, Input, Limi
 use Rattle.job_steps.specs.Progress.{refused}
 use Rattle.job_steps.specs.Statuses.{IsTaskStatus}
 use Rattle.bergman_cli.specs.Engines.{limits_of}
-use Rattle.bergman_cli.specs.Normal.{HasNone, IsAbove, IsAnsweredBy, IsAskable, IsFirstPlace, IsNormalOutcome, above, answered, ideal_of, ideal_size, normal_task, questions_of, stopped, too_few, too_many}
+use Rattle.bergman_cli.specs.Normal.{HasNone, IsAbove, IsAnsweredBy, IsAskable, IsFirstPlace, IsNormalOutcome, above, answered, ideal_of, ideal_size}
+use Rattle.bergman_cli.specs.Normal.{normal_task, questions_of, stopped, too_few, too_many}
 
 -- what holds of all relations holds of a part of them
 pub All-part : (P : List Term → Type 0) (whole rs : List (List Term)) (a b : ℕ) → rs ≡ whole → All P whole → All P (take a (drop b rs))
 All-part P whole rs a b is h = All-take P a (drop b rs) (All-drop P b rs (subst (All P) (sym is) h))
 
 -- the questions are the part behind the relations of the ideal
-pub questions-part : (job : Job) (whole rs : List (List Term)) → rs ≡ whole → take (length rs - (length rs - job.ask)) (drop (length rs - job.ask) rs) ≡ questions_of job whole
+pub questions-part : (job : Job) (whole rs : List (List Term)) → rs ≡ whole →
+    take (length rs - (length rs - job.ask)) (drop (length rs - job.ask) rs) ≡ questions_of job whole
 questions-part job whole rs is =
     take_all (length rs - (length rs - job.ask)) (drop (length rs - job.ask) rs) (omega (arith, length-drop (length rs - job.ask) rs))
     ∙ ap (λ (l : List (List Term)). drop (length l - job.ask) l) is
 
 module _ (job : Job) (letters : Letters) (relations : List (List Term)) where
   -- fewer relations than questions are asked
-  pub few_outcome : (answer : Answer) (n : ℕ) → answer ≡ record { status = Input (TooFewRelations n); text = [] } → n ≡ length relations → length relations < job.ask → IsNormalOutcome job letters relations answer.status answer.text
-  few_outcome answer n is count less = (too_few, less, ap (λ (a : Answer). a.status) is ∙ ap (λ (m : ℕ). Input (TooFewRelations m)) count, ap (λ (a : Answer). a.text) is)
+  pub few_outcome : (answer : Answer) (n : ℕ) → answer ≡ record { status = Input (TooFewRelations n); text = [] } → n ≡ length relations →
+      length relations < job.ask → IsNormalOutcome job letters relations answer.status answer.text
+  few_outcome answer n is count less = (
+    too_few,
+    less,
+    ap (λ (a : Answer). a.status) is ∙ ap (λ (m : ℕ). Input (TooFewRelations m)) count,
+    ap (λ (a : Answer). a.text) is,
+  )
 
   -- a question above the bound
-  pub above_outcome : (answer : Answer) (n place : ℕ) → answer ≡ record { status = Input (AboveBound n); text = [] } → n ≡ ideal_size job relations + place + 1 → job.ask ≤ length relations
+  pub above_outcome : (answer : Answer) (n place : ℕ) → answer ≡ record { status = Input (AboveBound n); text = [] } →
+      n ≡ ideal_size job relations + place + 1 → job.ask ≤ length relations
       → IsFirstPlace (IsAbove letters.weights job.bound) (questions_of job relations) place → IsNormalOutcome job letters relations answer.status answer.text
-  above_outcome answer n place is number enough first = (above place, (enough, first), ap (λ (a : Answer). a.status) is ∙ ap (λ (m : ℕ). Input (AboveBound m)) number, ap (λ (a : Answer). a.text) is)
+  above_outcome answer n place is number enough first = (
+    above place,
+    (enough, first),
+    ap (λ (a : Answer). a.status) is
+        ∙ ap (λ (m : ℕ). Input (AboveBound m)) number,
+    ap (λ (a : Answer). a.text) is,
+  )
 
   module _ (askable : IsAskable job letters relations) (limits : List (LimitKind × ℕ)) (same : limits ≡ limits_of job.engine) (p : ℕ) (field : p ≡ job.modulus)
       (alphabet : Letters) (names : alphabet ≡ letters) (ideal : List (List Term)) (part : ideal ≡ ideal_of job relations) where
     -- a limit of the engine
-    pub stopped_outcome : (answer : Answer) (kind own_kind : LimitKind) (d own_d value own_value : ℕ) → own_kind ≡ kind → own_d ≡ d → own_value ≡ value → answer ≡ record { status = Limit kind d value; text = [] }
+    pub stopped_outcome : (answer : Answer) (kind own_kind : LimitKind) (d own_d value own_value : ℕ) → own_kind ≡ kind → own_d ≡ d →
+        own_value ≡ value → answer ≡ record { status = Limit kind d value; text = [] }
         → IsFirstRefused p alphabet.weights ideal limits job.bound own_kind own_d own_value → IsNormalOutcome job letters relations answer.status answer.text
     stopped_outcome answer kind own_kind d own_d value own_value kinds degrees values is own_first =
-        let first : IsFirstRefused p alphabet.weights ideal limits job.bound kind d value = subst (λ (v : ℕ). IsFirstRefused p alphabet.weights ideal limits job.bound kind d v) values
-        (subst (λ (e : ℕ). IsFirstRefused p alphabet.weights ideal limits job.bound kind e own_value) degrees (subst (λ (k : LimitKind). IsFirstRefused p alphabet.weights ideal limits job.bound k own_d own_value) kinds own_first)) in
-        let own : IsFirstRefused job.modulus letters.weights (ideal_of job relations) (limits_of job.engine) job.bound kind d value = subst (λ (rs : List (List Term)). IsFirstRefused job.modulus letters.weights rs (limits_of job.engine) job.bound kind d value) part
+        let first : IsFirstRefused p alphabet.weights ideal limits job.bound kind d value =
+        subst (λ (v : ℕ). IsFirstRefused p alphabet.weights ideal limits job.bound kind d v) values
+        (subst (λ (e : ℕ). IsFirstRefused p alphabet.weights ideal limits job.bound kind e own_value) degrees
+        (subst (λ (k : LimitKind). IsFirstRefused p alphabet.weights ideal limits job.bound k own_d own_value) kinds own_first)) in
+        let own : IsFirstRefused job.modulus letters.weights (ideal_of job relations) (limits_of job.engine) job.bound kind d value =
+        subst (λ (rs : List (List Term)). IsFirstRefused job.modulus letters.weights rs (limits_of job.engine) job.bound kind d value)
+        part
         (subst (λ (l : Letters). IsFirstRefused job.modulus l.weights ideal (limits_of job.engine) job.bound kind d value) names
         (subst (λ (m : ℕ). IsFirstRefused m alphabet.weights ideal (limits_of job.engine) job.bound kind d value) field
         (subst (λ (l : List (LimitKind × ℕ)). IsFirstRefused p alphabet.weights ideal l job.bound kind d value) same first))) in
@@ -52,18 +72,23 @@ module _ (job : Job) (letters : Letters) (relations : List (List Term)) where
 
     computed : NonePassesUpto p alphabet.weights ideal limits job.bound → IsTaskStatus (normal_task job letters relations) Done
     computed none =
-        let own : NonePassesUpto job.modulus letters.weights (ideal_of job relations) (limits_of job.engine) job.bound = subst (λ (rs : List (List Term)). NonePassesUpto job.modulus letters.weights rs (limits_of job.engine) job.bound) part
+        let own : NonePassesUpto job.modulus letters.weights (ideal_of job relations) (limits_of job.engine) job.bound =
+        subst (λ (rs : List (List Term)). NonePassesUpto job.modulus letters.weights rs (limits_of job.engine) job.bound) part
         (subst (λ (l : Letters). NonePassesUpto job.modulus l.weights ideal (limits_of job.engine) job.bound) names
         (subst (λ (m : ℕ). NonePassesUpto m alphabet.weights ideal (limits_of job.engine) job.bound) field
         (subst (λ (l : List (LimitKind × ℕ)). NonePassesUpto p alphabet.weights ideal l job.bound) same none))) in
         (own, λ shown. absurd (let never : ⊥ = cc in never))
 
-    by_kind : NonePassesUpto p alphabet.weights ideal limits job.bound → (status : Status) (text : List ℕ) → IsAnsweredBy job.modulus letters (ideal_of job relations) (questions_of job relations) status text → IsNormalOutcome job letters relations status text
+    by_kind : NonePassesUpto p alphabet.weights ideal limits job.bound → (status : Status) (text : List ℕ) →
+        IsAnsweredBy job.modulus letters (ideal_of job relations) (questions_of job relations) status text →
+        IsNormalOutcome job letters relations status text
     by_kind none status text (inl many) = (too_many many.0, ((askable, computed none), many.1), many.2, many.3)
     by_kind none status text (inr all) = (answered, ((askable, computed none), all.0), all.1, all.2)
 
     -- the questions are answered, or those before one with too many triples
-    pub answered_outcome : NonePassesUpto p alphabet.weights ideal limits job.bound → (questions : List (List Term)) → questions ≡ questions_of job relations → (status : Status) (text : List ℕ) → IsAnsweredBy p alphabet ideal questions status text → IsNormalOutcome job letters relations status text
+    pub answered_outcome : NonePassesUpto p alphabet.weights ideal limits job.bound → (questions : List (List Term)) →
+        questions ≡ questions_of job relations → (status : Status) (text : List ℕ) → IsAnsweredBy p alphabet ideal questions status text →
+        IsNormalOutcome job letters relations status text
     answered_outcome none questions asked status text h = by_kind none status text
         (subst (λ (fs : List (List Term)). IsAnsweredBy job.modulus letters (ideal_of job relations) fs status text) asked
         (subst (λ (rs : List (List Term)). IsAnsweredBy job.modulus letters rs questions status text) part

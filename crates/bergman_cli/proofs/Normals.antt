@@ -13,7 +13,8 @@ use Rattle.job_steps.specs.declared.status.Status.TheVariants.{Done, Limit}
 use Rattle.job_steps.specs.Status.{PrintsNothing}
 use Rattle.job_steps.specs.Statuses.{IsOwn, IsTaskStatus}
 use Rattle.job_steps.proofs.Statuses.{one_task_status}
-use Rattle.bergman_cli.specs.Normal.{Ending, HasNone, IsEnding, IsEndingText, IsFirstPlace, IsNormalOutcome, IsNormalStatus, above, answered, ideal_of, ideal_size, normal_task, status_of, stopped, too_few, too_many}
+use Rattle.bergman_cli.specs.Normal.{Ending, HasNone, IsEnding, IsEndingText, IsFirstPlace, IsNormalOutcome, IsNormalStatus, above, answered}
+use Rattle.bergman_cli.specs.Normal.{ideal_of, ideal_size, normal_task, status_of, stopped, too_few, too_many}
 use Rattle.bergman_cli.specs.Outcomes.{Writes}
 
 -- one place is the first

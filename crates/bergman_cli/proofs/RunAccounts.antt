@@ -29,7 +29,8 @@ module _ (tell : RunAccountsTell) (list : ListsLower) where
       let lower = list p weights given.relations setting d below is_below in
       let tells = tell workers p weights given.relations setting some few d below.elements lower account may elements reduced in
       let closed = tells.0.are_closed in
-      let words = column_words p weights given.relations setting d below.elements lower tells.0.rows closed.are_rows tells.0.columns closed.are_columns tells.0.reducers closed.are_reducers small in
+      let words = column_words p weights given.relations setting d below.elements lower tells.0.rows closed.are_rows tells.0.columns
+      closed.are_columns tells.0.reducers closed.are_reducers small in
       record { words = subst (All (IsOver (length weights))) (sym tells.0.contested) words.letters; calls = tells.1.columns }
 
   -- the race is the engine of a job that names it
@@ -43,7 +44,8 @@ module _ (tell : RunAccountsTell) (list : ListsLower) where
         let history : TellsHistory job.workers p given below d account =
         λ elements reduced. tell job.workers p given.alphabet.weights given.relations setting some few d below.elements lower account own elements reduced in
         subst (λ (e : EngineKind). accounts_in e job.workers job.schedule p given below d account) (sym is) (own, history);
-    printable = λ _ p given. run_printable workers (subst (λ (w : ℕ). 1 ≤ w) (sym same_workers) some) (subst (λ (w : ℕ). w ≤ 64) (sym same_workers) few) p given;
+    printable = λ _ p given. run_printable workers (subst (λ (w : ℕ). 1 ≤ w) (sym same_workers) some)
+        (subst (λ (w : ℕ). w ≤ 64) (sym same_workers) few) p given;
   }
 
   core_printable : (workers schedule : ℕ) → 1 ≤ workers → workers ≤ 64 → (p : ℕ) (given : Presentation) → ArePrintable (core_accounts workers schedule) p given
@@ -60,7 +62,9 @@ module _ (tell : RunAccountsTell) (list : ListsLower) where
         (subst (λ (w : ℕ). core_accounts w schedule p given below d account) same_workers may) in
         let lower = list p given.alphabet.weights given.relations setting d below is_below in
         let history : TellsHistory job.workers p given below d account =
-        λ elements reduced. tell job.workers p given.alphabet.weights given.relations setting some few d below.elements lower account own.run elements reduced in
+        λ elements reduced. tell job.workers p given.alphabet.weights given.relations setting some few d below.elements lower account
+        own.run elements reduced in
         subst (λ (e : EngineKind). accounts_in e job.workers job.schedule p given below d account) (sym is) (own, history);
-    printable = λ _ p given. core_printable workers schedule (subst (λ (w : ℕ). 1 ≤ w) (sym same_workers) some) (subst (λ (w : ℕ). w ≤ 64) (sym same_workers) few) p given;
+    printable = λ _ p given. core_printable workers schedule (subst (λ (w : ℕ). 1 ≤ w) (sym same_workers) some)
+        (subst (λ (w : ℕ). w ≤ 64) (sym same_workers) few) p given;
   }

@@ -33,7 +33,8 @@ module _ (May Own : Accounts) (t : Task) (st : IsSetting t.modulus t.letters.wei
   module _ (own : AreAmong May Own) where
     own_account : (d : ℕ) (x : Account) → IsAccountOf May t d x → IsAccountOf Own t d x
     own_account d x first =
-        let setting = subst (λ (l : Letters). IsSetting t.modulus l.weights first.given.relations) (sym first.letters) (subst (λ (rs : List (List Term)). IsSetting t.modulus t.letters.weights rs) (sym first.relations) st) in
+        let setting = subst (λ (l : Letters). IsSetting t.modulus l.weights first.given.relations) (sym first.letters)
+        (subst (λ (rs : List (List Term)). IsSetting t.modulus t.letters.weights rs) (sym first.relations) st) in
         let below = subst (λ (l : Letters). IsBelow t.modulus l.weights first.given.relations d first.below) (sym first.letters)
         (subst (λ (rs : List (List Term)). IsBelow t.modulus t.letters.weights rs d first.below) (sym first.relations) first.is_below) in
         record {
@@ -65,18 +66,22 @@ module _ (May Own : Accounts) (t : Task) (st : IsSetting t.modulus t.letters.wei
       done_traced : OfTrace May t traces t.bound Told → (trace : List ℕ) × IsTaskTrace Own traces t held more room Done trace × Told trace
       done_traced h = (h.0, own_part t.bound h.0 h.1, h.2)
 
-      limit_traced : (kind : LimitKind) (d value : ℕ) → IsUndone t held more room before now (λ e. OfTrace May t traces e Told) (stops.Limit kind d value) → (trace : List ℕ) × IsTaskTrace Own traces t held more room (Limit kind d value) trace × Told trace
+      limit_traced : (kind : LimitKind) (d value : ℕ) → IsUndone t held more room before now (λ e. OfTrace May t traces e Told)
+          (stops.Limit kind d value) → (trace : List ℕ) × IsTaskTrace Own traces t held more room (Limit kind d value) trace × Told trace
       limit_traced kind d value u = let h = u.3 in (h.0, (u.0, u.2.is_reach, u.1, own_part _ h.0 h.1), h.2)
 
-      write_traced : IsUndone t held more room before now (λ e. OfTrace May t traces e Told) stops.WriteFault → (trace : List ℕ) × IsTaskTrace Own traces t held more room WriteFault trace × Told trace
+      write_traced : IsUndone t held more room before now (λ e. OfTrace May t traces e Told) stops.WriteFault →
+          (trace : List ℕ) × IsTaskTrace Own traces t held more room WriteFault trace × Told trace
       write_traced u = let h = u.1.1 in (h.0, (u.1.0, own_part u.1.0.last h.0 h.1), h.2)
 
-      memory_traced : IsUndone t held more room before now (λ e. OfTrace May t traces e Told) stops.NoMemory → (trace : List ℕ) × IsTaskTrace Own traces t held more room NoMemory trace × Told trace
+      memory_traced : IsUndone t held more room before now (λ e. OfTrace May t traces e Told) stops.NoMemory →
+          (trace : List ℕ) × IsTaskTrace Own traces t held more room NoMemory trace × Told trace
       memory_traced u = let h = u.1 in (h.0, (u.0, own_part u.0.last h.0 h.1), h.2)
 
 -- the task that is printed is that of the job
 task_is : (p : ℕ) (given : Presentation) (limits : List (LimitKind × ℕ)) (asked : Asked) (job : Job) → p ≡ job.modulus → limits ≡ limits_of job.engine
-    → asked ≡ record { bound = job.bound; basis = shows_basis job.show; series = shows_series job.show; trace = traces_of job } → task_of p given limits asked ≡ gb_task job given.alphabet given.relations
+    → asked ≡ record { bound = job.bound; basis = shows_basis job.show; series = shows_series job.show; trace = traces_of job } →
+    task_of p given limits asked ≡ gb_task job given.alphabet given.relations
 task_is p given limits asked job field same is = λ i. record {
   modulus = field i;
   letters = given.alphabet;
@@ -89,8 +94,10 @@ task_is p given limits asked job field same is = λ i. record {
 }
 
 -- what is told of the job's task
-module _ (p : ℕ) (given : Presentation) (limits : List (LimitKind × ℕ)) (asked : Asked) (job : Job) (field : p ≡ job.modulus) (May : Accounts) (engine : IsEngineOf job limits May)
-    (is : asked ≡ record { bound = job.bound; basis = shows_basis job.show; series = shows_series job.show; trace = traces_of job }) (st : IsSetting p given.alphabet.weights given.relations) where
+module _ (p : ℕ) (given : Presentation) (limits : List (LimitKind × ℕ)) (asked : Asked) (job : Job) (field : p ≡ job.modulus)
+    (May : Accounts) (engine : IsEngineOf job limits May)
+    (is : asked ≡ record { bound = job.bound; basis = shows_basis job.show; series = shows_series job.show; trace = traces_of job })
+    (st : IsSetting p given.alphabet.weights given.relations) where
   abbrev task : Task
   task = gb_task job given.alphabet given.relations
 
@@ -98,7 +105,8 @@ module _ (p : ℕ) (given : Presentation) (limits : List (LimitKind × ℕ)) (as
   own_setting = subst (λ (m : ℕ). IsSetting m given.alphabet.weights given.relations) field st
 
   moved : (P : Task → Bool → Type 0) → P (task_of p given limits asked) asked.trace → P task (traces_of job)
-  moved P h = subst (λ (t : Task). P t (traces_of job)) (task_is p given limits asked job field engine.same_limits is) (subst (λ (b : Bool). P (task_of p given limits asked) b) (ap (λ (a : Asked). a.trace) is) h)
+  moved P h = subst (λ (t : Task). P t (traces_of job)) (task_is p given limits asked job field engine.same_limits is)
+      (subst (λ (b : Bool). P (task_of p given limits asked) b) (ap (λ (a : Asked). a.trace) is) h)
 
   module _ (held more : Option (List ℕ)) (room : Option ℕ) (before now : ℕ) (Told : List ℕ → Type 0) where
     abbrev Traced : Status → Type 0
@@ -108,20 +116,25 @@ module _ (p : ℕ) (given : Presentation) (limits : List (LimitKind × ℕ)) (as
     Undone t traces fault = IsUndone t held more room before now (λ e. OfTrace May t traces e Told) fault
 
     pub told_done : OfTrace May (task_of p given limits asked) asked.trace asked.bound Told → Traced Done
-    told_done h = done_traced May (accounts_of job) task own_setting (traces_of job) engine.accounts held more room before now Told (moved (λ t b. OfTrace May t b t.bound Told) h)
+    told_done h = done_traced May (accounts_of job) task own_setting (traces_of job) engine.accounts held more room before now Told
+        (moved (λ t b. OfTrace May t b t.bound Told) h)
 
     -- a fault by its name
     undone_by : (fault named : PrintFault) → fault ≡ named → Undone (task_of p given limits asked) asked.trace fault → Undone task (traces_of job) named
     undone_by fault named same h = moved (λ t b. Undone t b named) (subst (λ (f : PrintFault). Undone (task_of p given limits asked) asked.trace f) same h)
 
-    pub told_limit : (kind : LimitKind) (d value : ℕ) (fault : PrintFault) → fault ≡ stops.Limit kind d value → Undone (task_of p given limits asked) asked.trace fault → Traced (Limit kind d value)
-    told_limit kind d value fault same h = limit_traced May (accounts_of job) task own_setting (traces_of job) engine.accounts held more room before now Told kind d value (undone_by fault (stops.Limit kind d value) same h)
+    pub told_limit : (kind : LimitKind) (d value : ℕ) (fault : PrintFault) → fault ≡ stops.Limit kind d value →
+        Undone (task_of p given limits asked) asked.trace fault → Traced (Limit kind d value)
+    told_limit kind d value fault same h = limit_traced May (accounts_of job) task own_setting (traces_of job) engine.accounts held more
+        room before now Told kind d value (undone_by fault (stops.Limit kind d value) same h)
 
     pub told_write : (fault : PrintFault) → fault ≡ stops.WriteFault → Undone (task_of p given limits asked) asked.trace fault → Traced WriteFault
-    told_write fault same h = write_traced May (accounts_of job) task own_setting (traces_of job) engine.accounts held more room before now Told (undone_by fault stops.WriteFault same h)
+    told_write fault same h = write_traced May (accounts_of job) task own_setting (traces_of job) engine.accounts held more room before now
+        Told (undone_by fault stops.WriteFault same h)
 
     pub told_memory : (fault : PrintFault) → fault ≡ stops.NoMemory → Undone (task_of p given limits asked) asked.trace fault → Traced NoMemory
-    told_memory fault same h = memory_traced May (accounts_of job) task own_setting (traces_of job) engine.accounts held more room before now Told (undone_by fault stops.NoMemory same h)
+    told_memory fault same h = memory_traced May (accounts_of job) task own_setting (traces_of job) engine.accounts held more room before
+        now Told (undone_by fault stops.NoMemory same h)
 
 -- a status that can have a trace
 abbrev IsTraced : Status → Type 0
@@ -145,7 +158,8 @@ module _ (job : Job) (letters : Letters) (relations : List (List Term)) (held mo
   gb_untraced NoMemory none h = absurd (none tt)
 
   -- another status has none
-  untraced : (command : Command) (status : Status) → (IsTraced status → ⊥) → IsWorkTraceOf command job letters relations held more room status trace → trace ≡ []
+  untraced : (command : Command) (status : Status) → (IsTraced status → ⊥) →
+      IsWorkTraceOf command job letters relations held more room status trace → trace ≡ []
   untraced commands.Gb status none h = gb_untraced status none h
   untraced commands.Make status none h = h
   untraced commands.Module status none h = h
@@ -153,7 +167,8 @@ module _ (job : Job) (letters : Letters) (relations : List (List Term)) (held mo
   untraced commands.Normal status none h = h
 
   -- a command other than gb has none
-  pub no_trace : (command : Command) (status : Status) → command ≢ commands.Gb → trace ≡ [] → IsWorkTraceOf command job letters relations held more room status trace
+  pub no_trace : (command : Command) (status : Status) → command ≢ commands.Gb → trace ≡ [] →
+      IsWorkTraceOf command job letters relations held more room status trace
   no_trace commands.Gb status other h = absurd (other refl)
   no_trace commands.Make status other h = h
   no_trace commands.Module status other h = h
@@ -165,21 +180,36 @@ module _ (words : List (List ℕ)) (left now held more : Option (List ℕ)) (roo
   Traces status trace = IsRunTrace words left now held more room status trace
 
   -- the trace of the work on what was given
-  module _ (job : Job) (is : IsBuiltJob words job) (letters : Letters) (relations : List (List Term)) (reads : IsGivenReading job left now letters relations) (setting : IsSetting job.modulus letters.weights relations) (trace : List ℕ) where
-    given_trace : (status : Status) → IsWorkTrace job letters relations held more room status trace → OfWork words left now (λ own l rs. IsWorkTrace own l rs held more room status trace)
-    given_trace status h = (job, is, record { text = reads.0; is_given = reads.1; letters = letters; relations = relations; reads = reads.2; setting = setting; holds = h })
+  module _ (job : Job) (is : IsBuiltJob words job) (letters : Letters) (relations : List (List Term))
+      (reads : IsGivenReading job left now letters relations) (setting : IsSetting job.modulus letters.weights relations) (trace : List ℕ)
+    where
+      given_trace : (status : Status) → IsWorkTrace job letters relations held more room status trace →
+          OfWork words left now (λ own l rs. IsWorkTrace own l rs held more room status trace)
+      given_trace status h = (
+        job,
+        is,
+        record {
+          text = reads.0;
+          is_given = reads.1;
+          letters = letters;
+          relations = relations;
+          reads = reads.2;
+          setting = setting;
+          holds = h;
+        },
+      )
 
-    none_of : (status : Status) → (IsTraced status → ⊥) → IsWorkTrace job letters relations held more room status trace → trace ≡ []
-    none_of status none h = untraced job letters relations held more room trace job.command status none h
+      none_of : (status : Status) → (IsTraced status → ⊥) → IsWorkTrace job letters relations held more room status trace → trace ≡ []
+      none_of status none h = untraced job letters relations held more room trace job.command status none h
 
-    pub work_trace : (status : Status) → IsWorkTrace job letters relations held more room status trace → Traces status trace
-    work_trace Done h = given_trace Done h
-    work_trace (Usage fault) h = none_of (Usage fault) (λ none. none) h
-    work_trace (Input problem) h = none_of (Input problem) (λ none. none) h
-    work_trace (Limit kind d value) h = given_trace (Limit kind d value) h
-    work_trace (Chains d value) h = none_of (Chains d value) (λ none. none) h
-    work_trace (Products d value) h = none_of (Products d value) (λ none. none) h
-    work_trace (Unbuilt part) h = none_of (Unbuilt part) (λ none. none) h
-    work_trace ReadFault h = none_of ReadFault (λ none. none) h
-    work_trace WriteFault h = given_trace WriteFault h
-    work_trace NoMemory h = inr (given_trace NoMemory h)
+      pub work_trace : (status : Status) → IsWorkTrace job letters relations held more room status trace → Traces status trace
+      work_trace Done h = given_trace Done h
+      work_trace (Usage fault) h = none_of (Usage fault) (λ none. none) h
+      work_trace (Input problem) h = none_of (Input problem) (λ none. none) h
+      work_trace (Limit kind d value) h = given_trace (Limit kind d value) h
+      work_trace (Chains d value) h = none_of (Chains d value) (λ none. none) h
+      work_trace (Products d value) h = none_of (Products d value) (λ none. none) h
+      work_trace (Unbuilt part) h = none_of (Unbuilt part) (λ none. none) h
+      work_trace ReadFault h = none_of ReadFault (λ none. none) h
+      work_trace WriteFault h = given_trace WriteFault h
+      work_trace NoMemory h = inr (given_trace NoMemory h)

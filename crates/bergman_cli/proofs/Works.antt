@@ -13,7 +13,8 @@ use Rattle.job_steps.specs.declared.status.Status.{Status}
 use Rattle.job_steps.specs.declared.status.Status.TheVariants as statuses
 use Rattle.job_steps.specs.Status.{PrintsNothing}
 use Rattle.job_steps.specs.Statuses.{HasGained, HasGainedPart, IsAnswered, IsOwn, IsTaskEnd, IsTaskStatus, IsThis}
-use Rattle.job_steps.proofs.Statuses.{answered_by, answered_gained, cut_is_some, one_task_status, task_gained, task_outcome_status, task_status_own, task_status_prints}
+use Rattle.job_steps.proofs.Statuses.{answered_by, answered_gained, cut_is_some, one_task_status, task_gained, task_outcome_status, task_status_own}
+use Rattle.job_steps.proofs.Statuses.{task_status_prints}
 use Rattle.bergman_cli.specs.Gb.{gb_task}
 use Rattle.bergman_cli.specs.Make.{IsMakeText, make_task}
 use Rattle.bergman_cli.specs.Outcomes.{HasWrittenPartOf, HasWrittenSomeOf, IsDueOf, IsOutcomeOf, IsWorkEndOf, Writes}
@@ -29,7 +30,8 @@ module _ (job : Job) (letters : Letters) (relations : List (List Term)) where
   Outcome command = IsOutcomeOf command job letters relations
 
   -- one status is due
-  pub due_is_one : (command : Command) (status other : Status) → IsSetting job.modulus letters.weights relations → Due command status → Due command other → status ≡ other
+  pub due_is_one : (command : Command) (status other : Status) → IsSetting job.modulus letters.weights relations → Due command status →
+      Due command other → status ≡ other
   due_is_one Gb status other st a b = one_task_status (gb_task job letters relations) st status other a b
   due_is_one Make status other st a b = one_task_status (make_task job letters relations) st status other a b
   due_is_one Module status other st a b = one_module_status job letters relations st status other a b
@@ -53,7 +55,8 @@ module _ (job : Job) (letters : Letters) (relations : List (List Term)) where
 
   -- where nothing may be printed the text is empty
   pub quiet : (command : Command) (status : Status) (text : List ℕ) → Outcome command status text → PrintsNothing status → text ≡ []
-  quiet Gb status text h none = absurd (task_status_prints (gb_task job letters relations) status (task_outcome_status (gb_task job letters relations) status text h) none)
+  quiet Gb status text h none = absurd (task_status_prints (gb_task job letters relations) status
+      (task_outcome_status (gb_task job letters relations) status text h) none)
   quiet Make status text h none = absurd (task_status_prints (make_task job letters relations) status h.0 none)
   quiet Module status text h none = module_quiet job letters relations status text h.1 none
   quiet Chains status text h none = absurd (chains_prints job letters relations status h.0 none)
@@ -71,7 +74,8 @@ module _ (job : Job) (letters : Letters) (relations : List (List Term)) where
   gb_writes statuses.WriteFault h = absurd h
   gb_writes statuses.NoMemory h = absurd h
 
-  make_writes : (status : Status) (text : List ℕ) → IsTaskStatus (make_task job letters relations) status → IsMakeText job letters relations status text → text ≢ [] → Writes Make status
+  make_writes : (status : Status) (text : List ℕ) → IsTaskStatus (make_task job letters relations) status →
+      IsMakeText job letters relations status text → text ≢ [] → Writes Make status
   make_writes statuses.Done text due h some = tt
   make_writes (statuses.Usage fault) text due h some = absurd due
   make_writes (statuses.Input problem) text due h some = absurd due
@@ -96,7 +100,8 @@ module _ (job : Job) (letters : Letters) (relations : List (List Term)) where
     Ends command = IsWorkEndOf command job letters relations held more room before after
 
     -- an answer that was written ends the work
-    pub answer_ends : (command : Command) → command ≢ Gb → (own : Status) (text : List ℕ) → Outcome command own text → (status : Status) → IsAnswered (IsThis own text) held more room before after status → Ends command status
+    pub answer_ends : (command : Command) → command ≢ Gb → (own : Status) (text : List ℕ) → Outcome command own text → (status : Status) →
+        IsAnswered (IsThis own text) held more room before after status → Ends command status
     answer_ends Gb other own text is status h = absurd (other refl)
     answer_ends Make other own text is status h = answered_by (Outcome Make) held more room before after own text is status h
     answer_ends Module other own text is status h = answered_by (Outcome Module) held more room before after own text is status h
@@ -125,20 +130,23 @@ module _ (job : Job) (letters : Letters) (relations : List (List Term)) where
     work_memory Chains h = inl h
     work_memory Normal h = inl h
 
-    part_writes : (command : Command) (own : Status) → IsSetting job.modulus letters.weights relations → Due command own → HasGainedPart held more room (Outcome command) → Writes command own
+    part_writes : (command : Command) (own : Status) → IsSetting job.modulus letters.weights relations → Due command own →
+        HasGainedPart held more room (Outcome command) → Writes command own
     part_writes command own st due h =
         let same = due_is_one command h.0 own st (outcome_due command h.0 h.1 h.2) due in
         subst (Writes command) same (some_writes command h.0 h.1 h.2 (cut_is_some h.3.gained h.1 h.3.cut_short))
 
     -- a write fails only where the status that is due has something written
-    pub failed_writes : (command : Command) (own : Status) → IsSetting job.modulus letters.weights relations → Due command own → Ends command statuses.WriteFault → Writes command own
+    pub failed_writes : (command : Command) (own : Status) → IsSetting job.modulus letters.weights relations → Due command own →
+        Ends command statuses.WriteFault → Writes command own
     failed_writes Gb own st due h = gb_writes own due
     failed_writes Make own st due h = part_writes Make own st due h.1
     failed_writes Module own st due h = part_writes Module own st due h.1
     failed_writes Chains own st due h = part_writes Chains own st due h.1
     failed_writes Normal own st due h = part_writes Normal own st due h.1
 
-    gb_never : (status : Status) → (IsOwn status → ⊥) → status ≢ statuses.WriteFault → status ≢ statuses.NoMemory → IsTaskEnd (gb_task job letters relations) held more room before after status → ⊥
+    gb_never : (status : Status) → (IsOwn status → ⊥) → status ≢ statuses.WriteFault → status ≢ statuses.NoMemory →
+        IsTaskEnd (gb_task job letters relations) held more room before after status → ⊥
     gb_never statuses.Done own write memory h = own tt
     gb_never (statuses.Usage fault) own write memory h = h
     gb_never (statuses.Input problem) own write memory h = h
@@ -153,7 +161,8 @@ module _ (job : Job) (letters : Letters) (relations : List (List Term)) where
     gained_own : (command : Command) (status : Status) → HasGained held more (Outcome command status) → IsOwn status
     gained_own command status h = due_own command status (outcome_due command status h.0 h.1)
 
-    answered_never : (command : Command) (status : Status) → (IsOwn status → ⊥) → status ≢ statuses.WriteFault → status ≢ statuses.NoMemory → IsAnswered (Outcome command) held more room before after status → ⊥
+    answered_never : (command : Command) (status : Status) → (IsOwn status → ⊥) → status ≢ statuses.WriteFault → status ≢ statuses.NoMemory
+        → IsAnswered (Outcome command) held more room before after status → ⊥
     answered_never command statuses.Done own write memory h = own tt
     answered_never command (statuses.Usage fault) own write memory h = own (gained_own command (statuses.Usage fault) h)
     answered_never command (statuses.Input problem) own write memory h = own (gained_own command (statuses.Input problem) h)

@@ -43,18 +43,22 @@ traces_in Plain asked = false
 abbrev pub traces_of : Job → Bool
 traces_of job = traces_in job.engine job.trace
 
--- the calls of an account are a history of claims on the matrix of the degree, and those that won name the leading words of its reduced basis
+-- the calls of an account are a history of claims on the matrix of the degree, and those that won name the leading
+-- words of its reduced basis
 abbrev pub TellsHistory : ℕ → Accounts
 TellsHistory workers p given below d account =
     (elements : List (List Term)) → IsReducedBasis p given.alphabet.weights given.relations d elements
-    → TellsMatrix p given.alphabet.weights given.relations below.elements d account × IsClaimHistory (crew_of workers account.rows) elements account
+    → TellsMatrix p given.alphabet.weights given.relations below.elements d account
+    × IsClaimHistory (crew_of workers account.rows) elements account
 
 -- the accounts that an engine may tell
 abbrev pub accounts_in : EngineKind → ℕ → ℕ → Accounts
 accounts_in Race workers schedule p given below d account =
-    IsRunAccount workers p given.alphabet.weights given.relations below.elements d account × TellsHistory workers p given below d account
+    IsRunAccount workers p given.alphabet.weights given.relations below.elements d account
+    × TellsHistory workers p given below d account
 accounts_in Core workers schedule p given below d account =
-    IsCoreAccount workers schedule p given.alphabet.weights given.relations below.elements d account × TellsHistory workers p given below d account
+    IsCoreAccount workers schedule p given.alphabet.weights given.relations below.elements d account
+    × TellsHistory workers p given below d account
 accounts_in Seq workers schedule p given below d account = ⊥
 accounts_in Plain workers schedule p given below d account = ⊥
 
@@ -64,7 +68,9 @@ accounts_of job = accounts_in job.engine job.workers job.schedule
 -- over a basis below a degree the one accounts are among the others
 abbrev pub AreAmong : Accounts → Accounts → Type 0
 AreAmong May Own =
-    (p : ℕ) (given : Presentation) (below : Elements) (d : ℕ) (account : Account) → IsSetting p given.alphabet.weights given.relations → IsBelow p given.alphabet.weights given.relations d below
+    (p : ℕ) (given : Presentation) (below : Elements) (d : ℕ) (account : Account) →
+    IsSetting p given.alphabet.weights given.relations →
+    IsBelow p given.alphabet.weights given.relations d below
     → May p given below d account → Own p given below d account
 
 -- limits and accounts of the engine that a job names

@@ -37,10 +37,12 @@ coefficient_sum fs = sum_by (λ t. t.coefficient) (flat_map (λ f. f) fs)
 abbrev pub number_line : List ℕ → ℕ → List ℕ
 number_line name number = line (name ++ codes " " ++ decimal number)
 
--- how many relations, the elements of the basis with their terms and the sum of their coefficients, and the last coefficient
+-- how many relations, the elements of the basis with their terms and the sum of their coefficients, and the last
+-- coefficient
 abbrev pub summary_text : ℕ → ℕ → List (List Term) → ℕ → ℕ → List ℕ
 summary_text number relations elements d coefficient =
-    number_line (codes "% make") number ++ number_line (codes "relations") relations ++ number_line (codes "elements") (length elements) ++ number_line (codes "terms") (terms_in elements)
+    number_line (codes "% make") number ++ number_line (codes "relations") relations ++ number_line (codes "elements") (length elements)
+    ++ number_line (codes "terms") (terms_in elements)
     ++ number_line (codes "sum") (coefficient_sum elements) ++ codes "coefficient " ++ decimal d ++ number_line [] coefficient
 
 -- the summary of the ideal of these relations, up to the bound of the job
@@ -58,4 +60,5 @@ IsMakeText job letters relations status text = text ≡ []
 
 -- an end of the command, with its text
 abbrev pub IsMakeOutcome : Job → Letters → List (List Term) → Status → List ℕ → Type 0
-IsMakeOutcome job letters relations status text = IsTaskStatus (make_task job letters relations) status × IsMakeText job letters relations status text
+IsMakeOutcome job letters relations status text = IsTaskStatus (make_task job letters relations) status
+    × IsMakeText job letters relations status text

@@ -1,5 +1,7 @@
--- What the command module asks of letters and relations, and what it prints. The last letters are the generators of a right module.
-use Rattle.std.specs.Prelude.{ℕ, ◌≡◌, ◌⊎◌, ◌+◌, ◌-◌, ◌<◌, ◌≤◌, List, [], ◌++◌, All, codes, length, slice_index, slice_index_or}
+-- What the command module asks of letters and relations, and what it prints. The last letters are the generators of a
+-- right module.
+use Rattle.std.specs.Prelude.{ℕ, ◌≡◌, ◌⊎◌, ◌+◌, ◌-◌, ◌<◌, ◌≤◌, List, [], ◌++◌, All, codes, length, slice_index}
+use Rattle.std.specs.Prelude.{slice_index_or}
 use Rattle.words.specs.Names.{Letters}
 use Rattle.free_poly.specs.declared.term.Term.{Term}
 use Rattle.ideal_laws.specs.declared.limits.LimitKind.TheVariants.{NormalWords}
@@ -28,14 +30,17 @@ IsOfModule job letters relations = (job.gens ≤ length letters.weights) × All 
 
 -- up to the bound no quantity of the job's engine passes its limit on all relations together
 abbrev pub PassesNoLimit : Job → Letters → List (List Term) → Type 0
-PassesNoLimit job letters relations = NonePassesUpto job.modulus letters.weights relations (limits_of job.engine) job.bound
+PassesNoLimit job letters relations = NonePassesUpto job.modulus letters.weights relations (limits_of job.engine)
+    job.bound
 
 -- in the degrees below d the module coefficients are at most the limit
 abbrev pub AreFewBelow : ℕ → List ℕ → ℕ → List (List Term) → ℕ → ℕ → Type 0
-AreFewBelow p weights free relations limit d = (e : ℕ) → e < d → (h : ℕ) × IsModuleCoefficient p weights free relations e h × (h ≤ limit)
+AreFewBelow p weights free relations limit d = (e : ℕ) → e < d → (h : ℕ)
+    × IsModuleCoefficient p weights free relations e h × (h ≤ limit)
 
 -- d is the first degree with a greater module coefficient, and the kept value is the limit plus 1
-pub record IsFirstLargeModule (p : ℕ) (weights : List ℕ) (free : ℕ) (relations : List (List Term)) (limit d value : ℕ) : Type 0 where
+pub record IsFirstLargeModule (p : ℕ) (weights : List ℕ) (free : ℕ) (relations : List (List Term))
+    (limit d value : ℕ) : Type 0 where
   pub before : AreFewBelow p weights free relations limit d
   pub coefficient : ℕ
   pub is_coefficient : IsModuleCoefficient p weights free relations d coefficient
@@ -45,20 +50,26 @@ pub record IsFirstLargeModule (p : ℕ) (weights : List ℕ) (free : ℕ) (relat
 -- behind the limits of the engine comes that of the normal module words
 abbrev pub IsCrowded : Job → Letters → List (List Term) → ℕ → ℕ → Type 0
 IsCrowded job letters relations d value =
-    PassesNoLimit job letters relations × (d ≤ job.bound) × IsFirstLargeModule job.modulus letters.weights (free_of job letters) relations standard_limits.normal_words d value
+    PassesNoLimit job letters relations × (d ≤ job.bound)
+    × IsFirstLargeModule job.modulus letters.weights (free_of job letters) relations
+    standard_limits.normal_words d value
 
 -- the status that is due
 abbrev pub IsModuleStatus : Job → Letters → List (List Term) → Status → Type 0
 IsModuleStatus job letters relations (Input (TooFewNames names)) = (names < job.gens) × (names ≡ length letters.weights)
-IsModuleStatus job letters relations (Input (Shape relation)) = (job.gens ≤ length letters.weights) × IsFirstOther (free_of job letters) relations relation
+IsModuleStatus job letters relations (Input (Shape relation)) = (job.gens ≤ length letters.weights)
+    × IsFirstOther (free_of job letters) relations relation
 IsModuleStatus job letters relations (Limit kind d value) = IsOfModule job letters relations
-    × (IsFirstRefused job.modulus letters.weights relations (limits_of job.engine) job.bound kind d value ⊎ ((kind ≡ NormalWords) × IsCrowded job letters relations d value))
+    × (IsFirstRefused job.modulus letters.weights relations (limits_of job.engine) job.bound kind d value
+    ⊎ ((kind ≡ NormalWords) × IsCrowded job letters relations d value))
 IsModuleStatus job letters relations Done = IsOfModule job letters relations × PassesNoLimit job letters relations
-    × AreFewBelow job.modulus letters.weights (free_of job letters) relations standard_limits.normal_words (job.bound + 1)
+    × AreFewBelow job.modulus letters.weights (free_of job letters) relations standard_limits.normal_words
+    (job.bound + 1)
 IsModuleStatus job letters relations status = ⊥
 
 -- the printed reduced module bases of degrees 1 to the bound
-pub record IsModuleBasisText (p : ℕ) (letters : Letters) (free : ℕ) (relations : List (List Term)) (bound : ℕ) (text : List ℕ) : Type 0 where
+pub record IsModuleBasisText (p : ℕ) (letters : Letters) (free : ℕ) (relations : List (List Term)) (bound : ℕ)
+    (text : List ℕ) : Type 0 where
   pub bases : List (List (List Term))
   pub count : length bases ≡ bound
   pub each : (k : ℕ) → k < bound → IsModuleBasis p letters.weights free relations (k + 1) (slice_index_or bases k [])
@@ -69,7 +80,8 @@ abbrev pub module_series_text : List ℕ → List ℕ
 module_series_text numbers = line (codes "% module series") ++ series_lines 0 numbers
 
 -- the printed module coefficients of degrees 0 to the bound
-pub record IsModuleSeriesText (p : ℕ) (weights : List ℕ) (free : ℕ) (relations : List (List Term)) (bound : ℕ) (text : List ℕ) : Type 0 where
+pub record IsModuleSeriesText (p : ℕ) (weights : List ℕ) (free : ℕ) (relations : List (List Term)) (bound : ℕ)
+    (text : List ℕ) : Type 0 where
   pub numbers : List ℕ
   pub count : length numbers ≡ bound + 1
   pub each : (k : ℕ) → k < bound + 1 → IsModuleCoefficient p weights free relations k (slice_index numbers k)
@@ -79,8 +91,10 @@ pub record IsModuleSeriesText (p : ℕ) (weights : List ℕ) (free : ℕ) (relat
 pub record IsModuleText (job : Job) (letters : Letters) (relations : List (List Term)) (text : List ℕ) : Type 0 where
   pub basis : List ℕ
   pub series : List ℕ
-  pub is_basis : IsPart (shows_basis job.show) (IsModuleBasisText job.modulus letters (free_of job letters) relations job.bound) basis
-  pub is_series : IsPart (shows_series job.show) (IsModuleSeriesText job.modulus letters.weights (free_of job letters) relations job.bound) series
+  pub is_basis : IsPart (shows_basis job.show) (IsModuleBasisText job.modulus letters (free_of job letters)
+      relations job.bound) basis
+  pub is_series : IsPart (shows_series job.show) (IsModuleSeriesText job.modulus letters.weights
+      (free_of job letters) relations job.bound) series
   pub joined : text ≡ basis ++ series
 
 -- what is printed with this status: the module text, or nothing
@@ -90,4 +104,5 @@ IsTextWith job letters relations status text = text ≡ []
 
 -- an end of the command, with its text
 abbrev pub IsModuleOutcome : Job → Letters → List (List Term) → Status → List ℕ → Type 0
-IsModuleOutcome job letters relations status text = IsModuleStatus job letters relations status × IsTextWith job letters relations status text
+IsModuleOutcome job letters relations status text = IsModuleStatus job letters relations status
+    × IsTextWith job letters relations status text

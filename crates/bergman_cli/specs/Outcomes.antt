@@ -42,9 +42,11 @@ abbrev pub IsOutcome : Job → Letters → List (List Term) → Status → List 
 IsOutcome job = IsOutcomeOf job.command job
 
 -- what was gained where a write failed
-abbrev pub HasWrittenPartOf : Command → Job → Letters → List (List Term) → Option (List ℕ) → Option (List ℕ) → Option ℕ → Type 0
+abbrev pub HasWrittenPartOf : Command → Job → Letters → List (List Term) → Option (List ℕ) → Option (List ℕ) →
+    Option ℕ → Type 0
 HasWrittenPartOf Gb job letters relations held more room = HasPrintedPart (gb_task job letters relations) held more room
-HasWrittenPartOf command job letters relations held more room = HasGainedPart held more room (IsOutcomeOf command job letters relations)
+HasWrittenPartOf command job letters relations held more room =
+    HasGainedPart held more room (IsOutcomeOf command job letters relations)
 
 abbrev pub HasWrittenPart : Job → Letters → List (List Term) → Option (List ℕ) → Option (List ℕ) → Option ℕ → Type 0
 HasWrittenPart job = HasWrittenPartOf job.command job
@@ -58,19 +60,24 @@ abbrev pub HasWrittenSome : Job → Letters → List (List Term) → Option (Lis
 HasWrittenSome job = HasWrittenSomeOf job.command job
 
 -- how the work on these letters and relations ended, and what was gained of its text
-abbrev pub IsWorkEndOf : Command → Job → Letters → List (List Term) → Option (List ℕ) → Option (List ℕ) → Option ℕ → ℕ → ℕ → Status → Type 0
+abbrev pub IsWorkEndOf : Command → Job → Letters → List (List Term) → Option (List ℕ) → Option (List ℕ) → Option ℕ →
+    ℕ → ℕ → Status → Type 0
 IsWorkEndOf Gb job letters relations = IsTaskEnd (gb_task job letters relations)
 IsWorkEndOf command job letters relations = IsAnswered (IsOutcomeOf command job letters relations)
 
-abbrev pub IsWorkEnd : Job → Letters → List (List Term) → Option (List ℕ) → Option (List ℕ) → Option ℕ → ℕ → ℕ → Status → Type 0
+abbrev pub IsWorkEnd : Job → Letters → List (List Term) → Option (List ℕ) → Option (List ℕ) → Option ℕ → ℕ → ℕ →
+    Status → Type 0
 IsWorkEnd job = IsWorkEndOf job.command job
 
 -- the trace that was told of the work: that of gb
-abbrev pub IsWorkTraceOf : Command → Job → Letters → List (List Term) → Option (List ℕ) → Option (List ℕ) → Option ℕ → Status → List ℕ → Type 0
-IsWorkTraceOf Gb job letters relations held more room status trace = IsTaskTrace (accounts_of job) (traces_of job) (gb_task job letters relations) held more room status trace
+abbrev pub IsWorkTraceOf : Command → Job → Letters → List (List Term) → Option (List ℕ) → Option (List ℕ) → Option ℕ
+    → Status → List ℕ → Type 0
+IsWorkTraceOf Gb job letters relations held more room status trace =
+    IsTaskTrace (accounts_of job) (traces_of job) (gb_task job letters relations) held more room status trace
 IsWorkTraceOf command job letters relations held more room status trace = trace ≡ []
 
-abbrev pub IsWorkTrace : Job → Letters → List (List Term) → Option (List ℕ) → Option (List ℕ) → Option ℕ → Status → List ℕ → Type 0
+abbrev pub IsWorkTrace : Job → Letters → List (List Term) → Option (List ℕ) → Option (List ℕ) → Option ℕ → Status →
+    List ℕ → Type 0
 IsWorkTrace job = IsWorkTraceOf job.command job
 
 -- with this status a run of the command writes something

@@ -14,12 +14,14 @@ use Rattle.command_words.specs.JobOf.{IsJob, IsUsageFault}
 use Rattle.job_steps.specs.declared.status.InputProblem.TheVariants.{TooLong, Text}
 use Rattle.job_steps.specs.declared.status.Part.TheVariants as parts
 use Rattle.job_steps.specs.declared.status.Status.{Status}
-use Rattle.job_steps.specs.declared.status.Status.TheVariants.{Done, Usage, Input, Limit, Chains, Products, Unbuilt, ReadFault, WriteFault, NoMemory}
+use Rattle.job_steps.specs.declared.status.Status.TheVariants.{Done, Usage, Input, Limit, Chains, Products, Unbuilt}
+use Rattle.job_steps.specs.declared.status.Status.TheVariants.{ReadFault, WriteFault, NoMemory}
 use Rattle.job_steps.specs.Inputs.{IsInput, IsInputEnd, IsRefusedInput}
 use Rattle.bergman_cli.specs.Jobs.{IsBuiltJob, IsUnbuiltCommand, IsUnbuiltEngine, OfBuiltJob}
 use Rattle.bergman_cli.specs.Outcomes.{IsDue, IsWorkEnd, IsWorkTrace, Writes}
 
--- In the following, left and now are what the source tells of its bytes before and after; held, more, room and the counts of faults are those of the sink.
+-- In the following, left and now are what the source tells of its bytes before and after; held, more, room and the
+-- counts of faults are those of the sink.
 
 -- a command that reads its source: all but make
 abbrev pub ReadsSource : Command → Type 0
@@ -37,7 +39,8 @@ IsGivenTo command job left now text = IsInput left now text
 
 -- its text has this reading
 abbrev pub IsGivenReading : Job → Option (List ℕ) → Option (List ℕ) → Letters → List (List Term) → Type 0
-IsGivenReading job left now letters relations = (text : List ℕ) × IsGivenTo job.command job left now text × Reads text job.modulus letters relations
+IsGivenReading job left now letters relations = (text : List ℕ) × IsGivenTo job.command job left now text
+    × Reads text job.modulus letters relations
 
 -- its text has a reading, of which something holds
 pub record OfGiven (job : Job) (left now : Option (List ℕ)) (Holds : Letters → List (List Term) → Type 0) : Type 0 where
@@ -50,7 +53,8 @@ pub record OfGiven (job : Job) (left now : Option (List ℕ)) (Holds : Letters �
   pub holds : Holds letters relations
 
 -- the words are a job, and of it and what is given to it something holds
-abbrev pub OfWork : List (List ℕ) → Option (List ℕ) → Option (List ℕ) → (Job → Letters → List (List Term) → Type 0) → Type 0
+abbrev pub OfWork : List (List ℕ) → Option (List ℕ) → Option (List ℕ) → (Job → Letters → List (List Term) → Type 0)
+    → Type 0
 OfWork words left now Holds = OfBuiltJob words (λ job. OfGiven job left now (Holds job))
 
 -- why a job had no reading to work on
@@ -59,24 +63,33 @@ IsUngivenTo commands.Make p left now b a status = status ≡ NoMemory
 IsUngivenTo command p left now b a status = IsInputEnd p left now b a status
 
 -- why a job ended so: it had no reading to work on and nothing was gained, or its work has ended so
-abbrev pub IsJobEnd : Job → Option (List ℕ) → Option (List ℕ) → ℕ → ℕ → Option (List ℕ) → Option (List ℕ) → Option ℕ → ℕ → ℕ → Status → Type 0
+abbrev pub IsJobEnd : Job → Option (List ℕ) → Option (List ℕ) → ℕ → ℕ → Option (List ℕ) → Option (List ℕ) → Option ℕ
+    → ℕ → ℕ → Status → Type 0
 IsJobEnd job left now b a held more room before after status =
     (IsUngivenTo job.command job.modulus left now b a status × Appends held more [])
     ⊎ OfGiven job left now (λ letters relations. IsWorkEnd job letters relations held more room before after status)
 
 -- why a run ended so
-abbrev pub IsEnd : List (List ℕ) → Option (List ℕ) → Option (List ℕ) → ℕ → ℕ → Option (List ℕ) → Option (List ℕ) → Option ℕ → ℕ → ℕ → Status → Type 0
+abbrev pub IsEnd : List (List ℕ) → Option (List ℕ) → Option (List ℕ) → ℕ → ℕ → Option (List ℕ) → Option (List ℕ) →
+    Option ℕ → ℕ → ℕ → Status → Type 0
 IsEnd words left now b a held more room before after (Usage fault) = IsUsageFault words fault
 IsEnd words left now b a held more room before after (Unbuilt parts.Command) = IsUnbuiltCommand words
 IsEnd words left now b a held more room before after (Unbuilt parts.Engine) = IsUnbuiltEngine words
-IsEnd words left now b a held more room before after status = OfBuiltJob words (λ job. IsJobEnd job left now b a held more room before after status)
+IsEnd words left now b a held more room before after status =
+    OfBuiltJob words (λ job. IsJobEnd job left now b a held more room before after status)
 
 -- the trace of a run that ended so: that of the work of its job, or none
-abbrev pub IsRunTrace : List (List ℕ) → Option (List ℕ) → Option (List ℕ) → Option (List ℕ) → Option (List ℕ) → Option ℕ → Status → List ℕ → Type 0
-IsRunTrace words left now held more room Done trace = OfWork words left now (λ job letters relations. IsWorkTrace job letters relations held more room Done trace)
-IsRunTrace words left now held more room (Limit kind d value) trace = OfWork words left now (λ job letters relations. IsWorkTrace job letters relations held more room (Limit kind d value) trace)
-IsRunTrace words left now held more room WriteFault trace = OfWork words left now (λ job letters relations. IsWorkTrace job letters relations held more room WriteFault trace)
-IsRunTrace words left now held more room NoMemory trace = (trace ≡ []) ⊎ OfWork words left now (λ job letters relations. IsWorkTrace job letters relations held more room NoMemory trace)
+abbrev pub IsRunTrace : List (List ℕ) → Option (List ℕ) → Option (List ℕ) → Option (List ℕ) → Option (List ℕ) →
+    Option ℕ → Status → List ℕ → Type 0
+IsRunTrace words left now held more room Done trace = OfWork words left now
+    (λ job letters relations. IsWorkTrace job letters relations held more room Done trace)
+IsRunTrace words left now held more room (Limit kind d value) trace =
+    OfWork words left now (λ job letters relations. IsWorkTrace job letters relations held more room
+    (Limit kind d value) trace)
+IsRunTrace words left now held more room WriteFault trace = OfWork words left now
+    (λ job letters relations. IsWorkTrace job letters relations held more room WriteFault trace)
+IsRunTrace words left now held more room NoMemory trace = (trace ≡ [])
+    ⊎ OfWork words left now (λ job letters relations. IsWorkTrace job letters relations held more room NoMemory trace)
 IsRunTrace words left now held more room status trace = trace ≡ []
 
 -- the text is told before it is read: with make the generated one, and else the bytes of the source
@@ -95,11 +108,14 @@ pub record IsDueTo (job : Job) (left : Option (List ℕ)) (status : Status) : Ty
 
 -- the job and the bytes that its source tells are a cause of this status
 abbrev pub IsCaused : Job → Option (List ℕ) → Status → Type 0
-IsCaused job left (Input TooLong) = ReadsSource job.command × ((text : List ℕ) × (left ≡ Some text) × (1048576 < length text))
-IsCaused job left (Input (Text fault)) = ReadsSource job.command × ((text : List ℕ) × (left ≡ Some text) × (length text ≤ 1048576) × FirstFault text job.modulus fault)
+IsCaused job left (Input TooLong) = ReadsSource job.command
+    × ((text : List ℕ) × (left ≡ Some text) × (1048576 < length text))
+IsCaused job left (Input (Text fault)) = ReadsSource job.command
+    × ((text : List ℕ) × (left ≡ Some text) × (length text ≤ 1048576) × FirstFault text job.modulus fault)
 IsCaused job left status = IsDueTo job left status
 
--- what may come in the place of a status: want of memory, a failed read where the source is read, and a failed write where something is written
+-- what may come in the place of a status: want of memory, a failed read where the source is read, and a failed write
+-- where something is written
 abbrev pub IsMishap : Command → Status → ℕ → ℕ → ℕ → ℕ → Status → Type 0
 IsMishap command own b a before after NoMemory = Unit {0}
 IsMishap command own b a before after ReadFault = ReadsSource command × Rose b a
@@ -109,4 +125,5 @@ IsMishap command own b a before after status = ⊥
 -- a status comes where its cause stands, or a mishap in its place
 abbrev pub Completes : List (List ℕ) → Option (List ℕ) → ℕ → ℕ → ℕ → ℕ → Status → Type 0
 Completes words left b a before after status =
-    (job : Job) (own : Status) → IsBuiltJob words job → IsCaused job left own → (status ≡ own) ⊎ IsMishap job.command own b a before after status
+    (job : Job) (own : Status) → IsBuiltJob words job → IsCaused job left own → (status ≡ own)
+    ⊎ IsMishap job.command own b a before after status

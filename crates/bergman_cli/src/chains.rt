@@ -29,7 +29,8 @@ pub fn chains_answer<R: Threads + Sync, E: DegreeEngine>(
     requires sound { IsSound job.now }
     requires modulus { field.now ≡ job.now.modulus }
     requires residues { All (HasResidues field.now) given.now.relations }
-    ensures { IfOk result (λ answer. IsChainsOutcome job.now given.now.alphabet given.now.relations answer.status answer.text) }
+    ensures { IfOk result (λ answer. IsChainsOutcome job.now given.now.alphabet given.now.relations answer.status
+        answer.text) }
 {
     setting_law(field, given);
     lower_law();

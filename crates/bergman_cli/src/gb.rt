@@ -31,9 +31,12 @@ pub fn run_gb<R: Threads + Sync, E: DegreeEngine, K: Sink, T: Sink>(
     requires sound { IsSound job.now }
     requires residues { All (HasResidues field.now) given.now.relations }
 
-    ensures end { IsTaskEnd (gb_task job.now given.now.alphabet given.now.relations) (K.held out.old) (K.held out.new) (K.room out.old) (K.faults out.old) (K.faults out.new) result }
+    ensures end { IsTaskEnd (gb_task job.now given.now.alphabet given.now.relations) (K.held out.old)
+        (K.held out.new) (K.room out.old) (K.faults out.old) (K.faults out.new) result }
     ensures writes { result ≢ Status.WriteFault → K.faults out.new ≡ K.faults out.old }
-    ensures told { (trace : List ℕ) × IsTaskTrace (accounts_of job.now) (traces_of job.now) (gb_task job.now given.now.alphabet given.now.relations) (K.held out.old) (K.held out.new) (K.room out.old) result trace
+    ensures told { (trace : List ℕ) × IsTaskTrace (accounts_of job.now) (traces_of job.now)
+        (gb_task job.now given.now.alphabet given.now.relations) (K.held out.old) (K.held out.new) (K.room out.old)
+        result trace
         × Tells (T.held err.old) (T.held err.new) (T.faults err.old) (T.faults err.new) failed.old failed.new trace }
 {
     setting_law(field, given);
@@ -58,7 +61,12 @@ pub fn run_gb<R: Threads + Sync, E: DegreeEngine, K: Sink, T: Sink>(
 
 /// What the job shows.
 fn asked_of(job: &Job) -> Asked
-    ensures { result ≡ record { bound = job.now.bound; basis = shows_basis job.now.show; series = shows_series job.now.show; trace = traces_of job.now } }
+    ensures { result ≡ record {
+      bound = job.now.bound;
+      basis = shows_basis job.now.show;
+      series = shows_series job.now.show;
+      trace = traces_of job.now;
+    } }
 {
     let trace = traces(job);
     match job.show {

@@ -31,7 +31,8 @@ pub fn make_answer<R: Threads + Sync, E: DegreeEngine>(
     requires sound { IsSound job.now }
     requires modulus { field.now ≡ job.now.modulus }
     requires residues { All (HasResidues field.now) given.now.relations }
-    ensures { IfOk result (λ answer. IsMakeOutcome job.now given.now.alphabet given.now.relations answer.status answer.text) }
+    ensures { IfOk result (λ answer. IsMakeOutcome job.now given.now.alphabet given.now.relations answer.status
+        answer.text) }
 {
     setting_law(field, given);
     lower_law();
@@ -78,7 +79,8 @@ fn summary_text(
     basis: &Basis,
     coefficient: u64,
 ) -> Result<Vec<u8>, NoMemory>
-    ensures { IfOk result (λ text. text.items ≡ summary_text job.now.number relations basis.now.elements job.now.bound coefficient) }
+    ensures { IfOk result (λ text. text.items ≡ summary_text job.now.number relations basis.now.elements
+        job.now.bound coefficient) }
 {
     let (terms, sum) = totals(basis);
     let mut text = Vec::new(alloc);

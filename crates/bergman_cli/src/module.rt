@@ -4,7 +4,8 @@ ghost use Rattle.job_steps.specs.declared.status.Status.TheVariants.{Input};
 ghost use Rattle.right_modules.specs.Answered.{AreModuleDegrees, AreModuleNumbers};
 ghost use Rattle.bergman_cli.specs.Engines.{limits_of};
 ghost use Rattle.bergman_cli.specs.Jobs.{IsSound};
-ghost use Rattle.bergman_cli.specs.Module.{IsModuleBasisText, IsModuleOutcome, IsModuleText, free_of, module_series_text};
+ghost use Rattle.bergman_cli.specs.Module.{IsModuleBasisText, IsModuleOutcome, IsModuleText, free_of};
+ghost use Rattle.bergman_cli.specs.Module.{module_series_text};
 
 use crate::make::{push_line, push_number};
 use command_words::{Command, Job, Show};
@@ -31,7 +32,8 @@ pub fn module_answer<R: Threads + Sync, E: DegreeEngine>(
     requires sound { IsSound job.now }
     requires modulus { field.now ≡ job.now.modulus }
     requires residues { All (HasResidues field.now) given.now.relations }
-    ensures { IfOk result (λ answer. IsModuleOutcome job.now given.now.alphabet given.now.relations answer.status answer.text) }
+    ensures { IfOk result (λ answer. IsModuleOutcome job.now given.now.alphabet given.now.relations answer.status
+        answer.text) }
 {
     let names = given.alphabet.len();
     if names < job.gens {
@@ -109,7 +111,8 @@ fn basis_text(
     degrees: &[ModuleDegree],
 ) -> Result<Vec<u8>, NoMemory>
     requires { AreModuleDegrees field.now given.now job.now.gens job.now.bound degrees.now }
-    ensures { IfOk result (λ text. IsModuleBasisText field.now given.now.alphabet (free_of job.now given.now.alphabet) given.now.relations job.now.bound text.items) }
+    ensures { IfOk result (λ text. IsModuleBasisText field.now given.now.alphabet
+        (free_of job.now given.now.alphabet) given.now.relations job.now.bound text.items) }
 {
     let mut text = Vec::new(alloc);
     for part in degrees {

@@ -37,7 +37,8 @@ pub fn normal_answer<R: Threads + Sync, E: DegreeEngine>(
     requires sound { IsSound job.now }
     requires modulus { field.now ≡ job.now.modulus }
     requires residues { All (HasResidues field.now) given.now.relations }
-    ensures { IfOk result (λ answer. IsNormalOutcome job.now given.now.alphabet given.now.relations answer.status answer.text) }
+    ensures { IfOk result (λ answer. IsNormalOutcome job.now given.now.alphabet given.now.relations answer.status
+        answer.text) }
 {
     let relations = given.relations.as_slice();
     let count = relations.len() as u32;
@@ -76,7 +77,8 @@ fn first_above(alphabet: &Alphabet, questions: &[Poly], bound: u32) -> Option<u3
     requires few { length questions.now < 2 ^ 32 }
     requires bound { bound ≤ 64 }
     requires letters { All (UsesLetters (length alphabet.now.weights)) questions.now }
-    ensures { MatchOption result (HasNone (IsAbove alphabet.now.weights bound) questions.now) (λ place. IsFirstPlace (IsAbove alphabet.now.weights bound) questions.now place) }
+    ensures { MatchOption result (HasNone (IsAbove alphabet.now.weights bound) questions.now)
+        (λ place. IsFirstPlace (IsAbove alphabet.now.weights bound) questions.now place) }
 {
     for (place, question) in questions.iter().enumerate() {
         if degree_of(alphabet, question) > bound {
@@ -114,7 +116,8 @@ fn answers(
     requires weights { basis.now.weights ≡ ideal.now.alphabet.weights }
     requires reduced { IsReducedUpto field.now ideal.now.relations basis.now }
     requires relations { All (HasResidues field.now) ideal.now.relations }
-    ensures { IfOk result (λ answer. IsAnsweredBy field.now ideal.now.alphabet ideal.now.relations questions.now answer.status answer.text) }
+    ensures { IfOk result (λ answer. IsAnsweredBy field.now ideal.now.alphabet ideal.now.relations questions.now
+        answer.status answer.text) }
 {
     lower_law();
     setting_law(field, ideal);

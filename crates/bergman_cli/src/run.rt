@@ -1,4 +1,5 @@
-ghost use Rattle.std.specs.Prelude.{◌≡◌, ◌≢◌, ◌↔◌, ◌⊎◌, ◌++◌, ℕ, List, [], All, Err, IfOk, IsTrue, MatchResult, map, string_bytes};
+ghost use Rattle.std.specs.Prelude.{◌≡◌, ◌≢◌, ◌↔◌, ◌⊎◌, ◌++◌, ℕ, List, [], All, Err, IfOk, IsTrue, MatchResult};
+ghost use Rattle.std.specs.Prelude.{map, string_bytes};
 ghost use Rattle.std.specs.Io.KnownBytes.{Appends};
 ghost use Rattle.free_poly.specs.Terms.{HasResidues};
 ghost use Rattle.bg_io.specs.Ends.{LosesAtMost, Rose};
@@ -11,9 +12,11 @@ ghost use Rattle.job_steps.specs.Status.{IsOfInput, PrintsNothing, ReadsNothing}
 ghost use Rattle.job_steps.specs.Statuses.{HasGained, IsOwn};
 ghost use Rattle.job_steps.specs.Traces.{IsTold, Tells};
 ghost use Rattle.bergman_cli.specs.Engines.{IsEngineOf, limits_of};
-ghost use Rattle.bergman_cli.specs.Jobs.{IsBuiltCommand, IsBuiltJob, IsSound, IsUnbuiltCommand, IsUnbuiltEngine, OfBuiltJob};
+ghost use Rattle.bergman_cli.specs.Jobs.{IsBuiltCommand, IsBuiltJob, IsSound, IsUnbuiltCommand, IsUnbuiltEngine};
+ghost use Rattle.bergman_cli.specs.Jobs.{OfBuiltJob};
 ghost use Rattle.bergman_cli.specs.Outcomes.{HasWrittenPart, HasWrittenSome, IsOutcome, IsWorkEnd, IsWorkTrace};
-ghost use Rattle.bergman_cli.specs.Run.{Completes, IsEnd, IsGivenReading, IsJobEnd, IsMade, IsRunTrace, IsUngivenTo, OfWork, ReadsSource};
+ghost use Rattle.bergman_cli.specs.Run.{Completes, IsEnd, IsGivenReading, IsJobEnd, IsMade, IsRunTrace};
+ghost use Rattle.bergman_cli.specs.Run.{IsUngivenTo, OfWork, ReadsSource};
 
 use crate::chains::chains_answer;
 use crate::gb::run_gb;
@@ -48,32 +51,42 @@ pub fn bergman<R: Threads + Sync, S: Source, K: Sink, T: Sink>(
 ) -> Status
     // A status that the work ends with by itself: its text was gained.
     ensures ended { IsOwn result
-        → OfWork (map string_bytes words.now) (S.left source.old) (S.left source.new) (λ job letters relations. HasGained (K.held out.old) (K.held out.new) (IsOutcome job letters relations result)) }
+        → OfWork (map string_bytes words.now) (S.left source.old) (S.left source.new)
+        (λ job letters relations. HasGained (K.held out.old) (K.held out.new)
+        (IsOutcome job letters relations result)) }
 
     // Each other status comes only for its cause, and of what words and source decide exactly there.
-    ensures usage { (fault : UsageFault) → (result ≡ Status.Usage fault) ↔ IsUsageFault (map string_bytes words.now) fault }
+    ensures usage { (fault : UsageFault) → (result ≡ Status.Usage fault) ↔ IsUsageFault (map string_bytes words.now)
+        fault }
     ensures command { (result ≡ Status.Unbuilt Part.Command) ↔ IsUnbuiltCommand (map string_bytes words.now) }
     ensures engine { (result ≡ Status.Unbuilt Part.Engine) ↔ IsUnbuiltEngine (map string_bytes words.now) }
     ensures unread { ReadsNothing result → source.new ≡ source.old }
     ensures made { IsMade (map string_bytes words.now) → source.new ≡ source.old }
     ensures taken { IsTaken (S.left source.old) (S.left source.new) result }
     ensures input { IsOfInput result
-        → OfBuiltJob (map string_bytes words.now) (λ job. ReadsSource job.command × IsInputEnd job.modulus (S.left source.old) (S.left source.new) (S.faults source.old) (S.faults source.new) result) }
+        → OfBuiltJob (map string_bytes words.now) (λ job. ReadsSource job.command
+        × IsInputEnd job.modulus (S.left source.old) (S.left source.new) (S.faults source.old)
+        (S.faults source.new) result) }
     ensures write { result ≡ Status.WriteFault → Rose (K.faults out.old) (K.faults out.new) }
     ensures part { result ≡ Status.WriteFault
-        → OfWork (map string_bytes words.now) (S.left source.old) (S.left source.new) (λ job letters relations. HasWrittenPart job letters relations (K.held out.old) (K.held out.new) (K.room out.old)) }
+        → OfWork (map string_bytes words.now) (S.left source.old) (S.left source.new)
+        (λ job letters relations. HasWrittenPart job letters relations (K.held out.old) (K.held out.new)
+        (K.room out.old)) }
     ensures memory { result ≡ Status.NoMemory → Appends (K.held out.old) (K.held out.new) []
-        ⊎ OfWork (map string_bytes words.now) (S.left source.old) (S.left source.new) (λ job letters relations. HasWrittenSome job letters relations (K.held out.old) (K.held out.new)) }
+        ⊎ OfWork (map string_bytes words.now) (S.left source.old) (S.left source.new)
+        (λ job letters relations. HasWrittenSome job letters relations (K.held out.old) (K.held out.new)) }
     ensures nothing { PrintsNothing result → out.new ≡ out.old }
     ensures reads { result ≢ Status.ReadFault → S.faults source.new ≡ S.faults source.old }
     ensures writes { result ≢ Status.WriteFault → K.faults out.new ≡ K.faults out.old }
 
     // The trace is told, and then the line of the status. A fault of telling them changes no status.
-    ensures told { (trace : List ℕ) × IsRunTrace (map string_bytes words.now) (S.left source.old) (S.left source.new) (K.held out.old) (K.held out.new) (K.room out.old) result trace
+    ensures told { (trace : List ℕ) × IsRunTrace (map string_bytes words.now) (S.left source.old)
+        (S.left source.new) (K.held out.old) (K.held out.new) (K.room out.old) result trace
         × IsTold (T.held err.old) (T.held err.new) (T.faults err.old) (T.faults err.new) (trace ++ fault_line result) }
 
     // And where the bytes are told, it comes where its cause stands.
-    ensures complete { Completes (map string_bytes words.now) (S.left source.old) (S.faults source.old) (S.faults source.new) (K.faults out.old) (K.faults out.new) result }
+    ensures complete { Completes (map string_bytes words.now) (S.left source.old) (S.faults source.old)
+        (S.faults source.new) (K.faults out.old) (K.faults out.new) result }
 {
     words_law();
     reading_laws();
@@ -94,14 +107,18 @@ fn run_words<R: Threads + Sync, S: Source, K: Sink, T: Sink>(
     gate: &PlannedGate,
     failed: &mut bool,
 ) -> Status
-    ensures end { IsEnd (map string_bytes words.now) (S.left source.old) (S.left source.new) (S.faults source.old) (S.faults source.new) (K.held out.old) (K.held out.new) (K.room out.old) (K.faults out.old) (K.faults out.new) result }
+    ensures end { IsEnd (map string_bytes words.now) (S.left source.old) (S.left source.new) (S.faults source.old)
+        (S.faults source.new) (K.held out.old) (K.held out.new) (K.room out.old) (K.faults out.old)
+        (K.faults out.new) result }
     ensures taken { IsTaken (S.left source.old) (S.left source.new) result }
     ensures unread { ReadsNothing result → source.new ≡ source.old }
     ensures made { IsMade (map string_bytes words.now) → source.new ≡ source.old }
     ensures nothing { PrintsNothing result → out.new ≡ out.old }
     ensures reads { result ≢ Status.ReadFault → S.faults source.new ≡ S.faults source.old }
     ensures writes { result ≢ Status.WriteFault → K.faults out.new ≡ K.faults out.old }
-    ensures told { (trace : List ℕ) × IsRunTrace (map string_bytes words.now) (S.left source.old) (S.left source.new) (K.held out.old) (K.held out.new) (K.room out.old) result trace × Tells (T.held err.old) (T.held err.new) (T.faults err.old) (T.faults err.new) failed.old failed.new trace }
+    ensures told { (trace : List ℕ) × IsRunTrace (map string_bytes words.now) (S.left source.old)
+        (S.left source.new) (K.held out.old) (K.held out.new) (K.room out.old) result trace
+        × Tells (T.held err.old) (T.held err.new) (T.faults err.old) (T.faults err.new) failed.old failed.new trace }
 {
     words_law();
     let job = match read_words(words) {
@@ -159,13 +176,18 @@ fn run_job<R: Threads + Sync, E: DegreeEngine, S: Source, K: Sink, T: Sink>(
     requires built { IsBuiltCommand job.now.command }
     requires sound { IsSound job.now }
 
-    ensures end { IsJobEnd job.now (S.left source.old) (S.left source.new) (S.faults source.old) (S.faults source.new) (K.held out.old) (K.held out.new) (K.room out.old) (K.faults out.old) (K.faults out.new) result }
+    ensures end { IsJobEnd job.now (S.left source.old) (S.left source.new) (S.faults source.old)
+        (S.faults source.new) (K.held out.old) (K.held out.new) (K.room out.old) (K.faults out.old)
+        (K.faults out.new) result }
     ensures taken { IsTaken (S.left source.old) (S.left source.new) result }
     ensures made { job.now.command ≡ Command.Make → source.new ≡ source.old }
     ensures nothing { PrintsNothing result → out.new ≡ out.old }
     ensures reads { result ≢ Status.ReadFault → S.faults source.new ≡ S.faults source.old }
     ensures writes { result ≢ Status.WriteFault → K.faults out.new ≡ K.faults out.old }
-    ensures told { (trace : List ℕ) × ((words : List (List ℕ)) → IsBuiltJob words job.now → IsRunTrace words (S.left source.old) (S.left source.new) (K.held out.old) (K.held out.new) (K.room out.old) result trace) × Tells (T.held err.old) (T.held err.new) (T.faults err.old) (T.faults err.new) failed.old failed.new trace }
+    ensures told { (trace : List ℕ) × ((words : List (List ℕ)) → IsBuiltJob words job.now →
+        IsRunTrace words (S.left source.old) (S.left source.new) (K.held out.old) (K.held out.new) (K.room out.old)
+        result trace) × Tells (T.held err.old) (T.held err.new) (T.faults err.old) (T.faults err.new) failed.old
+        failed.new trace }
 {
     let Ok(field) = Field::new(alloc, job.modulus) else {
         return Status::NoMemory;
@@ -187,8 +209,11 @@ fn read_given<S: Source>(
 ) -> Result<Presentation, Status>
     requires modulus { field.now ≡ job.now.modulus }
     requires sound { IsSound job.now }
-    ensures given { MatchResult result (λ given. IsGivenReading job.now (S.left source.old) (S.left source.new) given.alphabet given.relations) (IsUngivenTo job.now.command job.now.modulus (S.left source.old) (S.left source.new) (S.faults source.old) (S.faults source.new)) }
-    ensures taken { MatchResult result (λ _. LosesAtMost (S.left source.old) (S.left source.new) 1048576) (IsTaken (S.left source.old) (S.left source.new)) }
+    ensures given { MatchResult result (λ given. IsGivenReading job.now (S.left source.old) (S.left source.new)
+        given.alphabet given.relations) (IsUngivenTo job.now.command job.now.modulus (S.left source.old)
+        (S.left source.new) (S.faults source.old) (S.faults source.new)) }
+    ensures taken { MatchResult result (λ _. LosesAtMost (S.left source.old) (S.left source.new) 1048576)
+        (IsTaken (S.left source.old) (S.left source.new)) }
     ensures residues { IfOk result (λ given. All (HasResidues field.now) given.relations) }
     ensures made { job.now.command ≡ Command.Make → source.new ≡ source.old }
     ensures reads { result ≢ Err Status.ReadFault → S.faults source.new ≡ S.faults source.old }
@@ -220,10 +245,12 @@ fn work<R: Threads + Sync, E: DegreeEngine, K: Sink, T: Sink>(
     requires modulus { field.now ≡ job.now.modulus }
     requires residues { All (HasResidues field.now) given.now.relations }
 
-    ensures end { IsWorkEnd job.now given.now.alphabet given.now.relations (K.held out.old) (K.held out.new) (K.room out.old) (K.faults out.old) (K.faults out.new) result }
+    ensures end { IsWorkEnd job.now given.now.alphabet given.now.relations (K.held out.old) (K.held out.new)
+        (K.room out.old) (K.faults out.old) (K.faults out.new) result }
     ensures nothing { PrintsNothing result → out.new ≡ out.old }
     ensures writes { result ≢ Status.WriteFault → K.faults out.new ≡ K.faults out.old }
-    ensures told { (trace : List ℕ) × IsWorkTrace job.now given.now.alphabet given.now.relations (K.held out.old) (K.held out.new) (K.room out.old) result trace
+    ensures told { (trace : List ℕ) × IsWorkTrace job.now given.now.alphabet given.now.relations (K.held out.old)
+        (K.held out.new) (K.room out.old) result trace
         × Tells (T.held err.old) (T.held err.new) (T.faults err.old) (T.faults err.new) failed.old failed.new trace }
 {
     if job.command == Command::Gb {
@@ -250,7 +277,8 @@ fn answer_of<R: Threads + Sync, E: DegreeEngine>(
     requires sound { IsSound job.now }
     requires modulus { field.now ≡ job.now.modulus }
     requires residues { All (HasResidues field.now) given.now.relations }
-    ensures { IfOk result (λ answer. IsOutcome job.now given.now.alphabet given.now.relations answer.status answer.text) }
+    ensures { IfOk result (λ answer. IsOutcome job.now given.now.alphabet given.now.relations answer.status
+        answer.text) }
 {
     match job.command {
         Command::Make => make_answer(rt, alloc, job, engine, field, given),

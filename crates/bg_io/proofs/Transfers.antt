@@ -9,7 +9,8 @@ use Rattle.std.proofs.KnownBytes.{Appends-trans, Appends-kept, Consumes-trans}
 use Rattle.bg_io.specs.Ends.{IsCutShort, Loses, LosesAtMost, RoomFalls}
 
 -- what was taken of the front, and then of the rest, is a longer front
-pub Appends-more : (a b c : Option (List ℕ)) (m n : ℕ) (xs : List ℕ) → Appends a b (take m xs) → Appends b c (take n (drop m xs)) → Appends a c (take (m + n) xs)
+pub Appends-more : (a b c : Option (List ℕ)) (m n : ℕ) (xs : List ℕ) → Appends a b (take m xs) → Appends b c (take n (drop m xs)) →
+    Appends a c (take (m + n) xs)
 Appends-more a b c m n xs p q = rw take-add (Appends-trans a b c (take m xs) (take n (drop m xs)) p q)
 
 pub RoomFalls-more : (a b c : Option ℕ) (m n : ℕ) → RoomFalls a b m → RoomFalls b c n → RoomFalls a c (m + n)
@@ -19,7 +20,8 @@ RoomFalls-more (Some r) (Some s) None m n p q = absurd q
 RoomFalls-more (Some r) (Some s) (Some t) m n p q = omega (arith, p, q)
 
 -- a text of which not all was taken is cut short
-pub cut_short : (a b c : Option (List ℕ)) (m : ℕ) (xs : List ℕ) → m < length xs → Appends a b (take m xs) → Keeps b c → (gained : List ℕ) × IsCutShort gained xs × Appends a c gained
+pub cut_short : (a b c : Option (List ℕ)) (m : ℕ) (xs : List ℕ) → m < length xs → Appends a b (take m xs) → Keeps b c →
+    (gained : List ℕ) × IsCutShort gained xs × Appends a c gained
 cut_short a b c m xs within p k = (
   take m xs,
   record {
@@ -35,14 +37,17 @@ pub whole_rest : (n m : ℕ) (xs : List ℕ) → n ≤ length xs - m → take n 
 whole_rest n m xs le = take-take n (length xs - m) (drop m xs) le
 
 -- what a source gave into the front of a piece, and what it has left, are what it had
-pub given_front : (given count : ℕ) (bytes front tail : List ℕ) → front ≡ take count (drop given bytes) → length front ≡ count → drop given bytes ≡ take count (front ++ tail) ++ drop (given + count) bytes
+pub given_front : (given count : ℕ) (bytes front tail : List ℕ) → front ≡ take count (drop given bytes) → length front ≡ count →
+    drop given bytes ≡ take count (front ++ tail) ++ drop (given + count) bytes
 given_front given count bytes front tail same long =
     let all : take count (front ++ tail) ≡ take count (drop given bytes) =
     take-append-le count front tail (omega (arith, long)) ∙ take_all count front (omega (arith, long)) ∙ same in
-    sym (take-append-drop count (drop given bytes)) ∙ ap (λ (l : List ℕ). take count (drop given bytes) ++ l) (drop-drop count given bytes) ∙ ap (λ (l : List ℕ). l ++ drop (given + count) bytes) (sym all)
+    sym (take-append-drop count (drop given bytes)) ∙ ap (λ (l : List ℕ). take count (drop given bytes) ++ l) (drop-drop count given bytes)
+    ∙ ap (λ (l : List ℕ). l ++ drop (given + count) bytes) (sym all)
 
 -- one more piece was taken, and all of it is more than the limit by one
-pub Loses-more : (a b c : Option (List ℕ)) (n limit : ℕ) (text piece : List ℕ) → Consumes a b text → Consumes b c (take n piece) → n ≤ length piece → length piece ≤ limit + 1 - length text → length text ≤ limit → limit < length text + n → Loses a c (limit + 1)
+pub Loses-more : (a b c : Option (List ℕ)) (n limit : ℕ) (text piece : List ℕ) → Consumes a b text → Consumes b c (take n piece) →
+    n ≤ length piece → length piece ≤ limit + 1 - length text → length text ≤ limit → limit < length text + n → Loses a c (limit + 1)
 Loses-more a b c n limit text piece p q fits short before above = record {
   taken = text ++ take n piece;
   long = omega (arith, length-append text (take n piece), length-take n piece, fits, short, before, above);
@@ -50,7 +55,8 @@ Loses-more a b c n limit text piece p q fits short before above = record {
 }
 
 -- one more piece was taken, and all of it is within the limit
-pub LosesAtMost-more : (a b c : Option (List ℕ)) (n limit : ℕ) (text piece : List ℕ) → Consumes a b text → Consumes b c (take n piece) → length text + n ≤ limit → LosesAtMost a c limit
+pub LosesAtMost-more : (a b c : Option (List ℕ)) (n limit : ℕ) (text piece : List ℕ) → Consumes a b text → Consumes b c (take n piece) →
+    length text + n ≤ limit → LosesAtMost a c limit
 LosesAtMost-more a b c n limit text piece p q within = record {
   taken = text ++ take n piece;
   long = omega (arith, length-append text (take n piece), length-take n piece, within);

@@ -2,7 +2,8 @@
 use Rattle.std.specs.Prelude.{ℕ, List, Bool, true, false, Contains}
 use Rattle.bg_io.specs.Ends.{one_more}
 
--- at most so many bytes a call; the numbers of the calls that fail; how many were made, those of an empty piece left out; how many failed
+-- at most so many bytes a call; the numbers of the calls that fail; how many were made, those of an empty piece left
+-- out; how many failed
 pub record Plan : Type 0 where
   pub piece : ℕ
   pub failing : List ℕ

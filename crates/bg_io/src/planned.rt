@@ -1,4 +1,5 @@
-ghost use Rattle.std.specs.Prelude.{◌≡◌, ◌<◌, ◌≤◌, ◌↔◌, [], min, length, Ok, IfOk, IsErr, IsTrue, OnErr, Some, None, is_err, Contains};
+ghost use Rattle.std.specs.Prelude.{◌≡◌, ◌<◌, ◌≤◌, ◌↔◌, [], min, length, Ok, IfOk, IsErr, IsTrue, OnErr, Some};
+ghost use Rattle.std.specs.Prelude.{None, is_err, Contains};
 ghost use Rattle.std.specs.Io.{ReadsAtMost};
 ghost use Rattle.std.specs.Io.KnownBytes.{ReadConsumes, WriteAppends};
 ghost use Rattle.bg_io.specs.Ends.{HasCause, HasRoom, RoomFalls, TakesSome, one_more};

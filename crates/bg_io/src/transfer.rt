@@ -36,7 +36,8 @@ pub fn read_all<S: Source>(
     ensures too_long { result ≡ Err ReadAllFault.TooLong → Loses (S.left source.old) (S.left source.new) (limit + 1) }
 
     // Neither the end nor too much was seen.
-    ensures read_fault { result ≡ Err ReadAllFault.ReadFault → LosesAtMost (S.left source.old) (S.left source.new) limit }
+    ensures read_fault { result ≡ Err ReadAllFault.ReadFault →
+        LosesAtMost (S.left source.old) (S.left source.new) limit }
     ensures no_memory { result ≡ Err ReadAllFault.NoMemory → LosesAtMost (S.left source.old) (S.left source.new) limit }
 
     ensures cause { result ≡ Err ReadAllFault.ReadFault → Rose (S.faults source.old) (S.faults source.new) }
@@ -72,7 +73,8 @@ pub fn write_all<K: Sink>(sink: &mut K, bytes: &[u8]) -> Result<(), WriteFault>
     ensures room { OnOk result (RoomFalls (K.room sink.old) (K.room sink.new) (length bytes.now)) }
 
     // So the fault does not come where there is nothing to write.
-    ensures part { OnErr result ((gained : List ℕ) × IsCutShort gained bytes.now × Appends (K.held sink.old) (K.held sink.new) gained) }
+    ensures part { OnErr result ((gained : List ℕ) × IsCutShort gained bytes.now
+        × Appends (K.held sink.old) (K.held sink.new) gained) }
     ensures taken { OnErr result (HasRoom (K.room sink.old) (length bytes.now) → ⊥) }
     ensures cause { HasCause (K.faults sink.old) (K.faults sink.new) result }
 {

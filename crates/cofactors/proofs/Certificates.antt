@@ -39,12 +39,15 @@ module _ (p : ℕ) (weights : List ℕ) (relations : List (List Term)) (st : IsS
   fs = map (triple_terms relations) all
 
   -- what holds of the words of the triples holds of those of a combination
-  combined_words : (P : List ℕ → Type 0) → ((s : Product) → Contains all s → All (λ t. P t.word) (triple_terms relations s)) → (factors : List Factor) → HasPlaces (length all) factors → All (λ t. P t.word) (combined fs factors)
+  combined_words : (P : List ℕ → Type 0) → ((s : Product) → Contains all s → All (λ t. P t.word) (triple_terms relations s)) →
+      (factors : List Factor) → HasPlaces (length all) factors → All (λ t. P t.word) (combined fs factors)
   combined_words P h [] k = All-nil (λ (t : Term). P t.word)
   combined_words P h (f ∷ factors) k =
       let within = All-head (λ x. x.place < length all) f factors k in
       let s = get_or all f.place (triple 0 [] []) in
-      let own : All (λ (t : Term). P t.word) (get_or fs f.place []) = subst (All (λ (t : Term). P t.word)) (sym (element_at p relations all f within)) (h s (Contains-get_or all f.place (triple 0 [] []) within)) in
+      let own : All (λ (t : Term). P t.word) (get_or fs f.place []) =
+      subst (All (λ (t : Term). P t.word)) (sym (element_at p relations all f within))
+      (h s (Contains-get_or all f.place (triple 0 [] []) within)) in
       All-append (λ (t : Term). P t.word) (scaled f.residue (get_or fs f.place [])) (combined fs factors)
       (All-map (λ (t : Term). P t.word) (λ (t : Term). record { word = t.word; coefficient = f.residue * t.coefficient }) (get_or fs f.place []) own)
       (combined_words P h factors (All-tail (λ x. x.place < length all) f factors k))
@@ -60,7 +63,8 @@ module _ (p : ℕ) (weights : List ℕ) (relations : List (List Term)) (st : IsS
   triple_letters s m =
       let q = one_product s m in
       let r = relation_at relations s.relation in
-      let rel : IsRelation p weights r = All-contains (IsRelation p weights) relations r st.are_relations (Contains-get_or relations (s.relation - 1) [] (omega (arith, q.from, q.upto))) in
+      let rel : IsRelation p weights r = All-contains (IsRelation p weights) relations r st.are_relations
+      (Contains-get_or relations (s.relation - 1) [] (omega (arith, q.from, q.upto))) in
       UsesLetters-product (length weights) s.left r s.right q.left_over q.right_over rel.letters
 
   triple_degree : (s : Product) → Contains all s → All (λ t. degree_of weights t.word ≡ d) (triple_terms relations s)
@@ -73,16 +77,19 @@ module _ (p : ℕ) (weights : List ℕ) (relations : List (List Term)) (st : IsS
           form = row.form;
           residues = row.residues;
           letters = UsesLetters-from_same p (length weights) t.element sum row.form row.residues tracked.sum
-              (All-append (λ (u : Term). IsOver (length weights) u.word) f (combined fs t.factors) ef.letters (combined_words (IsOver (length weights)) triple_letters t.factors places));
+              (All-append (λ (u : Term). IsOver (length weights) u.word) f (combined fs t.factors) ef.letters
+              (combined_words (IsOver (length weights)) triple_letters t.factors places));
           degree = HasDegree-from_same p weights d t.element sum row.form row.residues tracked.sum
-              (All-append (λ (u : Term). degree_of weights u.word ≡ d) f (combined fs t.factors) ef.degree (combined_words (λ w. degree_of weights w ≡ d) triple_degree t.factors places));
+              (All-append (λ (u : Term). degree_of weights u.word ≡ d) f (combined fs t.factors) ef.degree
+              (combined_words (λ w. degree_of weights w ≡ d) triple_degree t.factors places));
         }
 
     pub places_of : (t : Row) → IsTracked p fs f t → HasPlaces (length all) t.factors
     places_of t tracked = subst (λ (n : ℕ). HasPlaces n t.factors) (length-map all (triple_terms relations)) tracked.places
 
     -- what is left of f, without anything at the leaders' words
-    pub certificate_from_row : (rows : List Row) → AreLeaders p rows → All (λ g. IsPlusSpan p rows g []) fs → (t : Row) → IsRow p t → IsTracked p fs f t → IsZeroAtLeads rows t.element
+    pub certificate_from_row : (rows : List Row) → AreLeaders p rows → All (λ g. IsPlusSpan p rows g []) fs → (t : Row) → IsRow p t →
+        IsTracked p fs f t → IsZeroAtLeads rows t.element
         → IsCertificate p weights relations d f (record { normal = t.element; products = negative_products p all t.factors })
     certificate_from_row rows leaders spanned t row tracked zero =
         let places = places_of t tracked in
@@ -90,13 +97,15 @@ module _ (p : ℕ) (weights : List ℕ) (relations : List (List Term)) (st : IsS
         let products = negative_products p all t.factors in
         let list = negative_list p weights relations st d t.factors row.factors places in
         let sum = negative_sum_with p relations all f t.element t.factors row.factors.residues places tracked.sum in record {
-          is_normal = normal_from_products p weights relations st d f t.element products element list sum (normal_at_leads p weights relations st d rows leaders spanned t.element element zero);
+          is_normal = normal_from_products p weights relations st d f t.element products element list sum
+              (normal_at_leads p weights relations st d rows leaders spanned t.element element zero);
           are_products = list;
           sum = sum;
         }
 
     -- f itself, where none of its words is a leading word
-    pub certificate_of_normal : All (λ s. IsLeadingWord p weights relations d s.word → ⊥) f → IsCertificate p weights relations d f (record { normal = f; products = [] })
+    pub certificate_of_normal : All (λ s. IsLeadingWord p weights relations d s.word → ⊥) f →
+        IsCertificate p weights relations d f (record { normal = f; products = [] })
     certificate_of_normal none = record {
       is_normal = record {
         element = ef;

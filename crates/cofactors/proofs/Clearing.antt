@@ -1,5 +1,6 @@
 -- Rows to which multiples of leaders are added.
-use Rattle.std.proofs.Common.{ap₂, ◌≡◌, ◌+◌, ◌*◌, ◌-◌, ◌<◌, ◌%◌, ℕ, List, [], ◌∷◌, ◌++◌, length, take, get_or, refl, sym, ap, ◌∙◌, arith, add-mul, one-mul, mul_assoc, add-zero, mul-zero, zero-mul, subst, All, AllPairs}
+use Rattle.std.proofs.Common.{ap₂, ◌≡◌, ◌+◌, ◌*◌, ◌-◌, ◌<◌, ◌%◌, ℕ, List, [], ◌∷◌, ◌++◌, length, take, get_or, refl, sym, ap, ◌∙◌, arith, add-mul}
+use Rattle.std.proofs.Common.{one-mul, mul_assoc, add-zero, mul-zero, zero-mul, subst, All, AllPairs}
 use Rattle.std.specs.List.{Contains, flat_map}
 use Rattle.std.proofs.Math.Nat.{add-mod, add-mod-mod, add-mul-mod_self_left, mod-eq_of_lt, zero-mod}
 use Rattle.std.proofs.lemmas.Nat.{mul-mod_second}
@@ -66,10 +67,12 @@ module _ (p a : ℕ) (leader before after : Row) (plus : IsPlusTimes p a leader 
         (s.sum w ∙ ap (λ (n : ℕ). n % p) (total_at-append before.element rest w))
         (plus.element w ∙ ap (λ (n : ℕ). n % p) (total-plus a before.element leader.element w))
         ∙ ap (λ (n : ℕ). n % p) (sym (total_at-append after.element (scaled back leader.element ++ rest) w
-        ∙ ap (λ (n : ℕ). total_at after.element w + n) (total_at-append (scaled back leader.element) rest w ∙ ap (λ (n : ℕ). n + total_at rest w) (total_at-scaled back leader.element w))));
+        ∙ ap (λ (n : ℕ). total_at after.element w + n) (total_at-append (scaled back leader.element) rest w
+        ∙ ap (λ (n : ℕ). n + total_at rest w) (total_at-scaled back leader.element w))));
   }
 
-  at_word : 0 < p → IsRow p after → (w : List ℕ) (n : ℕ) → (total_at before.element w + a * total_at leader.element w) % p ≡ n % p → n < p → total_at after.element w ≡ n
+  at_word : 0 < p → IsRow p after → (w : List ℕ) (n : ℕ) → (total_at before.element w + a * total_at leader.element w) % p ≡ n % p → n < p →
+      total_at after.element w ≡ n
   at_word some row w n is small =
       sym (mod-eq_of_lt (total_residue p some after.element (AreApart-from_polynomial after.element row.form) row.residues w))
       ∙ plus.element w ∙ ap (λ (m : ℕ). m % p) (total-plus a before.element leader.element w) ∙ is ∙ mod-eq_of_lt small
@@ -82,7 +85,8 @@ module _ (p a : ℕ) (leader before after : Row) (plus : IsPlusTimes p a leader 
   pub zero_here : 0 < p → IsRow p after → (w : List ℕ) → total_at leader.element w ≡ 1 → (total_at before.element w + a) % p ≡ 0 → total_at after.element w ≡ 0
   zero_here some row w one none =
       let times : a * 1 ≡ a = omega arith in
-      at_word some row w 0 (ap (λ (n : ℕ). (total_at before.element w + a * n) % p) one ∙ ap (λ (n : ℕ). (total_at before.element w + n) % p) times ∙ none ∙ sym (zero-mod p)) some
+      at_word some row w 0 (ap (λ (n : ℕ). (total_at before.element w + a * n) % p) one
+      ∙ ap (λ (n : ℕ). (total_at before.element w + n) % p) times ∙ none ∙ sym (zero-mod p)) some
 
 -- no multiple at all
 pub plus_none : (p : ℕ) (leader row : Row) → IsPlusTimes p 0 leader row row
@@ -116,8 +120,10 @@ earlier R xs i x pairs within is k d lt =
     subst (λ (y : _). R y x) (sym (get_or-take i xs k d below)) (subst (R (get_or xs k d)) (get_or_default xs i d x within ∙ sym is) (pairs k i d below within))
 
 -- one leader more is cleared
-pub zero-push : (p a : ℕ) (leader before after : Row) → IsPlusTimes p a leader before after → 0 < p → IsRow p after → IsRow p leader → (rows : List Row) → All (λ r. IsLetterwiseGreater (lead_word r) (lead_word leader)) rows
+pub zero-push : (p a : ℕ) (leader before after : Row) → IsPlusTimes p a leader before after → 0 < p → IsRow p after → IsRow p leader →
+    (rows : List Row) → All (λ r. IsLetterwiseGreater (lead_word r) (lead_word leader)) rows
     → IsZeroAtLeads rows before.element → total_at after.element (lead_word leader) ≡ 0 → IsZeroAtLeads (rows ++ leader ∷ []) after.element
 zero-push p a leader before after plus some row own rows greater zero here =
     All-push (λ r. total_at after.element (lead_word r) ≡ 0) rows leader
-    (λ k d within. zero_kept p a leader before after plus some row (lead_word (get_or rows k d)) (zero k d within) (none_above leader.element (lead_word (get_or rows k d)) own.form (greater k d within))) here
+    (λ k d within. zero_kept p a leader before after plus some row (lead_word (get_or rows k d)) (zero k d within)
+    (none_above leader.element (lead_word (get_or rows k d)) own.form (greater k d within))) here

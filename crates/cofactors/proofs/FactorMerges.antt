@@ -1,5 +1,7 @@
 -- Two lists of factors merged: the factors that were made, and what is left of the two.
-use Rattle.std.proofs.Common.{ap₂, ◌≡◌, ◌+◌, ◌*◌, ◌-◌, ◌<◌, ◌%◌, ◌==◌, ℕ, Bool, true, false, cond, List, [], ◌∷◌, ◌++◌, length, get_or, take, drop, refl, sym, ap, ◌∙◌, inl, inr, arith, add-zero, zero-add, mul-zero, zero-mul, append-nil, add-mul, mul_assoc, subst, All, AllPairs}
+use Rattle.std.proofs.Common.{ap₂, ◌≡◌, ◌+◌, ◌*◌, ◌-◌, ◌<◌, ◌%◌, ◌==◌, ℕ, Bool, true, false, cond, List, [], ◌∷◌, ◌++◌, length, get_or, take, drop}
+use Rattle.std.proofs.Common.{refl, sym, ap, ◌∙◌, inl, inr, arith, add-zero, zero-add, mul-zero, zero-mul, append-nil, add-mul, mul_assoc, subst, All}
+use Rattle.std.proofs.Common.{AllPairs}
 use Rattle.std.proofs.Math.Nat.{add-mod-mod, mod-lt, mul-add}
 use Rattle.std.proofs.lemmas.Bool.{cases_Bool, eqb-true}
 use Rattle.std.proofs.lemmas.Cmp.{ranked}
@@ -48,7 +50,8 @@ valued-factor_at v k c = elim (cases_Bool (c == 0)) [
 ]
 
 -- the combination has at each word what its elements have there, each times its factor
-pub combined-total : (fs : List (List Term)) (factors : List Factor) (w : List ℕ) → total_at (combined fs factors) w ≡ valued (λ k. total_at (get_or fs k []) w) factors
+pub combined-total : (fs : List (List Term)) (factors : List Factor) (w : List ℕ) →
+    total_at (combined fs factors) w ≡ valued (λ k. total_at (get_or fs k []) w) factors
 combined-total fs [] w = refl
 combined-total fs (x ∷ factors) w =
     total_at-append (scaled x.residue (get_or fs x.place [])) (combined fs factors) w
@@ -75,7 +78,8 @@ first_behind : (p : ℕ) (made : List Factor) (x : Factor) (left : List Factor) 
 first_behind p made x left h k d within = All-head (λ f. (get_or made k d).place < f.place) x left (h.behind k d within)
 
 -- the rest of a list, after a factor at the place of its first was made
-IsLeft-rest : (p : ℕ) (made : List Factor) (x : Factor) (left : List Factor) (k c : ℕ) → IsLeft p made (x ∷ left) → k ≡ x.place → IsLeft p (made ++ factor_at k c) left
+IsLeft-rest : (p : ℕ) (made : List Factor) (x : Factor) (left : List Factor) (k c : ℕ) → IsLeft p made (x ∷ left) → k ≡ x.place →
+    IsLeft p (made ++ factor_at k c) left
 IsLeft-rest p made x left k c h is = record {
   are = record { residues = All-tail (λ f. f.residue < p) x left h.are.residues; rising = AllPairs-rest (λ f g. f.place < g.place) x left h.are.rising };
   behind = All-made (λ f. IsBefore f.place left) made k c
@@ -90,7 +94,8 @@ IsLeft-kept p made left k c h before = record { are = h.are; behind = All-made (
 pub before_first : (p k : ℕ) (y : Factor) (left : List Factor) → AreFactors p (y ∷ left) → k < y.place → IsBefore k (y ∷ left)
 before_first p k y left are lt =
     All-cons (λ f. k < f.place) y left lt
-    (λ j d within. let more : y.place < (get_or left j d).place = AllPairs-first (λ f g. f.place < g.place) y left are.rising j d within in omega (arith, lt, more))
+    (λ j d within. let more : y.place < (get_or left j d).place = AllPairs-first (λ f g. f.place < g.place) y left are.rising j d within in
+    omega (arith, lt, more))
 
 -- one place taken from the sums: m was made, c is the new residue at a place that has w
 taken : (p a m c w x y r s : ℕ) → c ≡ (x + a * y) % p → (m + c * w + r + a * s) % p ≡ (m + (x * w + r) + a * (y * w + s)) % p
@@ -106,38 +111,57 @@ made_value : (v : ℕ → ℕ) (made : List Factor) (k c : ℕ) → valued v (ma
 made_value v made k c = valued-append v made (factor_at k c) ∙ ap (λ (n : ℕ). valued v made + n) (valued-factor_at v k c)
 
 module _ (p a : ℕ) (f g made : List Factor) where
-  Merges-first : (x : Factor) (first second : List Factor) → Merges p a f g made (x ∷ first) second → IsBefore x.place second → Merges p a f g (made ++ factor_at x.place x.residue) first second
+  Merges-first : (x : Factor) (first second : List Factor) → Merges p a f g made (x ∷ first) second → IsBefore x.place second →
+      Merges p a f g (made ++ factor_at x.place x.residue) first second
   Merges-first x first second m before = record {
     sum = λ v.
         ap (λ (n : ℕ). (n + valued v first + a * valued v second) % p) (made_value v made x.place x.residue)
         ∙ ap (λ (n : ℕ). (n + a * valued v second) % p) (omega arith) ∙ m.sum v;
-    places = λ n h k. let q = m.places n h k in (All-made (λ f. f.place < n) made x.place x.residue q.0 (All-head (λ f. f.place < n) x first q.1), All-tail (λ f. f.place < n) x first q.1, q.2);
-    are = AreFactors-made p made x.place x.residue m.are (All-head (λ f. f.residue < p) x first m.first_left.are.residues) (first_behind p made x first m.first_left);
+    places = λ n h k. let q = m.places n h k in (
+      All-made (λ f. f.place < n) made x.place x.residue q.0
+          (All-head (λ f. f.place < n) x first q.1),
+      All-tail (λ f. f.place < n) x first q.1,
+      q.2,
+    );
+    are = AreFactors-made p made x.place x.residue m.are (All-head (λ f. f.residue < p) x first m.first_left.are.residues)
+        (first_behind p made x first m.first_left);
     first_left = IsLeft-rest p made x first x.place x.residue m.first_left refl;
     second_left = IsLeft-kept p made second x.place x.residue m.second_left before;
   }
 
-  Merges-second : (y : Factor) (c : ℕ) (first second : List Factor) → 0 < p → c ≡ (a * y.residue) % p → Merges p a f g made first (y ∷ second) → IsBefore y.place first → Merges p a f g (made ++ factor_at y.place c) first second
+  Merges-second : (y : Factor) (c : ℕ) (first second : List Factor) → 0 < p → c ≡ (a * y.residue) % p →
+      Merges p a f g made first (y ∷ second) → IsBefore y.place first → Merges p a f g (made ++ factor_at y.place c) first second
   Merges-second y c first second some is m before = record {
     sum = λ v.
         ap (λ (n : ℕ). (n + valued v first + a * valued v second) % p) (made_value v made y.place c)
         ∙ taken p a (valued v made) c (v y.place) 0 y.residue (valued v first) (valued v second) (is ∙ ap (λ (n : ℕ). n % p) (sym (zero-add (a * y.residue))))
-        ∙ ap (λ (n : ℕ). (valued v made + n + a * (y.residue * v y.place + valued v second)) % p) (ap (λ (n : ℕ). n + valued v first) (zero-mul (v y.place)) ∙ zero-add (valued v first)) ∙ m.sum v;
-    places = λ n h k. let q = m.places n h k in (All-made (λ f. f.place < n) made y.place c q.0 (All-head (λ f. f.place < n) y second q.2), q.1, All-tail (λ f. f.place < n) y second q.2);
+        ∙ ap (λ (n : ℕ). (valued v made + n + a * (y.residue * v y.place + valued v second)) % p)
+        (ap (λ (n : ℕ). n + valued v first) (zero-mul (v y.place)) ∙ zero-add (valued v first)) ∙ m.sum v;
+    places = λ n h k. let q = m.places n h k in (
+      All-made (λ f. f.place < n) made y.place c q.0 (All-head (λ f. f.place < n) y second q.2),
+      q.1,
+      All-tail (λ f. f.place < n) y second q.2,
+    );
     are = AreFactors-made p made y.place c m.are (subst (λ (n : ℕ). n < p) (sym is) (mod-lt (a * y.residue) some)) (first_behind p made y second m.second_left);
     first_left = IsLeft-kept p made first y.place c m.first_left before;
     second_left = IsLeft-rest p made y second y.place c m.second_left refl;
   }
 
-  Merges-both : (x y : Factor) (c : ℕ) (first second : List Factor) → 0 < p → x.place ≡ y.place → c ≡ (x.residue + (a * y.residue) % p) % p → Merges p a f g made (x ∷ first) (y ∷ second)
+  Merges-both : (x y : Factor) (c : ℕ) (first second : List Factor) → 0 < p → x.place ≡ y.place → c ≡ (x.residue + (a * y.residue) % p) % p
+      → Merges p a f g made (x ∷ first) (y ∷ second)
       → Merges p a f g (made ++ factor_at x.place c) first second
   Merges-both x y c first second some same is m = record {
     sum = λ v.
         ap (λ (n : ℕ). (n + valued v first + a * valued v second) % p) (made_value v made x.place c)
         ∙ taken p a (valued v made) c (v x.place) x.residue y.residue (valued v first) (valued v second) (is ∙ add-mod-mod x.residue (a * y.residue) p)
         ∙ ap (λ (k : ℕ). (valued v made + (x.residue * v x.place + valued v first) + a * (y.residue * v k + valued v second)) % p) same ∙ m.sum v;
-    places = λ n h k. let q = m.places n h k in (All-made (λ f. f.place < n) made x.place c q.0 (All-head (λ f. f.place < n) x first q.1), All-tail (λ f. f.place < n) x first q.1, All-tail (λ f. f.place < n) y second q.2);
-    are = AreFactors-made p made x.place c m.are (subst (λ (n : ℕ). n < p) (sym is) (mod-lt (x.residue + (a * y.residue) % p) some)) (first_behind p made x first m.first_left);
+    places = λ n h k. let q = m.places n h k in (
+      All-made (λ f. f.place < n) made x.place c q.0 (All-head (λ f. f.place < n) x first q.1),
+      All-tail (λ f. f.place < n) x first q.1,
+      All-tail (λ f. f.place < n) y second q.2,
+    );
+    are = AreFactors-made p made x.place c m.are (subst (λ (n : ℕ). n < p) (sym is) (mod-lt (x.residue + (a * y.residue) % p) some))
+        (first_behind p made x first m.first_left);
     first_left = IsLeft-rest p made x first x.place c m.first_left refl;
     second_left = IsLeft-rest p made y second x.place c m.second_left same;
   }
@@ -152,12 +176,14 @@ Merges-none p a f g hf hg = record {
 }
 
 -- nothing is left
-pub Merges-all : (p a : ℕ) (f g made : List Factor) → Merges p a f g made [] [] → (fs : List (List Term)) → IsSame p (combined fs made) (combined fs f ++ scaled a (combined fs g))
+pub Merges-all : (p a : ℕ) (f g made : List Factor) → Merges p a f g made [] [] → (fs : List (List Term)) →
+    IsSame p (combined fs made) (combined fs f ++ scaled a (combined fs g))
 Merges-all p a f g made m fs w =
     let v : ℕ → ℕ = λ k. total_at (get_or fs k []) w in
     let whole : valued v made + 0 + a * 0 ≡ valued v made = omega (arith, mul-zero a) in
     let sum : total_at (combined fs f ++ scaled a (combined fs g)) w ≡ valued v f + a * valued v g =
-    total_at-append (combined fs f) (scaled a (combined fs g)) w ∙ ap₂ (λ (x y : ℕ). x + y) (combined-total fs f w) (total_at-scaled a (combined fs g) w ∙ ap (λ (n : ℕ). a * n) (combined-total fs g w)) in
+    total_at-append (combined fs f) (scaled a (combined fs g)) w ∙ ap₂ (λ (x y : ℕ). x + y) (combined-total fs f w)
+    (total_at-scaled a (combined fs g) w ∙ ap (λ (n : ℕ). a * n) (combined-total fs g w)) in
     ap (λ (n : ℕ). n % p) (combined-total fs made w ∙ sym whole) ∙ m.sum v ∙ ap (λ (n : ℕ). n % p) (sym sum)
 
 -- what is left after the first factor, as a slice from place 1 on
@@ -189,7 +215,8 @@ module _ (p a : ℕ) (f g made : List Factor) where
       let lt : u.place < t.place = ranked t.place u.place Greater (sym e) in
       rw after_first-cons (Merges-second p a f g made u c (t ∷ first) second some value m (before_first p u.place t first m.first_left.are lt))
 
-  pub step_both : (first second : List Factor) (c : ℕ) → 0 < p → firsts_cmp first second ≡ Equal → c ≡ ((first_of first).residue + (a * (first_of second).residue) % p) % p
+  pub step_both : (first second : List Factor) (c : ℕ) → 0 < p → firsts_cmp first second ≡ Equal →
+      c ≡ ((first_of first).residue + (a * (first_of second).residue) % p) % p
       → Merges p a f g made first second → Merges p a f g (made ++ factor_at (first_of first).place c) (after_first first) (after_first second)
   step_both first [] c some e value m = cc e
   step_both [] (u ∷ second) c some e value m = cc e

@@ -21,10 +21,11 @@ module _ {X : Type 0} where
   ]
 
   pub Contains-insert_kept : (xs : List X) (i : ℕ) (x y : X) → Contains xs y → Contains (insert xs i x) y
-  Contains-insert_kept xs i x y m = elim (Contains-append_cases (take i xs) (drop i xs) y (subst (λ (zs : List X). Contains zs y) (sym (take-append-drop i xs)) m)) [
-    | inl n ↦ Contains-append_left (take i xs) (x ∷ drop i xs) y n
-    | inr n ↦ Contains-append_right (take i xs) (x ∷ drop i xs) y (Contains-more x (drop i xs) y n)
-  ]
+  Contains-insert_kept xs i x y m = elim (Contains-append_cases (take i xs) (drop i xs) y
+      (subst (λ (zs : List X). Contains zs y) (sym (take-append-drop i xs)) m)) [
+        | inl n ↦ Contains-append_left (take i xs) (x ∷ drop i xs) y n
+        | inr n ↦ Contains-append_right (take i xs) (x ∷ drop i xs) y (Contains-more x (drop i xs) y n)
+      ]
 
   pub Contains-insert_here : (xs : List X) (i : ℕ) (x : X) → Contains (insert xs i x) x
   Contains-insert_here xs i x = Contains-append_right (take i xs) (x ∷ drop i xs) x (Contains-first x (drop i xs))
@@ -36,7 +37,8 @@ module _ {X : Type 0} where
   ])
 
   -- an item between those that stand before it and those that stand behind it
-  placed : (R : X → X → Type 0) (pre post : List X) (x : X) → AllPairs R (pre ++ post) → ((y : X) → Contains pre y → R y x) → ((y : X) → Contains post y → R x y) → AllPairs R (pre ++ x ∷ post)
+  placed : (R : X → X → Type 0) (pre post : List X) (x : X) → AllPairs R (pre ++ post) → ((y : X) → Contains pre y → R y x) →
+      ((y : X) → Contains post y → R x y) → AllPairs R (pre ++ x ∷ post)
   placed R [] post x f before behind = AllPairs-cons R x post (All-from_members (R x) post behind) f
   placed R (z ∷ pre) post x f before behind =
       AllPairs-cons R z (pre ++ x ∷ post)
@@ -52,7 +54,8 @@ module _ {X : Type 0} where
       after_first : (y : X) → Contains (pre ++ post) y → R z y
       after_first y m = All-contains (R z) (pre ++ post) y (AllPairs-first R z (pre ++ post) f) m
 
-  pub AllPairs-insert : (R : X → X → Type 0) (xs : List X) (i : ℕ) (x : X) → AllPairs R xs → All (λ y. R y x) (take i xs) → All (R x) (drop i xs) → AllPairs R (insert xs i x)
+  pub AllPairs-insert : (R : X → X → Type 0) (xs : List X) (i : ℕ) (x : X) → AllPairs R xs → All (λ y. R y x) (take i xs) →
+      All (R x) (drop i xs) → AllPairs R (insert xs i x)
   AllPairs-insert R xs i x f before behind =
       placed R (take i xs) (drop i xs) x (subst (AllPairs R) (sym (take-append-drop i xs)) f)
       (λ y m. All-contains (λ z. R z x) (take i xs) y before m) (λ y m. All-contains (R x) (drop i xs) y behind m)

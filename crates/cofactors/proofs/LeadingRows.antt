@@ -47,32 +47,44 @@ module _ (p : ℕ) (weights : List ℕ) (relations : List (List Term)) (st : IsS
     pub rows : All (echelon.IsRow p st.modulus) es
     pub spans : (m : Multiple) → IsMultiple p weights relations d m → IsInSpan Kd (List ℕ) (IsOf p st.modulus es) (vecd (product m.left m.relation m.right))
 
-  multiples_spanned : (es : List (List ℕ × Vd)) → AreEchelon es → (ms : List Multiple) → All (IsMultiple p weights relations d) ms → IsInSpan Kd (List ℕ) (IsOf p st.modulus es) (vecd (flat_map terms_of ms))
+  multiples_spanned : (es : List (List ℕ × Vd)) → AreEchelon es → (ms : List Multiple) → All (IsMultiple p weights relations d) ms →
+      IsInSpan Kd (List ℕ) (IsOf p st.modulus es) (vecd (flat_map terms_of ms))
   multiples_spanned es h [] k = same_span Kd (List ℕ) _ (λ y. Kd.zero) (vecd []) (λ y. same_residue p _ _ refl) (IsInSpan-zero Kd (List ℕ) _)
   multiples_spanned es h (m ∷ ms) k =
-      same_span Kd (List ℕ) _ (λ y. Kd.add (Kd.mul (vectors.of p st.modulus m.factor) (vecd (product m.left m.relation m.right) y)) (vecd (flat_map terms_of ms) y)) (vecd (flat_map terms_of (m ∷ ms)))
-      (λ y. sym (vector_of-append p st.modulus (terms_of m) (flat_map terms_of ms) y ∙ ap (λ (n : Residue p). Kd.add n (vecd (flat_map terms_of ms) y)) (vector_of-scaled p st.modulus m.factor (product m.left m.relation m.right) y)))
-      (IsInSpan-add Kd (List ℕ) _ _ _ (IsInSpan-scaled Kd (List ℕ) _ (vectors.of p st.modulus m.factor) _ (h.spans m (All-head (IsMultiple p weights relations d) m ms k))) (multiples_spanned es h ms (All-tail (IsMultiple p weights relations d) m ms k)))
+      same_span Kd (List ℕ) _ (λ y. Kd.add (Kd.mul (vectors.of p st.modulus m.factor) (vecd (product m.left m.relation m.right) y))
+      (vecd (flat_map terms_of ms) y)) (vecd (flat_map terms_of (m ∷ ms)))
+      (λ y. sym (vector_of-append p st.modulus (terms_of m) (flat_map terms_of ms) y
+      ∙ ap (λ (n : Residue p). Kd.add n (vecd (flat_map terms_of ms) y))
+      (vector_of-scaled p st.modulus m.factor (product m.left m.relation m.right) y)))
+      (IsInSpan-add Kd (List ℕ) _ _ _ (IsInSpan-scaled Kd (List ℕ) _ (vectors.of p st.modulus m.factor) _
+      (h.spans m (All-head (IsMultiple p weights relations d) m ms k)))
+      (multiples_spanned es h ms (All-tail (IsMultiple p weights relations d) m ms k)))
 
-  first_of : (f : List Term) (w : List ℕ) → IsElement p weights d f → lead_of f ≡ Some w → (vecd f w ≡ Kd.zero → ⊥) × ((y : List ℕ) → IsLetterwiseGreater y w → vecd f y ≡ Kd.zero)
+  first_of : (f : List Term) (w : List ℕ) → IsElement p weights d f → lead_of f ≡ Some w →
+      (vecd f w ≡ Kd.zero → ⊥) × ((y : List ℕ) → IsLetterwiseGreater y w → vecd f y ≡ Kd.zero)
   first_of [] w e l = cc l
   first_of (t ∷ f) w e l =
       let is : t.word ≡ w = cc l in (
-        (λ z. All-head (λ (s : Term). Stands p (t ∷ f) s.word) t f (Stands-own p (t ∷ f) e.form e.residues) (ap (λ (x : List ℕ). total_at (t ∷ f) x % p) is ∙ ap (λ (n : Residue p). n.0) z ∙ zero-mod p)),
+        (λ z. All-head (λ (s : Term). Stands p (t ∷ f) s.word) t f (Stands-own p (t ∷ f) e.form e.residues)
+            (ap (λ (x : List ℕ). total_at (t ∷ f) x % p) is ∙ ap (λ (n : Residue p). n.0) z ∙ zero-mod p)),
         (λ y g. same_residue p _ _ (ap (λ (n : ℕ). n % p) (above_all y t f e.form (subst (IsLetterwiseGreater y) (sym is) g)))),
       )
 
   -- each leading word of the ideal leads a row
-  pub leads_a_row : (es : List (List ℕ × Vd)) → AreEchelon es → (w : List ℕ) → IsLeadingWord p weights relations d w → (e : List ℕ × Vd) × Contains es e × (e.0 ≡ w)
+  pub leads_a_row : (es : List (List ℕ × Vd)) → AreEchelon es → (w : List ℕ) → IsLeadingWord p weights relations d w →
+      (e : List ℕ × Vd) × Contains es e × (e.0 ≡ w)
   leads_a_row es h w l =
       let i = l.inside in
       let o = first_of l.member w i.element l.lead in
       greatest_leads p st.modulus es h.falling h.rows (vecd l.member)
-      (same_span Kd (List ℕ) _ (vecd (flat_map terms_of i.multiples)) (vecd l.member) (λ y. sym (same_vectors p st.modulus l.member (flat_map terms_of i.multiples) i.sum y)) (multiples_spanned es h i.multiples i.each))
+      (same_span Kd (List ℕ) _ (vecd (flat_map terms_of i.multiples)) (vecd l.member)
+      (λ y. sym (same_vectors p st.modulus l.member (flat_map terms_of i.multiples) i.sum y))
+      (multiples_spanned es h i.multiples i.each))
       w o.0 o.1
 
   -- what is 0 at the leading word of each row is 0 at each leading word of the ideal
-  pub zero_at_leads : (es : List (List ℕ × Vd)) → AreEchelon es → (left : Vd) → ((e : List ℕ × Vd) → Contains es e → left e.0 ≡ Kd.zero) → (w : List ℕ) → IsLeadingWord p weights relations d w → left w ≡ Kd.zero
+  pub zero_at_leads : (es : List (List ℕ × Vd)) → AreEchelon es → (left : Vd) → ((e : List ℕ × Vd) → Contains es e → left e.0 ≡ Kd.zero) →
+      (w : List ℕ) → IsLeadingWord p weights relations d w → left w ≡ Kd.zero
   zero_at_leads es h left zero w l = let e = leads_a_row es h w l in subst (λ (x : List ℕ). left x ≡ Kd.zero) e.2 (zero e.0 e.1)
 
   -- a product as a multiple
@@ -94,13 +106,16 @@ module _ (p : ℕ) (weights : List ℕ) (relations : List (List Term)) (st : IsS
   same_terms [] = refl
   same_terms (q ∷ qs) = ap (λ (f : List Term). product_terms relations q ++ f) (same_terms qs)
 
-  -- an element without leading words and a product list whose sum is the rest of f are the normal form and its product list
-  pub normal_from_products : (f t : List Term) (qs : List Product) → IsElement p weights d t → IsProductList p weights relations d qs → IsSumWith p relations f t qs
+  -- an element without leading words and a product list whose sum is the rest of f are the normal form and its
+  -- product list
+  pub normal_from_products : (f t : List Term) (qs : List Product) → IsElement p weights d t → IsProductList p weights relations d qs →
+      IsSumWith p relations f t qs
       → All (λ s. IsLeadingWord p weights relations d s.word → ⊥) t → IsNormalForm p weights relations d f t
   normal_from_products f t qs e h s none = record {
     element = e;
     multiples = map multiple_of qs;
-    each = All-map (IsMultiple p weights relations d) multiple_of qs (All-weaker (IsProduct p weights relations d) (λ q. IsMultiple p weights relations d (multiple_of q)) is_multiple qs h.each);
+    each = All-map (IsMultiple p weights relations d) multiple_of qs
+        (All-weaker (IsProduct p weights relations d) (λ q. IsMultiple p weights relations d (multiple_of q)) is_multiple qs h.each);
     sum = λ w. s w ∙ ap (λ (g : List Term). total_at (t ++ g) w % p) (same_terms qs);
     normal = none;
   }
@@ -120,7 +135,8 @@ module _ (p : ℕ) (weights : List ℕ) (relations : List (List Term)) (st : IsS
   span_from_parts rows f s = record {
     parts = map (λ (c : ℕ × Row). (vectors.of p st.modulus c.0, vecd c.1.element)) s.parts;
     each = All-map (λ (c : Residue p × Vd). IsOf p st.modulus (map entry rows) c.1) (λ (c : ℕ × Row). (vectors.of p st.modulus c.0, vecd c.1.element)) s.parts
-        (All-weaker (λ (c : ℕ × Row). Contains rows c.1) (λ (c : ℕ × Row). IsOf p st.modulus (map entry rows) (vecd c.1.element)) (λ c m. (entry c.1, Contains-map entry rows c.1 m, refl)) s.parts s.among);
+        (All-weaker (λ (c : ℕ × Row). Contains rows c.1) (λ (c : ℕ × Row). IsOf p st.modulus (map entry rows) (vecd c.1.element))
+        (λ c m. (entry c.1, Contains-map entry rows c.1 m, refl)) s.parts s.among);
     sum = λ w. same_vectors p st.modulus f (flat_map (λ (c : ℕ × Row). scaled c.0 c.1.element) s.parts) s.sum w ∙ part_sum s.parts w;
   }
 
@@ -130,21 +146,28 @@ module _ (p : ℕ) (weights : List ℕ) (relations : List (List Term)) (st : IsS
     above = λ y g. same_residue p _ _ (ap (λ (n : ℕ). n % p) (none_above r.element y row.form g));
   }
 
-  are_echelon : (rows : List Row) → AreLeaders p rows → All (λ f. IsPlusSpan p rows f []) (map (triple_terms relations) (triples weights relations d)) → AreEchelon (map entry rows)
+  are_echelon : (rows : List Row) → AreLeaders p rows → All (λ f. IsPlusSpan p rows f [])
+      (map (triple_terms relations) (triples weights relations d)) → AreEchelon (map entry rows)
   are_echelon rows h spanned = record {
-    falling = AllPairs-map entry (λ (r s : Row). IsLetterwiseGreater (lead_word r) (lead_word s)) (λ (x y : List ℕ × Vd). IsLetterwiseGreater x.0 y.0) (λ r s g. g) rows h.falling;
-    rows = All-map (echelon.IsRow p st.modulus) entry rows (All-from_members (λ r. echelon.IsRow p st.modulus (entry r)) rows (λ r m. row_of_leader r (All-contains (IsRow p) rows r h.each m) (All-contains (λ (s : Row). IsMonic s.element) rows r h.monic m)));
+    falling = AllPairs-map entry (λ (r s : Row). IsLetterwiseGreater (lead_word r) (lead_word s))
+        (λ (x y : List ℕ × Vd). IsLetterwiseGreater x.0 y.0) (λ r s g. g) rows h.falling;
+    rows = All-map (echelon.IsRow p st.modulus) entry rows (All-from_members (λ r. echelon.IsRow p st.modulus (entry r)) rows
+        (λ r m. row_of_leader r (All-contains (IsRow p) rows r h.each m) (All-contains (λ (s : Row). IsMonic s.element) rows r h.monic m)));
     spans = λ m i.
         let q = triple_of p weights relations st d m i in
         subst (λ (f : List Term). IsInSpan Kd (List ℕ) (IsOf p st.modulus (map entry rows)) (vecd f)) q.2
         (span_from_parts rows (triple_terms relations q.0)
-        (All-contains (λ (f : List Term). IsPlusSpan p rows f []) (map (triple_terms relations) (triples weights relations d)) (triple_terms relations q.0) spanned (Contains-map (triple_terms relations) (triples weights relations d) q.0 q.1)));
+        (All-contains (λ (f : List Term). IsPlusSpan p rows f []) (map (triple_terms relations) (triples weights relations d))
+        (triple_terms relations q.0) spanned (Contains-map (triple_terms relations) (triples weights relations d) q.0 q.1)));
   }
 
   -- an element that is 0 at the leading words of the rows has no leading word
-  pub normal_at_leads : (rows : List Row) → AreLeaders p rows → All (λ f. IsPlusSpan p rows f []) (map (triple_terms relations) (triples weights relations d)) → (t : List Term) → IsElement p weights d t
+  pub normal_at_leads : (rows : List Row) → AreLeaders p rows → All (λ f. IsPlusSpan p rows f [])
+      (map (triple_terms relations) (triples weights relations d)) → (t : List Term) → IsElement p weights d t
       → IsZeroAtLeads rows t → All (λ s. IsLeadingWord p weights relations d s.word → ⊥) t
   normal_at_leads rows h spanned t e zero = All-from_members (λ s. IsLeadingWord p weights relations d s.word → ⊥) t (λ s m l.
       let none : vecd t s.word ≡ Kd.zero = zero_at_leads (map entry rows) (are_echelon rows h spanned) (vecd t)
-      (λ x k. let r = Contains-map_cases entry rows x k in subst (λ (y : List ℕ × Vd). vecd t y.0 ≡ Kd.zero) r.2 (same_residue p _ _ (ap (λ (n : ℕ). n % p) (All-contains (λ (r : Row). total_at t (lead_word r) ≡ 0) rows r.0 zero r.1)))) s.word l in
+      (λ x k. let r = Contains-map_cases entry rows x k in subst (λ (y : List ℕ × Vd). vecd t y.0 ≡ Kd.zero) r.2
+      (same_residue p _ _ (ap (λ (n : ℕ). n % p) (All-contains (λ (r : Row). total_at t (lead_word r) ≡ 0) rows r.0 zero r.1)))) s.word
+      l in
       All-contains (λ (u : Term). Stands p t u.word) t s (Stands-own p t e.form e.residues) m (ap (λ (n : Residue p). n.0) none ∙ zero-mod p))

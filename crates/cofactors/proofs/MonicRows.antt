@@ -14,8 +14,10 @@ regrouped a b c d = mul_assoc a b (c * d) ∙ ap (λ (n : ℕ). a * n) (sym (mul
 -- two inverses of l are one
 same_inverse : (p k l a x : ℕ) → (k * l) % p ≡ 1 % p → (l * a) % p ≡ 1 % p → (k * x) % p ≡ (a * x) % p
 same_inverse p k l a x e f =
-    let right : (k * x * (l * a)) % p ≡ (k * x) % p = sym (mul-mod_second (k * x) (l * a) p) ∙ ap (λ (n : ℕ). (k * x * n) % p) f ∙ mul-mod_second (k * x) 1 p ∙ ap (λ (n : ℕ). n % p) (mul-one (k * x)) in
-    let left : (k * l * (a * x)) % p ≡ (a * x) % p = sym (mul-mod_first (k * l) (a * x) p) ∙ ap (λ (n : ℕ). (n * (a * x)) % p) e ∙ mul-mod_first 1 (a * x) p ∙ ap (λ (n : ℕ). n % p) (one-mul (a * x)) in
+    let right : (k * x * (l * a)) % p ≡ (k * x) % p = sym (mul-mod_second (k * x) (l * a) p) ∙ ap (λ (n : ℕ). (k * x * n) % p) f
+    ∙ mul-mod_second (k * x) 1 p ∙ ap (λ (n : ℕ). n % p) (mul-one (k * x)) in
+    let left : (k * l * (a * x)) % p ≡ (a * x) % p = sym (mul-mod_first (k * l) (a * x) p) ∙ ap (λ (n : ℕ). (n * (a * x)) % p) e
+    ∙ mul-mod_first 1 (a * x) p ∙ ap (λ (n : ℕ). n % p) (one-mul (a * x)) in
     sym right ∙ ap (λ (n : ℕ). n % p) (sym (regrouped k l a x)) ∙ left
 
 module _ (p : ℕ) (f m : List Term) (form : IsPolynomial m) (monic : IsMonic m) (multiple : IsMultiple p m f) (lead : lead_or_none m ≡ lead_or_none f) where
@@ -36,7 +38,8 @@ module _ (p : ℕ) (f m : List Term) (form : IsPolynomial m) (monic : IsMonic m)
   from_monic w =
       let x = total_at f w in
       let times : (l * (k * x)) % p ≡ x % p =
-      ap (λ (n : ℕ). n % p) (sym (mul_assoc l k x) ∙ ap (λ (n : ℕ). n * x) (mul_comm l k)) ∙ sym (mul-mod_first (k * l) x p) ∙ ap (λ (n : ℕ). (n * x) % p) inverse ∙ mul-mod_first 1 x p ∙ ap (λ (n : ℕ). n % p) (one-mul x) in
+      ap (λ (n : ℕ). n % p) (sym (mul_assoc l k x) ∙ ap (λ (n : ℕ). n * x) (mul_comm l k)) ∙ sym (mul-mod_first (k * l) x p)
+      ∙ ap (λ (n : ℕ). (n * x) % p) inverse ∙ mul-mod_first 1 x p ∙ ap (λ (n : ℕ). n % p) (one-mul x) in
       sym times ∙ sym (mul-mod_second l (k * x) p) ∙ ap (λ (n : ℕ). (l * n) % p) (sym (total-multiple w)) ∙ mul-mod_second l (total_at m w) p
       ∙ ap (λ (n : ℕ). n % p) (sym (total_at-scaled l m w))
 

@@ -22,7 +22,8 @@ use Rattle.linear_algebra.proofs.Elimination.{leads-zero, same_span}
 use Rattle.linear_algebra.proofs.ModField.{same_residue}
 use Rattle.ideal_laws.specs.Ideal.{IsElement, IsInIdeal, IsLeadingWord, IsMultiple, Multiple, terms_of}
 use Rattle.ideal_laws.specs.Laws.{IsSetting}
-use Rattle.ideal_laws.proofs.Leads.{element_form, element_from, element_inside, entries, found, had_from_rows, IsMemberVector, leading_listed, listed_leading, member_off, row_member, rows, vector_of_element}
+use Rattle.ideal_laws.proofs.Leads.{element_form, element_from, element_inside, entries, found, had_from_rows, IsMemberVector, leading_listed}
+use Rattle.ideal_laws.proofs.Leads.{listed_leading, member_off, row_member, rows, vector_of_element}
 use Rattle.ideal_laws.proofs.OneBasis.{zero_at_lead}
 use Rattle.ideal_laws.proofs.Vectors.{IsProductVector, ideal_from_span, same_vectors, span_from_ideal, vector_of-append, vector_of-multiples}
 use Rattle.ideal_laws.proofs.Vectors as vectors
@@ -46,12 +47,15 @@ module _ (p : ℕ) (fm : IsFieldModulus p) where
       let one : K.add (K.add a (K.neg c)) b ≡ d =
       K.add_assoc a (K.neg c) b ∙ ap (K.add a) (K.add_comm (K.neg c) b) ∙ sym (K.add_assoc a b (K.neg c)) ∙ ap (λ (n : Residue p). K.add n (K.neg c)) e
       ∙ ap (λ (n : Residue p). K.add n (K.neg c)) (K.add_comm c d) ∙ K.add_assoc d c (K.neg c) ∙ ap (K.add d) (K.add_neg c) ∙ K.add_zero d in
-      sym (K.add_zero (K.add a (K.neg c))) ∙ ap (K.add (K.add a (K.neg c))) (sym (K.add_neg b)) ∙ sym (K.add_assoc (K.add a (K.neg c)) b (K.neg b)) ∙ ap (λ (n : Residue p). K.add n (K.neg b)) one
+      sym (K.add_zero (K.add a (K.neg c))) ∙ ap (K.add (K.add a (K.neg c))) (sym (K.add_neg b))
+      ∙ sym (K.add_assoc (K.add a (K.neg c)) b (K.neg b)) ∙ ap (λ (n : Residue p). K.add n (K.neg b)) one
 
-  sum-zero : (es : List (List ℕ × V)) (u : V) → ((e : List ℕ × V) → Contains es e → u e.0 ≡ K.zero) → (y : List ℕ) → sum_of K (List ℕ) (from_leads K (List ℕ) es u) y ≡ K.zero
+  sum-zero : (es : List (List ℕ × V)) (u : V) → ((e : List ℕ × V) → Contains es e → u e.0 ≡ K.zero) → (y : List ℕ) →
+      sum_of K (List ℕ) (from_leads K (List ℕ) es u) y ≡ K.zero
   sum-zero [] u h y = refl
   sum-zero (e ∷ es) u h y =
-      ap₂ K.add (ap (λ (n : Residue p). K.mul n (e.1 y)) (h e (Contains-first e es)) ∙ K.mul_comm K.zero (e.1 y) ∙ mul_zero K (e.1 y)) (sum-zero es u (λ d m. h d (Contains-more e es d m)) y) ∙ K.add_zero K.zero
+      ap₂ K.add (ap (λ (n : Residue p). K.mul n (e.1 y)) (h e (Contains-first e es)) ∙ K.mul_comm K.zero (e.1 y) ∙ mul_zero K (e.1 y))
+      (sum-zero es u (λ d m. h d (Contains-more e es d m)) y) ∙ K.add_zero K.zero
 
   same_at : (xs : List (List ℕ)) (u v : V) → AreSameAt K (List ℕ) xs u v → (w : List ℕ) → Contains xs w → u w ≡ v w
   same_at [] u v s w m = absurd (Contains-none w m)
@@ -64,7 +68,8 @@ module _ (p : ℕ) (fm : IsFieldModulus p) where
   minus a = K.mul_comm (K.neg K.one) a ∙ mul_neg K a K.one ∙ ap K.neg (K.mul_one a)
 
   -- what is had from the entries at the leading columns has these entries
-  own_at : (xs : List (List ℕ)) (es : List (List ℕ × V)) → IsReduced K (List ℕ) xs es → (v : V) (e : List ℕ × V) → Contains es e → sum_of K (List ℕ) (from_leads K (List ℕ) es v) e.0 ≡ v e.0
+  own_at : (xs : List (List ℕ)) (es : List (List ℕ × V)) → IsReduced K (List ℕ) xs es → (v : V) (e : List ℕ × V) → Contains es e →
+      sum_of K (List ℕ) (from_leads K (List ℕ) es v) e.0 ≡ v e.0
   own_at xs es done v e m = absurd (Contains-none e m)
   own_at xs es (skip x ys es' z r) v e m = own_at ys es r v e m
   own_at xs es (lead x ys q es' one z zl r) v e m = elim (Contains-cases (x, q) es' e m) [
@@ -102,9 +107,11 @@ module _ (p : ℕ) (weights : List ℕ) (relations : List (List Term)) (st : IsS
   abbrev had : Vd → Vd
   had v = sum_of Kd (List ℕ) (from_leads Kd (List ℕ) es v)
 
-  had_member : (fs : List (List ℕ × Vd)) (v : Vd) → ((e : List ℕ × Vd) → Contains fs e → Contains es e) → Member (sum_of Kd (List ℕ) (from_leads Kd (List ℕ) fs v))
+  had_member : (fs : List (List ℕ × Vd)) (v : Vd) → ((e : List ℕ × Vd) → Contains fs e → Contains es e) →
+      Member (sum_of Kd (List ℕ) (from_leads Kd (List ℕ) fs v))
   had_member [] v h = IsInSpan-zero Kd (List ℕ) _
-  had_member (e ∷ fs) v h = IsInSpan-add Kd (List ℕ) _ _ _ (IsInSpan-scaled Kd (List ℕ) _ (v e.0) e.1 (row_member p fm weights relations st d e (h e (Contains-first e fs)))) (had_member fs v (λ g m. h g (Contains-more e fs g m)))
+  had_member (e ∷ fs) v h = IsInSpan-add Kd (List ℕ) _ _ _ (IsInSpan-scaled Kd (List ℕ) _ (v e.0) e.1
+      (row_member p fm weights relations st d e (h e (Contains-first e fs)))) (had_member fs v (λ g m. h g (Contains-more e fs g m)))
 
   own_entry : (v : Vd) (e : List ℕ × Vd) → Contains es e → had v e.0 ≡ v e.0
   own_entry v e m = own_at p fm columns es (found p fm weights relations st d).1.reduced v e m
@@ -134,11 +141,13 @@ module _ (p : ℕ) (weights : List ℕ) (relations : List (List Term)) (st : IsS
     f_off w off = same_residue p _ _ (ap (λ (n : ℕ). n % p) (total_at-absent f w (All-from_members (λ t. t.word ≢ w) f (λ t m e.
         let over = All-contains (λ (t : Term). IsOver (length weights) t.word) f t ef.letters m in
         let degree = All-contains (λ (t : Term). degree_of weights t.word ≡ d) f t ef.degree m in
-        off (subst (Contains columns) e (subst (λ (n : ℕ). Contains (words_of_degree weights n) t.word) degree (listed_word weights st.are_weights t.word over)))))))
+        off (subst (Contains columns) e (subst (λ (n : ℕ). Contains (words_of_degree weights n) t.word) degree
+        (listed_word weights st.are_weights t.word over)))))))
 
     left_total : (w : List ℕ) → vec normal_form w ≡ left w
     left_total w = elim (listed columns w) [
-      | inl m ↦ same_residue p _ _ (ap (λ (n : ℕ). n % p) (from_words-total columns (entries p fm left) w (words_of_degree-falling weights st.are_weights d) m) ∙ mod-eq_of_lt (left w).1)
+      | inl m ↦ same_residue p _ _ (ap (λ (n : ℕ). n % p) (from_words-total columns (entries p fm left) w
+          (words_of_degree-falling weights st.are_weights d) m) ∙ mod-eq_of_lt (left w).1)
       | inr off ↦ same_residue p _ _ (ap (λ (n : ℕ). n % p) (from_words-absent columns (entries p fm left) w off) ∙ refl)
           ∙ sym (ap₂ (λ (a b : Residue p). Kd.add a (Kd.neg b)) (f_off w off) (member_off p fm weights relations st d s member_s w off) ∙ Kd.add_neg Kd.zero)
     ]
@@ -157,26 +166,38 @@ module _ (p : ℕ) (weights : List ℕ) (relations : List (List Term)) (st : IsS
       multiples = inside_s.multiples;
       each = inside_s.each;
       sum = λ w. ap (λ (n : Residue p). n.0) (sym (vector_of-append p fm normal_form (flat_map terms_of inside_s.multiples) w
-          ∙ ap₂ Kd.add (left_total w) (sym (same_vectors p fm _ (flat_map terms_of inside_s.multiples) inside_s.sum w) ∙ vector_of_element p fm weights relations st d s member_s w)
+          ∙ ap₂ Kd.add (left_total w) (sym (same_vectors p fm _ (flat_map terms_of inside_s.multiples) inside_s.sum w)
+          ∙ vector_of_element p fm weights relations st d s member_s w)
           ∙ restored p fm (v w) (s w)));
       normal = left_normal;
     }
 
-  none_at : (t : List Term) → All (λ s. IsLeadingWord p weights relations d s.word → ⊥) t → (w : List ℕ) → IsLeadingWord p weights relations d w → vec t w ≡ Kd.zero
-  none_at t h w l = same_residue p _ _ (ap (λ (n : ℕ). n % p) (total_at-absent t w (All-from_members (λ s. s.word ≢ w) t (λ s m e. All-contains (λ (s : Term). IsLeadingWord p weights relations d s.word → ⊥) t s h m (subst (IsLeadingWord p weights relations d) (sym e) l)))))
+  none_at : (t : List Term) → All (λ s. IsLeadingWord p weights relations d s.word → ⊥) t → (w : List ℕ) →
+      IsLeadingWord p weights relations d w → vec t w ≡ Kd.zero
+  none_at t h w l = same_residue p _ _ (ap (λ (n : ℕ). n % p) (total_at-absent t w
+      (All-from_members (λ s. s.word ≢ w) t (λ s m e. All-contains (λ (s : Term). IsLeadingWord p weights relations d s.word → ⊥) t s h m
+      (subst (IsLeadingWord p weights relations d) (sym e) l)))))
 
   abbrev sum_vector : List Multiple → Vd
   sum_vector ms = vec (flat_map terms_of ms)
 
   span_of : (ms : List Multiple) → All (IsMultiple p weights relations d) ms → Member (sum_vector ms)
-  span_of ms each = record { parts = map (vectors.part p fm) ms; each = All-map (λ c. IsProductVector p fm weights relations d c.1) (vectors.part p fm) ms (λ k m within. record { multiple = _; is_multiple = each k m within; is = refl }); sum = vector_of-multiples p fm ms }
+  span_of ms each = record {
+    parts = map (vectors.part p fm) ms;
+    each =
+        All-map (λ c. IsProductVector p fm weights relations d c.1) (vectors.part p fm) ms
+        (λ k m within. record { multiple = _; is_multiple = each k m within; is = refl });
+    sum = vector_of-multiples p fm ms;
+  }
 
   -- the sum of the ones less that of the others
   abbrev difference : List Multiple → List Multiple → Vd
   difference ms ns w = Kd.add (sum_vector ms w) (Kd.neg (sum_vector ns w))
 
-  difference_member : (ms ns : List Multiple) → All (IsMultiple p weights relations d) ms → All (IsMultiple p weights relations d) ns → Member (difference ms ns)
-  difference_member ms ns h k = same_span Kd (List ℕ) _ (λ w. Kd.add (sum_vector ms w) (Kd.mul (Kd.neg Kd.one) (sum_vector ns w))) (difference ms ns) (λ w. ap (Kd.add (sum_vector ms w)) (minus p fm (sum_vector ns w)))
+  difference_member : (ms ns : List Multiple) → All (IsMultiple p weights relations d) ms → All (IsMultiple p weights relations d) ns →
+      Member (difference ms ns)
+  difference_member ms ns h k = same_span Kd (List ℕ) _ (λ w. Kd.add (sum_vector ms w) (Kd.mul (Kd.neg Kd.one) (sum_vector ns w)))
+      (difference ms ns) (λ w. ap (Kd.add (sum_vector ms w)) (minus p fm (sum_vector ns w)))
       (IsInSpan-add Kd (List ℕ) _ (sum_vector ms) _ (span_of ms h) (IsInSpan-scaled Kd (List ℕ) _ (Kd.neg Kd.one) (sum_vector ns) (span_of ns k)))
 
   -- a member that is 0 at each leading word is 0
@@ -191,12 +212,15 @@ module _ (p : ℕ) (weights : List ℕ) (relations : List (List Term)) (st : IsS
   same_forms f t u a b =
       let is_diff : (w : List ℕ) → Kd.add (vec t w) (Kd.neg (vec u w)) ≡ difference b.multiples a.multiples w = λ w.
       exchanged p fm (vec t w) (sum_vector a.multiples w) (vec u w) (sum_vector b.multiples w)
-      (sym (vector_of-append p fm t (flat_map terms_of a.multiples) w) ∙ sym (same_vectors p fm f _ a.sum w) ∙ same_vectors p fm f _ b.sum w ∙ vector_of-append p fm u (flat_map terms_of b.multiples) w) in
+      (sym (vector_of-append p fm t (flat_map terms_of a.multiples) w) ∙ sym (same_vectors p fm f _ a.sum w) ∙ same_vectors p fm f _ b.sum w
+      ∙ vector_of-append p fm u (flat_map terms_of b.multiples) w) in
       let zero_leads : (e : List ℕ × Vd) → Contains es e → difference b.multiples a.multiples e.0 ≡ Kd.zero = λ e m.
       let l = listed_leading p fm weights relations st d e.0 (Contains-map (λ (c : List ℕ × Vd). c.0) es e m) in
       sym (is_diff e.0) ∙ ap₂ (λ (m n : Residue p). Kd.add m (Kd.neg n)) (none_at t a.normal e.0 l) (none_at u b.normal e.0 l) ∙ Kd.add_neg Kd.zero in
       same_polynomials p t u a.element.form b.element.form a.element.residues b.element.residues
-      (λ w. ap (λ (n : Residue p). n.0) (zero_only p fm (vec t w) (vec u w) (is_diff w ∙ zero_member (difference b.multiples a.multiples) (difference_member b.multiples a.multiples b.each a.each) zero_leads w)))
+      (λ w. ap (λ (n : Residue p). n.0) (zero_only p fm (vec t w) (vec u w)
+      (is_diff w ∙ zero_member (difference b.multiples a.multiples) (difference_member b.multiples a.multiples b.each a.each) zero_leads
+      w)))
 
   -- 0 is the normal form of a member
   pub zero_of_member : (f : List Term) → IsInIdeal p weights relations d f → IsNormalForm p weights relations d f []
@@ -229,4 +253,8 @@ has_normal_form p weights relations st d f ef = record {
 }
 
 pub tells_members : TellsMembers
-tells_members p weights relations st d f t ef n = (λ i. same_forms p weights relations st d f t [] n (zero_of_member p weights relations st d f i), member_of_zero p weights relations st d f t ef n)
+tells_members p weights relations st d f t ef n = (
+  λ i. same_forms p weights relations st d f t [] n
+      (zero_of_member p weights relations st d f i),
+  member_of_zero p weights relations st d f t ef n,
+)

@@ -1,5 +1,7 @@
--- A sum of multiples is the sum of a product list: the multiples with one triple are added up, and those that are then 0 left out.
-use Rattle.std.proofs.Common.{ap₂, ◌≡◌, ◌+◌, ◌<◌, ◌%◌, ◌==◌, ℕ, zero, suc, Bool, true, false, cond, List, [], ◌∷◌, ◌++◌, length, map, get_or, refl, sym, ap, ◌∙◌, inl, inr, arith, subst, All, AllPairs}
+-- A sum of multiples is the sum of a product list: the multiples with one triple are added up, and those that are
+-- then 0 left out.
+use Rattle.std.proofs.Common.{ap₂, ◌≡◌, ◌+◌, ◌<◌, ◌%◌, ◌==◌, ℕ, zero, suc, Bool, true, false, cond, List, [], ◌∷◌, ◌++◌, length, map, get_or, refl}
+use Rattle.std.proofs.Common.{sym, ap, ◌∙◌, inl, inr, arith, subst, All, AllPairs}
 use Rattle.std.specs.List.{Contains, flat_map}
 use Rattle.std.proofs.Math.Nat.{add-mod, mod-lt, mod-mod}
 use Rattle.std.proofs.lemmas.Bool.{eqb-true}
@@ -41,7 +43,8 @@ length-add_at p (suc k) a (c ∷ cs) = ap suc (length-add_at p k a cs)
 residues-add_at : (p k a : ℕ) → 0 < p → (cs : List ℕ) → All (λ c. c < p) cs → All (λ c. c < p) (add_at p k a cs)
 residues-add_at p k a pos [] h = h
 residues-add_at p zero a pos (c ∷ cs) h = All-cons (λ c. c < p) ((c + a) % p) cs (mod-lt (c + a) {m = p} pos) (All-tail (λ c. c < p) c cs h)
-residues-add_at p (suc k) a pos (c ∷ cs) h = All-cons (λ c. c < p) c (add_at p k a cs) (All-head (λ c. c < p) c cs h) (residues-add_at p k a pos cs (All-tail (λ c. c < p) c cs h))
+residues-add_at p (suc k) a pos (c ∷ cs) h = All-cons (λ c. c < p) c (add_at p k a cs) (All-head (λ c. c < p) c cs h)
+    (residues-add_at p k a pos cs (All-tail (λ c. c < p) c cs h))
 
 -- the sum of c * u * r * v over two lists
 abbrev weighted : List (List Term) → List ℕ → List Product → List Term
@@ -65,8 +68,10 @@ module _ (p : ℕ) (fm : IsFieldModulus p) (relations : List (List Term)) where
   abbrev zeros : List Product → List ℕ
   zeros qs = map (λ q. 0) qs
 
-  pub weighted-first : (c : ℕ) (cs : List ℕ) (q : Product) (qs : List Product) (w : List ℕ) → vec (weighted relations (c ∷ cs) (q ∷ qs)) w ≡ K.add (K.mul (of c) (vec (core q) w)) (vec (weighted relations cs qs) w)
-  weighted-first c cs q qs w = vector_of-append p fm (scaled c (core q)) (weighted relations cs qs) w ∙ ap (λ (n : Residue p). K.add n (vec (weighted relations cs qs) w)) (vector_of-scaled p fm c (core q) w)
+  pub weighted-first : (c : ℕ) (cs : List ℕ) (q : Product) (qs : List Product) (w : List ℕ) →
+      vec (weighted relations (c ∷ cs) (q ∷ qs)) w ≡ K.add (K.mul (of c) (vec (core q) w)) (vec (weighted relations cs qs) w)
+  weighted-first c cs q qs w = vector_of-append p fm (scaled c (core q)) (weighted relations cs qs) w
+      ∙ ap (λ (n : Residue p). K.add n (vec (weighted relations cs qs) w)) (vector_of-scaled p fm c (core q) w)
 
   of-add : (c a : ℕ) → of ((c + a) % p) ≡ K.add (of c) (of a)
   of-add c a = same_residue p _ _ (mod-mod (c + a) p ∙ add-mod c a p)
@@ -74,7 +79,8 @@ module _ (p : ℕ) (fm : IsFieldModulus p) (relations : List (List Term)) where
   weighted-zeros : (qs : List Product) (w : List ℕ) → vec (weighted relations (zeros qs) qs) w ≡ K.zero
   weighted-zeros [] w = same_residue p _ _ refl
   weighted-zeros (q ∷ qs) w =
-      weighted-first 0 (zeros qs) q qs w ∙ ap₂ K.add (K.mul_comm (of 0) (vec (core q) w) ∙ mul_zero K (vec (core q) w)) (weighted-zeros qs w) ∙ K.add_zero K.zero
+      weighted-first 0 (zeros qs) q qs w ∙ ap₂ K.add (K.mul_comm (of 0) (vec (core q) w) ∙ mul_zero K (vec (core q) w))
+      (weighted-zeros qs w) ∙ K.add_zero K.zero
 
   -- a more of one triple
   weighted-add_at : (a k : ℕ) (cs : List ℕ) (qs : List Product) (q : Product) (w : List ℕ) → k < length qs → length cs ≡ length qs → get_or qs k q ≡ q
@@ -85,11 +91,13 @@ module _ (p : ℕ) (fm : IsFieldModulus p) (relations : List (List Term)) where
   weighted-add_at a zero (c ∷ cs) (r ∷ qs) q w lt n e =
       let x = vec (core r) w in let y = vec (weighted relations cs qs) w in
       weighted-first ((c + a) % p) cs r qs w
-      ∙ ap (λ (m : Residue p). K.add m y) (ap (λ (m : Residue p). K.mul m x) (of-add c a) ∙ K.mul_comm (K.add (of c) (of a)) x ∙ K.mul_add x (of c) (of a) ∙ ap₂ K.add (K.mul_comm x (of c)) (K.mul_comm x (of a)))
+      ∙ ap (λ (m : Residue p). K.add m y) (ap (λ (m : Residue p). K.mul m x) (of-add c a) ∙ K.mul_comm (K.add (of c) (of a)) x
+      ∙ K.mul_add x (of c) (of a) ∙ ap₂ K.add (K.mul_comm x (of c)) (K.mul_comm x (of a)))
       ∙ ap (λ (m : Residue p). K.add m y) (K.add_comm (K.mul (of c) x) (K.mul (of a) x)) ∙ K.add_assoc (K.mul (of a) x) (K.mul (of c) x) y
       ∙ ap₂ K.add (ap (λ (s : Product). K.mul (of a) (vec (core s) w)) e) (sym (weighted-first c cs r qs w))
   weighted-add_at a (suc k) (c ∷ cs) (r ∷ qs) q w lt n e =
-      weighted-first c (add_at p k a cs) r qs w ∙ ap (K.add (K.mul (of c) (vec (core r) w))) (weighted-add_at a k cs qs q w (omega (arith, lt)) (omega (arith, n)) e)
+      weighted-first c (add_at p k a cs) r qs w ∙ ap (K.add (K.mul (of c) (vec (core r) w)))
+      (weighted-add_at a k cs qs q w (omega (arith, lt)) (omega (arith, n)) e)
       ∙ add_left_comm K (K.mul (of c) (vec (core r) w)) (K.mul (of a) (vec (core q) w)) (vec (weighted relations cs qs) w)
       ∙ ap (K.add (K.mul (of a) (vec (core q) w))) (sym (weighted-first c cs r qs w))
 
@@ -102,16 +110,20 @@ module _ (p : ℕ) (fm : IsFieldModulus p) (relations : List (List Term)) where
   listed_products (c ∷ cs) [] = []
   listed_products (c ∷ cs) (q ∷ qs) = cond (c == 0) (listed_products cs qs) (with_coefficient c q ∷ listed_products cs qs)
 
-  same_listed : (cs : List ℕ) (qs : List Product) (w : List ℕ) → vec (weighted relations cs qs) w ≡ vec (flat_map (product_terms relations) (listed_products cs qs)) w
+  same_listed : (cs : List ℕ) (qs : List Product) (w : List ℕ) → vec (weighted relations cs qs) w
+      ≡ vec (flat_map (product_terms relations) (listed_products cs qs)) w
   same_listed [] qs w = refl
   same_listed (c ∷ cs) [] w = refl
   same_listed (c ∷ cs) (q ∷ qs) w = by_test (c == 0) refl (same_listed cs qs w)
     where
       by_test : (b : Bool) → (c == 0) ≡ b → vec (weighted relations cs qs) w ≡ vec (flat_map (product_terms relations) (listed_products cs qs)) w
-          → vec (weighted relations (c ∷ cs) (q ∷ qs)) w ≡ vec (flat_map (product_terms relations) (cond b (listed_products cs qs) (with_coefficient c q ∷ listed_products cs qs))) w
+          → vec (weighted relations (c ∷ cs) (q ∷ qs)) w ≡ vec (flat_map (product_terms relations)
+          (cond b (listed_products cs qs) (with_coefficient c q ∷ listed_products cs qs))) w
       by_test true e h =
-          weighted-first c cs q qs w ∙ ap₂ K.add (ap (λ (n : ℕ). K.mul (of n) (vec (core q) w)) (eqb-true c 0 e) ∙ K.mul_comm (of 0) (vec (core q) w) ∙ mul_zero K (vec (core q) w)) h ∙ zero_add K _
-      by_test false e h = weighted-first c cs q qs w ∙ ap₂ K.add (sym (vector_of-scaled p fm c (core q) w)) h ∙ sym (vector_of-append p fm (scaled c (core q)) (flat_map (product_terms relations) (listed_products cs qs)) w)
+          weighted-first c cs q qs w ∙ ap₂ K.add (ap (λ (n : ℕ). K.mul (of n) (vec (core q) w)) (eqb-true c 0 e)
+          ∙ K.mul_comm (of 0) (vec (core q) w) ∙ mul_zero K (vec (core q) w)) h ∙ zero_add K _
+      by_test false e h = weighted-first c cs q qs w ∙ ap₂ K.add (sym (vector_of-scaled p fm c (core q) w)) h
+          ∙ sym (vector_of-append p fm (scaled c (core q)) (flat_map (product_terms relations) (listed_products cs qs)) w)
 
   pub positive_from : (c : ℕ) → (c == 0) ≡ false → 0 < c
   positive_from zero e = cc e
@@ -125,39 +137,50 @@ module _ (p : ℕ) (fm : IsFieldModulus p) (relations : List (List Term)) where
   listed-says (c ∷ cs) (s ∷ qs) q h m = by_test (c == 0) refl m (listed-says cs qs q (All-tail (λ c. c < p) c cs h))
     where
       Says : List Product → Type 0
-      Says xs = (r : Product) × Contains xs r × ((0 < q.coefficient) × (q.coefficient < p)) × ((q.left ≡ r.left) × (q.relation ≡ r.relation) × (q.right ≡ r.right))
+      Says xs = (r : Product) × Contains xs r × ((0 < q.coefficient) × (q.coefficient < p))
+          × ((q.left ≡ r.left) × (q.relation ≡ r.relation) × (q.right ≡ r.right))
 
-      by_test : (b : Bool) → (c == 0) ≡ b → Contains (cond b (listed_products cs qs) (with_coefficient c s ∷ listed_products cs qs)) q → (Contains (listed_products cs qs) q → Says qs) → Says (s ∷ qs)
+      by_test : (b : Bool) → (c == 0) ≡ b → Contains (cond b (listed_products cs qs) (with_coefficient c s ∷ listed_products cs qs)) q →
+          (Contains (listed_products cs qs) q → Says qs) → Says (s ∷ qs)
       by_test true e m on = let r = on m in (r.0, Contains-more s qs r.0 r.1, r.2, r.3)
       by_test false e m on = elim (Contains-cases (with_coefficient c s) (listed_products cs qs) q m) [
         | inr n ↦ let r = on n in (r.0, Contains-more s qs r.0 r.1, r.2, r.3)
         | inl is ↦ (
           s,
           Contains-first s qs,
-          (omega (arith, positive_from c e, ap (λ (x : Product). x.coefficient) is), omega (arith, All-head (λ c. c < p) c cs h, ap (λ (x : Product). x.coefficient) is)),
+          (
+            omega (arith, positive_from c e, ap (λ (x : Product). x.coefficient) is),
+            omega (arith, All-head (λ c. c < p) c cs h, ap (λ (x : Product). x.coefficient) is),
+          ),
           (sym (ap (λ (x : Product). x.left) is), sym (ap (λ (x : Product). x.relation) is), sym (ap (λ (x : Product). x.right) is)),
         )
       ]
 
-  before_with : (weights : List ℕ) (q r s t : Product) → (q.left ≡ s.left) × (q.relation ≡ s.relation) × (q.right ≡ s.right) → (r.left ≡ t.left) × (r.relation ≡ t.relation) × (r.right ≡ t.right) → StandsBefore weights s t → StandsBefore weights q r
+  before_with : (weights : List ℕ) (q r s t : Product) → (q.left ≡ s.left) × (q.relation ≡ s.relation) × (q.right ≡ s.right) →
+      (r.left ≡ t.left) × (r.relation ≡ t.relation) × (r.right ≡ t.right) → StandsBefore weights s t → StandsBefore weights q r
   before_with weights q r s t a b h =
       let first : StandsBefore weights (with_coefficient q.coefficient s) (with_coefficient r.coefficient t) = h in
-      let left : with_coefficient q.coefficient s ≡ q = λ i. record { coefficient = q.coefficient; left = sym a.0 i; relation = sym a.1 i; right = sym a.2 i } in
-      let right : with_coefficient r.coefficient t ≡ r = λ i. record { coefficient = r.coefficient; left = sym b.0 i; relation = sym b.1 i; right = sym b.2 i } in
+      let left : with_coefficient q.coefficient s ≡ q = λ i. record
+      { coefficient = q.coefficient; left = sym a.0 i; relation = sym a.1 i; right = sym a.2 i } in
+      let right : with_coefficient r.coefficient t ≡ r = λ i. record
+      { coefficient = r.coefficient; left = sym b.0 i; relation = sym b.1 i; right = sym b.2 i } in
       subst (λ (x : Product). StandsBefore weights x r) left (subst (StandsBefore weights (with_coefficient q.coefficient s)) right first)
 
-  listed-ordered : (weights : List ℕ) (cs : List ℕ) (qs : List Product) → All (λ c. c < p) cs → AllPairs (StandsBefore weights) qs → AllPairs (StandsBefore weights) (listed_products cs qs)
+  listed-ordered : (weights : List ℕ) (cs : List ℕ) (qs : List Product) → All (λ c. c < p) cs → AllPairs (StandsBefore weights) qs →
+      AllPairs (StandsBefore weights) (listed_products cs qs)
   listed-ordered weights [] qs h o = AllPairs-nil (StandsBefore weights)
   listed-ordered weights (c ∷ cs) [] h o = AllPairs-nil (StandsBefore weights)
   listed-ordered weights (c ∷ cs) (s ∷ qs) h o =
       by_test (c == 0) (listed-ordered weights cs qs (All-tail (λ c. c < p) c cs h) (AllPairs-rest (StandsBefore weights) s qs o))
     where
-      by_test : (b : Bool) → AllPairs (StandsBefore weights) (listed_products cs qs) → AllPairs (StandsBefore weights) (cond b (listed_products cs qs) (with_coefficient c s ∷ listed_products cs qs))
+      by_test : (b : Bool) → AllPairs (StandsBefore weights) (listed_products cs qs) →
+          AllPairs (StandsBefore weights) (cond b (listed_products cs qs) (with_coefficient c s ∷ listed_products cs qs))
       by_test true r = r
       by_test false r = AllPairs-cons (StandsBefore weights) (with_coefficient c s) (listed_products cs qs)
           (All-from_members (StandsBefore weights (with_coefficient c s)) (listed_products cs qs) (λ q m.
           let y = listed-says cs qs q (All-tail (λ c. c < p) c cs h) m in
-          before_with weights (with_coefficient c s) q s y.0 (refl, refl, refl) y.3 (All-contains (StandsBefore weights s) qs y.0 (AllPairs-first (StandsBefore weights) s qs o) y.1))) r
+          before_with weights (with_coefficient c s) q s y.0 (refl, refl, refl) y.3
+          (All-contains (StandsBefore weights s) qs y.0 (AllPairs-first (StandsBefore weights) s qs o) y.1))) r
 
   -- coefficients of the triples that make up a sum of multiples
   pub record HasCoefficients (qs : List Product) (ms : List Multiple) : Type 0 where
@@ -173,8 +196,15 @@ module _ (p : ℕ) (fm : IsFieldModulus p) (relations : List (List Term)) where
   zeros-residues [] = All-nil (λ c. c < p)
   zeros-residues (q ∷ qs) = All-cons (λ c. c < p) 0 (zeros qs) positive (zeros-residues qs)
 
-  coefficients_of : (qs : List Product) (M : Multiple → Type 0) → ((m : Multiple) → M m → (q : Product) × Contains qs q × (core q ≡ product m.left m.relation m.right)) → (ms : List Multiple) → All M ms → HasCoefficients qs ms
-  coefficients_of qs M triple_of [] h = record { coefficients = zeros qs; count = length-map qs (λ q. 0); residues = zeros-residues qs; same = λ w. same_residue p _ _ refl ∙ sym (weighted-zeros qs w) }
+  coefficients_of : (qs : List Product) (M : Multiple → Type 0) →
+      ((m : Multiple) → M m → (q : Product) × Contains qs q × (core q ≡ product m.left m.relation m.right)) → (ms : List Multiple) →
+      All M ms → HasCoefficients qs ms
+  coefficients_of qs M triple_of [] h = record {
+    coefficients = zeros qs;
+    count = length-map qs (λ q. 0);
+    residues = zeros-residues qs;
+    same = λ w. same_residue p _ _ refl ∙ sym (weighted-zeros qs w);
+  }
   coefficients_of qs M triple_of (m ∷ ms) h =
       let r = coefficients_of qs M triple_of ms (All-tail M m ms h) in
       let t = triple_of m (All-head M m ms h) in
@@ -184,7 +214,8 @@ module _ (p : ℕ) (fm : IsFieldModulus p) (relations : List (List Term)) where
         residues = residues-add_at p t.1.0 m.factor positive r.coefficients r.residues;
         same = λ w.
             vector_of-append p fm (terms_of m) (flat_map terms_of ms) w
-            ∙ ap₂ K.add (vector_of-scaled p fm m.factor (product m.left m.relation m.right) w ∙ ap (λ (f : List Term). K.mul (of m.factor) (vec f w)) (sym t.2)) (r.same w)
+            ∙ ap₂ K.add (vector_of-scaled p fm m.factor (product m.left m.relation m.right) w
+            ∙ ap (λ (f : List Term). K.mul (of m.factor) (vec f w)) (sym t.2)) (r.same w)
             ∙ sym (weighted-add_at m.factor t.1.0 r.coefficients qs t.0 w t.1.1 r.count t.1.2);
       }
 
@@ -196,19 +227,27 @@ module _ (p : ℕ) (weights : List ℕ) (relations : List (List Term)) (st : IsS
   relation_is k r lt e = ap (λ (n : ℕ). get_or relations n []) (omega arith) ∙ get_or_default relations k [] r lt ∙ e
 
   -- the triple of a multiple
-  pub triple_of : (m : Multiple) → IsMultiple p weights relations d m → (q : Product) × Contains all q × (core p st.modulus relations q ≡ product m.left m.relation m.right)
+  pub triple_of : (m : Multiple) → IsMultiple p weights relations d m →
+      (q : Product) × Contains all q × (core p st.modulus relations q ≡ product m.left m.relation m.right)
   triple_of m i =
       let k = i.among in
       let q : Product = record { coefficient = 0; left = m.left; relation = 1 + k.0; right = m.right } in
       let r = All-contains (IsRelation p weights) relations m.relation st.are_relations i.among in (
         q,
         from_listed weights st.are_weights d 1 relations k.0 m.relation q k.1 k.2
-            (record { none = refl; number = refl; left_over = i.left_over; right_over = i.right_over; degree = degree_of_round weights d m.left m.relation m.right r.other i.degree }),
+            (record {
+              none = refl;
+              number = refl;
+              left_over = i.left_over;
+              right_over = i.right_over;
+              degree = degree_of_round weights d m.left m.relation m.right r.other i.degree;
+            }),
         ap (λ (f : List Term). product m.left f m.right) (relation_is k.0 m.relation k.1 k.2),
       )
 
   -- each member of the list is a product
-  is_product : (cs : List ℕ) (q : Product) → All (λ c. c < p) cs → Contains (listed_products p st.modulus relations cs all) q → IsProduct p weights relations d q
+  is_product : (cs : List ℕ) (q : Product) → All (λ c. c < p) cs → Contains (listed_products p st.modulus relations cs all) q →
+      IsProduct p weights relations d q
   is_product cs q h m =
       let s = listed-says p st.modulus relations cs all q h m in
       let t = from_says weights st.are_weights d 1 relations s.0 s.1 in
@@ -217,7 +256,9 @@ module _ (p : ℕ) (weights : List ℕ) (relations : List (List Term)) (st : IsS
       let number : q.relation ≡ 1 + k = s.3.1 ∙ tr.number in
       let at : relation_at relations q.relation ≡ r = ap (λ (n : ℕ). get_or relations n []) (omega (arith, number)) in
       let rel : IsRelation p weights r = All-contains (IsRelation p weights) relations r st.are_relations (k, lt, get_or_default relations k r [] lt) in
-      let degree : HasDegree weights d (product s.0.left r s.0.right) = subst (λ (n : ℕ). HasDegree weights n (product s.0.left r s.0.right)) tr.degree (HasDegree-product weights (lead_degree weights r) s.0.left r s.0.right (one_degree p weights r rel)) in
+      let degree : HasDegree weights d (product s.0.left r s.0.right) =
+      subst (λ (n : ℕ). HasDegree weights n (product s.0.left r s.0.right)) tr.degree
+      (HasDegree-product weights (lead_degree weights r) s.0.left r s.0.right (one_degree p weights r rel)) in
       record {
         other = s.2.0;
         residue = s.2.1;
@@ -228,7 +269,9 @@ module _ (p : ℕ) (weights : List ℕ) (relations : List (List Term)) (st : IsS
         degree = subst (HasDegree weights d) (sym (λ i. product (s.3.0 i) (at i) (s.3.2 i))) degree;
       }
 
-  pub product_list : (f t : List Term) → IsNormalForm p weights relations d f t → (products : List Product) × IsProductList p weights relations d products × IsSame p f (t ++ flat_map (product_terms relations) products)
+  pub product_list : (f t : List Term) → IsNormalForm p weights relations d f t →
+      (products : List Product) × IsProductList p weights relations d products
+      × IsSame p f (t ++ flat_map (product_terms relations) products)
   product_list f t n =
       let c = coefficients_of p st.modulus relations all (IsMultiple p weights relations d) triple_of n.multiples n.each in
       let products = listed_products p st.modulus relations c.coefficients all in (
@@ -237,8 +280,10 @@ module _ (p : ℕ) (weights : List ℕ) (relations : List (List Term)) (st : IsS
           each = All-from_members (IsProduct p weights relations d) products (λ q m. is_product c.coefficients q c.residues m);
           ordered = listed-ordered p st.modulus relations weights c.coefficients all c.residues (from_ordered weights st.are_weights d 1 relations);
         },
-        λ w. ap (λ (n : Residue p). n.0) (same_vectors p st.modulus f (t ++ flat_map terms_of n.multiples) n.sum w ∙ vector_of-append p st.modulus t (flat_map terms_of n.multiples) w
-            ∙ ap (λ (m : Residue p). (vectors.K p st.modulus).add (vectors.vector_of p st.modulus t w) m) (c.same w ∙ same_listed p st.modulus relations c.coefficients all w)
+        λ w. ap (λ (n : Residue p). n.0) (same_vectors p st.modulus f (t ++ flat_map terms_of n.multiples) n.sum w
+            ∙ vector_of-append p st.modulus t (flat_map terms_of n.multiples) w
+            ∙ ap (λ (m : Residue p). (vectors.K p st.modulus).add (vectors.vector_of p st.modulus t w) m)
+            (c.same w ∙ same_listed p st.modulus relations c.coefficients all w)
             ∙ sym (vector_of-append p st.modulus t (flat_map (product_terms relations) products) w)),
       )
 

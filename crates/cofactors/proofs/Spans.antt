@@ -22,12 +22,18 @@ module _ (p : ℕ) (rows : List Row) where
 
   -- more rows
   pub span-more : (more : List Row) → ((r : Row) → Contains rows r → Contains more r) → (f g : List Term) → IsPlusSpan p rows f g → IsPlusSpan p more f g
-  span-more more h f g s = record { parts = s.parts; among = All-weaker (λ (c : ℕ × Row). Contains rows c.1) (λ (c : ℕ × Row). Contains more c.1) (λ c m. h c.1 m) s.parts s.among; sum = s.sum }
+  span-more more h f g s = record {
+    parts = s.parts;
+    among = All-weaker (λ (c : ℕ × Row). Contains rows c.1)
+        (λ (c : ℕ × Row). Contains more c.1) (λ c m. h c.1 m) s.parts s.among;
+    sum = s.sum;
+  }
 
   -- where f and g differ by a sum of multiples, and g is one, f is one
   pub span-trans : (f g : List Term) → IsPlusSpan p rows f g → IsPlusSpan p rows g [] → IsPlusSpan p rows f []
   span-trans f g s t = record {
     parts = t.parts ++ s.parts;
     among = All-append (λ (c : ℕ × Row). Contains rows c.1) t.parts s.parts t.among s.among;
-    sum = λ w. same_more p f g (sum s.parts) (sum t.parts) s.sum t.sum w ∙ ap (λ (h : List Term). total_at h w % p) (sym (flat_map-append (λ (c : ℕ × Row). scaled c.0 c.1.element) t.parts s.parts));
+    sum = λ w. same_more p f g (sum s.parts) (sum t.parts) s.sum t.sum w
+        ∙ ap (λ (h : List Term). total_at h w % p) (sym (flat_map-append (λ (c : ℕ × Row). scaled c.0 c.1.element) t.parts s.parts));
   }

@@ -1,5 +1,6 @@
 -- Triples are counted by the numbers of words of each degree, and listed from the words of use.
-use Rattle.std.proofs.Common.{ap₂, ◌≡◌, ◌+◌, ◌-◌, ◌*◌, ◌<◌, ◌≤◌, ℕ, zero, suc, List, [], ◌∷◌, ◌++◌, length, map, take, get_or, min, refl, sym, ap, ◌∙◌, inl, inr, arith, add-one, mul-zero, zero-mul, append-nil, append_assoc, length-append}
+use Rattle.std.proofs.Common.{ap₂, ◌≡◌, ◌+◌, ◌-◌, ◌*◌, ◌<◌, ◌≤◌, ℕ, zero, suc, List, [], ◌∷◌, ◌++◌, length, map, take, get_or, min, refl, sym, ap}
+use Rattle.std.proofs.Common.{◌∙◌, inl, inr, arith, add-one, mul-zero, zero-mul, append-nil, append_assoc, length-append}
 use Rattle.std.specs.List.{flat_map}
 use Rattle.std.proofs.lemmas.Bool.{cases_lt}
 use Rattle.std.proofs.lemmas.Nat.{mul-le}
@@ -16,7 +17,8 @@ length-flat_map f n h [] = sym (zero-mul n)
 length-flat_map f n h (x ∷ xs) = length-append (f x) (flat_map f xs) ∙ ap₂ (λ (a b : ℕ). a + b) (h x) (length-flat_map f n h xs) ∙ omega arith
 
 -- as many as there are words before and behind
-pub length-rounds : (weights : List ℕ) (i n a : ℕ) → length (round_triples weights i n a) ≡ length (words_of_degree weights a) * length (words_of_degree weights (n - a))
+pub length-rounds : (weights : List ℕ) (i n a : ℕ) → length (round_triples weights i n a)
+    ≡ length (words_of_degree weights a) * length (words_of_degree weights (n - a))
 length-rounds weights i n a = length-flat_map (right_triples weights i (n - a)) (length (words_of_degree weights (n - a)))
     (λ u. length-map (words_of_degree weights (n - a)) (triple i u)) (words_of_degree weights a)
 
@@ -49,7 +51,8 @@ product_within m a b pos = elim (cases_lt m a) [
         omega (arith, least, more, big)
 
 module _ {Y : Type 0} (f : ℕ → List Y) where
-  pub count_one_more : (n m count rounds : ℕ) → count ≡ min (length (flat_map f (numbers_below n))) m → rounds ≡ min (length (f n)) m → min (count + rounds) m ≡ min (length (flat_map f (numbers_below (n + 1)))) m
+  pub count_one_more : (n m count rounds : ℕ) → count ≡ min (length (flat_map f (numbers_below n))) m → rounds ≡ min (length (f n)) m →
+      min (count + rounds) m ≡ min (length (flat_map f (numbers_below (n + 1)))) m
   count_one_more n m count rounds c r =
       let more : length (flat_map f (numbers_below (n + 1))) ≡ length (f n) + length (flat_map f (numbers_below n)) =
       ap (λ (k : ℕ). length (flat_map f (numbers_below k))) (add-one n) ∙ length-append (f n) (flat_map f (numbers_below n)) in
@@ -62,10 +65,12 @@ module _ {Y : Type 0} (f : ℕ → List Y) where
       ∙ ap (λ (n : ℕ). old ++ flat_map f (numbers_below n)) (sym e)
 
 -- one more relation
-pub triples_from-push : (weights : List ℕ) (d i : ℕ) (rs : List (List Term)) (r : List Term) → triples_from weights d i (rs ++ r ∷ []) ≡ triples_from weights d i rs ++ triples_at weights d (i + length rs) r
+pub triples_from-push : (weights : List ℕ) (d i : ℕ) (rs : List (List Term)) (r : List Term) →
+    triples_from weights d i (rs ++ r ∷ []) ≡ triples_from weights d i rs ++ triples_at weights d (i + length rs) r
 triples_from-push weights d i [] r = append-nil (triples_at weights d i r) ∙ ap (λ (n : ℕ). triples_at weights d n r) (omega arith)
 triples_from-push weights d i (s ∷ rs) r =
-    ap (λ (qs : List Product). triples_at weights d i s ++ qs) (triples_from-push weights d (suc i) rs r ∙ ap (λ (n : ℕ). triples_from weights d (suc i) rs ++ triples_at weights d n r) (omega arith))
+    ap (λ (qs : List Product). triples_at weights d i s ++ qs) (triples_from-push weights d (suc i) rs r
+    ∙ ap (λ (n : ℕ). triples_from weights d (suc i) rs ++ triples_at weights d n r) (omega arith))
     ∙ sym (append_assoc (triples_at weights d i s) (triples_from weights d (suc i) rs) (triples_at weights d (i + suc (length rs)) r))
 
 pub triples_from-take : (weights : List ℕ) (d i : ℕ) (rs : List (List Term)) (k : ℕ) (r : List Term) → k < length rs → r ≡ get_or rs k r
@@ -89,17 +94,21 @@ rounds_listed weights i n a b lists h is = by_words (words_of_degree weights a) 
     before : n - b ≡ a
     before = omega (arith, is)
 
-    by_words : (us vs : List (List ℕ)) → words_of_degree weights a ≡ us → words_of_degree weights b ≡ vs → flat_map (λ u. map (triple i u) (list_at lists b)) (list_at lists a) ≡ round_triples weights i n a
+    by_words : (us vs : List (List ℕ)) → words_of_degree weights a ≡ us → words_of_degree weights b ≡ vs →
+        flat_map (λ u. map (triple i u) (list_at lists b)) (list_at lists a) ≡ round_triples weights i n a
     by_words us [] e f =
         let none : list_at lists a ≡ [] = h.unused a (omega (arith, is)) (ap (words_of_degree weights) behind ∙ f) in
         ap (flat_map (λ u. map (triple i u) (list_at lists b))) none
-        ∙ sym (flat_map-nil (right_triples weights i (n - a)) (λ u. ap (λ (ws : List (List ℕ)). map (triple i u) ws) (ap (words_of_degree weights) behind ∙ f)) (words_of_degree weights a))
+        ∙ sym (flat_map-nil (right_triples weights i (n - a)) (λ u. ap (λ (ws : List (List ℕ)). map (triple i u) ws)
+        (ap (words_of_degree weights) behind ∙ f)) (words_of_degree weights a))
     by_words [] (v ∷ vs) e f =
         let none : list_at lists b ≡ [] = h.unused b (omega (arith, is)) (ap (words_of_degree weights) before ∙ e) in
         flat_map-nil (λ u. map (triple i u) (list_at lists b)) (λ u. ap (λ (ws : List (List ℕ)). map (triple i u) ws) none) (list_at lists a)
         ∙ sym (ap (flat_map (right_triples weights i (n - a))) e)
     by_words (u ∷ us) (v ∷ vs) e f =
-        let first : list_at lists a ≡ words_of_degree weights a = h.listed a (omega (arith, is)) (λ none. let z : v ∷ vs ≡ [] = sym f ∙ sym (ap (words_of_degree weights) behind) ∙ none in cc) in
-        let second : list_at lists b ≡ words_of_degree weights b = h.listed b (omega (arith, is)) (λ none. let z : u ∷ us ≡ [] = sym e ∙ sym (ap (words_of_degree weights) before) ∙ none in cc) in
+        let first : list_at lists a ≡ words_of_degree weights a = h.listed a (omega (arith, is))
+        (λ none. let z : v ∷ vs ≡ [] = sym f ∙ sym (ap (words_of_degree weights) behind) ∙ none in cc) in
+        let second : list_at lists b ≡ words_of_degree weights b = h.listed b (omega (arith, is))
+        (λ none. let z : u ∷ us ≡ [] = sym e ∙ sym (ap (words_of_degree weights) before) ∙ none in cc) in
         (λ j. flat_map (λ u. map (triple i u) (second j)) (first j))
         ∙ ap (λ (m : ℕ). flat_map (right_triples weights i m) (words_of_degree weights a)) (sym behind)

@@ -7,7 +7,8 @@ use Rattle.std.proofs.lemmas.List.Kept.{AllPairs-cons}
 use Rattle.words.specs.Words.{AreWeights, IsOver, degree_of, words_of_degree}
 use Rattle.words.specs.Order.{IsGreater}
 use Rattle.words.proofs.Degrees.{listed_word, words_of_degree-order, words_of_degree-says}
-use Rattle.words.proofs.Members.{AllPairs-append, AllPairs-flat_map, AllPairs-map, AllPairs-nil, All-from_members, Contains-cases, Contains-first, Contains-flat_map, Contains-flat_map_cases, Contains-map, Contains-map_cases, Contains-more, Contains-none}
+use Rattle.words.proofs.Members.{AllPairs-append, AllPairs-flat_map, AllPairs-map, AllPairs-nil, All-from_members, Contains-cases, Contains-first}
+use Rattle.words.proofs.Members.{Contains-flat_map, Contains-flat_map_cases, Contains-map, Contains-map_cases, Contains-more, Contains-none}
 use Rattle.free_poly.specs.declared.term.Term.{Term}
 use Rattle.free_poly.specs.Terms.{HasDegree, HasOneDegree, product}
 use Rattle.free_poly.proofs.Products.{degree_of-round}
@@ -38,15 +39,19 @@ below_falls (suc n) = AllPairs-cons (λ x y. y < x) n (numbers_below n) (All-fro
 -- where all words have one degree it is that of the first
 pub degree_of_lead : (weights : List ℕ) (f : List Term) → HasOneDegree weights f → HasDegree weights (lead_degree weights f) f
 degree_of_lead weights [] h = All-nil (λ t. degree_of weights t.word ≡ 0)
-degree_of_lead weights (t ∷ f) h = All-cons (λ (s : Term). degree_of weights s.word ≡ degree_of weights t.word) t f refl (λ k d within. sym (h 0 (suc k) d (omega arith) (omega (arith, within))))
+degree_of_lead weights (t ∷ f) h = All-cons (λ (s : Term). degree_of weights s.word ≡ degree_of weights t.word) t f refl
+    (λ k d within. sym (h 0 (suc k) d (omega arith) (omega (arith, within))))
 
 pub one_degree : (p : ℕ) (weights : List ℕ) (r : List Term) → IsRelation p weights r → HasDegree weights (lead_degree weights r) r
 one_degree p weights r h = degree_of_lead weights r h.one_degree
 
 -- words round a relation of this degree together
-pub degree_of_round : (weights : List ℕ) (d : ℕ) (u : List ℕ) (r : List Term) (v : List ℕ) → r ≢ [] → HasDegree weights d (product u r v) → degree_of weights u + lead_degree weights r + degree_of weights v ≡ d
+pub degree_of_round : (weights : List ℕ) (d : ℕ) (u : List ℕ) (r : List Term) (v : List ℕ) → r ≢ [] → HasDegree weights d (product u r v) →
+    degree_of weights u + lead_degree weights r + degree_of weights v ≡ d
 degree_of_round weights d u [] v ne h = absurd (ne refl)
-degree_of_round weights d u (t ∷ r) v ne h = sym (degree_of-round weights u t.word v) ∙ All-head (λ (s : Term). degree_of weights s.word ≡ d) (record { word = u ++ t.word ++ v; coefficient = t.coefficient }) (product u r v) h
+degree_of_round weights d u (t ∷ r) v ne h = sym (degree_of-round weights u t.word v)
+    ∙ All-head (λ (s : Term). degree_of weights s.word ≡ d) (record { word = u ++ t.word ++ v; coefficient = t.coefficient })
+    (product u r v) h
 
 module _ (weights : List ℕ) (aw : AreWeights weights) (d : ℕ) where
   -- a triple of the relation r, which has this number
@@ -73,15 +78,19 @@ module _ (weights : List ℕ) (aw : AreWeights weights) (d : ℕ) where
       let is : triple i q.left q.right ≡ q = λ j. record { coefficient = sym h.none j; left = q.left; relation = sym h.number j; right = q.right } in
       Contains-flat_map (with_degree i e) (numbers_below (d + 1 - e)) a q (number_below (d + 1 - e) a (omega (arith, h.degree)))
       (Contains-flat_map (with_left i e a) (words_of_degree weights a) q.left q (word_listed q.left a h.left_over refl)
-      (subst (Contains (with_left i e a q.left)) is (Contains-map (triple i q.left) (words_of_degree weights (d - e - a)) q.right (word_listed q.right (d - e - a) h.right_over (omega (arith, h.degree))))))
+      (subst (Contains (with_left i e a q.left)) is (Contains-map (triple i q.left) (words_of_degree weights (d - e - a)) q.right
+      (word_listed q.right (d - e - a) h.right_over (omega (arith, h.degree))))))
 
-  degree_says : (i e a : ℕ) (q : Product) → Contains (with_degree i e a) q → (q.coefficient ≡ 0) × (q.relation ≡ i) × (IsOver (length weights) q.left × IsOver (length weights) q.right) × ((degree_of weights q.left ≡ a) × (degree_of weights q.right ≡ d - e - a))
+  degree_says : (i e a : ℕ) (q : Product) → Contains (with_degree i e a) q →
+      (q.coefficient ≡ 0) × (q.relation ≡ i) × (IsOver (length weights) q.left × IsOver (length weights) q.right)
+      × ((degree_of weights q.left ≡ a) × (degree_of weights q.right ≡ d - e - a))
   degree_says i e a q m =
       let u = Contains-flat_map_cases (with_left i e a) (words_of_degree weights a) q m in
       let v = Contains-map_cases (triple i u.0) (words_of_degree weights (d - e - a)) q u.2 in
       let left = words_of_degree-says weights aw a u.0 u.1 in
       let right = words_of_degree-says weights aw (d - e - a) v.0 v.1 in
-      subst (λ (c : Product). (c.coefficient ≡ 0) × (c.relation ≡ i) × (IsOver (length weights) c.left × IsOver (length weights) c.right) × ((degree_of weights c.left ≡ a) × (degree_of weights c.right ≡ d - e - a))) v.2
+      subst (λ (c : Product). (c.coefficient ≡ 0) × (c.relation ≡ i) × (IsOver (length weights) c.left × IsOver (length weights) c.right)
+      × ((degree_of weights c.left ≡ a) × (degree_of weights c.right ≡ d - e - a))) v.2
       (refl, refl, (left.0, right.0), (left.1, right.1))
 
   at_says : (i : ℕ) (r : List Term) (q : Product) → Contains (triples_at weights d i r) q → IsTripleOf i r q
@@ -96,7 +105,8 @@ module _ (weights : List ℕ) (aw : AreWeights weights) (d : ℕ) where
 
   with_degree-ordered : (i e a : ℕ) → AllPairs (StandsBefore weights) (with_degree i e a)
   with_degree-ordered i e a = AllPairs-flat_map (with_left i e a) (IsGreater weights) (StandsBefore weights)
-      (λ u. AllPairs-map (triple i u) (IsGreater weights) (StandsBefore weights) (λ v w g. inr (refl, inr (refl, g))) (words_of_degree weights (d - e - a)) (words_of_degree-order weights aw (d - e - a)))
+      (λ u. AllPairs-map (triple i u) (IsGreater weights) (StandsBefore weights) (λ v w g. inr (refl, inr (refl, g)))
+      (words_of_degree weights (d - e - a)) (words_of_degree-order weights aw (d - e - a)))
       (λ u w q r g m n.
       let x = Contains-map_cases (triple i u) (words_of_degree weights (d - e - a)) q m in
       let y = Contains-map_cases (triple i w) (words_of_degree weights (d - e - a)) r n in
@@ -114,7 +124,8 @@ module _ (weights : List ℕ) (aw : AreWeights weights) (d : ℕ) where
       (numbers_below (d + 1 - e)) (below_falls (d + 1 - e))
 
   -- the triples of relations that are numbered from i on
-  pub from_listed : (i : ℕ) (rs : List (List Term)) (k : ℕ) (r : List Term) (q : Product) → k < length rs → get_or rs k r ≡ r → IsTripleOf (i + k) r q → Contains (triples_from weights d i rs) q
+  pub from_listed : (i : ℕ) (rs : List (List Term)) (k : ℕ) (r : List Term) (q : Product) → k < length rs → get_or rs k r ≡ r →
+      IsTripleOf (i + k) r q → Contains (triples_from weights d i rs) q
   from_listed i [] k r q lt e h = absurd (omega (arith, lt))
   from_listed i (s ∷ rs) zero r q lt e h =
       Contains-append_left (triples_at weights d i s) (triples_from weights d (suc i) rs) q
@@ -123,7 +134,8 @@ module _ (weights : List ℕ) (aw : AreWeights weights) (d : ℕ) where
       Contains-append_right (triples_at weights d i s) (triples_from weights d (suc i) rs) q
       (from_listed (suc i) rs k r q (omega (arith, lt)) e (subst (λ (n : ℕ). IsTripleOf n r q) (omega arith) h))
 
-  pub from_says : (i : ℕ) (rs : List (List Term)) (q : Product) → Contains (triples_from weights d i rs) q → (k : ℕ) × (k < length rs) × IsTripleOf (i + k) (get_or rs k []) q
+  pub from_says : (i : ℕ) (rs : List (List Term)) (q : Product) → Contains (triples_from weights d i rs) q →
+      (k : ℕ) × (k < length rs) × IsTripleOf (i + k) (get_or rs k []) q
   from_says i [] q m = absurd (Contains-none q m)
   from_says i (r ∷ rs) q m = elim (Contains-append_cases (triples_at weights d i r) (triples_from weights d (suc i) rs) q m) [
     | inl h ↦ (0, omega arith, subst (λ (n : ℕ). IsTripleOf n r q) (omega arith) (at_says i r q h))
@@ -132,7 +144,8 @@ module _ (weights : List ℕ) (aw : AreWeights weights) (d : ℕ) where
 
   pub from_ordered : (i : ℕ) (rs : List (List Term)) → AllPairs (StandsBefore weights) (triples_from weights d i rs)
   from_ordered i [] = AllPairs-nil (StandsBefore weights)
-  from_ordered i (r ∷ rs) = AllPairs-append (StandsBefore weights) (triples_at weights d i r) (triples_from weights d (suc i) rs) (at_ordered i r) (from_ordered (suc i) rs)
+  from_ordered i (r ∷ rs) = AllPairs-append (StandsBefore weights) (triples_at weights d i r) (triples_from weights d (suc i) rs)
+      (at_ordered i r) (from_ordered (suc i) rs)
       (λ q m. All-from_members (StandsBefore weights q) (triples_from weights d (suc i) rs) (λ s n.
       let x = at_says i r q m in
       let y = from_says (suc i) rs s n in

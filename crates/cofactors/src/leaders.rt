@@ -1,4 +1,5 @@
-ghost use Rattle.std.specs.Prelude.{◌≡◌, ◌<◌, ◌≤◌, ◌↔◌, ◌^◌, [], List, All, AllPairs, Contains, IfOk, IsTrue, OnOk, drop, length, map, slice_index_or, take};
+ghost use Rattle.std.specs.Prelude.{◌≡◌, ◌<◌, ◌≤◌, ◌↔◌, ◌^◌, [], List, All, AllPairs, Contains, IfOk, IsTrue, OnOk};
+ghost use Rattle.std.specs.Prelude.{drop, length, map, slice_index_or, take};
 ghost use Rattle.words.specs.Order.{IsLetterwiseGreater};
 ghost use Rattle.free_poly.specs.declared.term.Term.{Term};
 ghost use Rattle.free_poly.specs.Poly.{lead_or_none};
@@ -27,8 +28,10 @@ pub(crate) fn leaders_of(
     requires numbers { All (λ q. (0 < q.relation) × (q.relation ≤ length presentation.now.relations)) triples.now }
     requires relations { All (HasResidues field.now) presentation.now.relations }
     ensures leaders { IfOk result (λ v. AreLeaders field.now v.items) }
-    ensures tracked { IfOk result (λ v. All (IsTracked field.now (map (triple_terms presentation.now.relations) triples.now) []) v.items) }
-    ensures spanned { IfOk result (λ v. All (λ f. IsPlusSpan field.now v.items f []) (map (triple_terms presentation.now.relations) triples.now)) }
+    ensures tracked { IfOk result (λ v. All (IsTracked field.now
+        (map (triple_terms presentation.now.relations) triples.now) []) v.items) }
+    ensures spanned { IfOk result (λ v. All (λ f. IsPlusSpan field.now v.items f [])
+        (map (triple_terms presentation.now.relations) triples.now)) }
 {
     element_laws();
     let _modulus = field.modulus();
@@ -49,7 +52,8 @@ fn row_of(alloc: Global, field: &Field, element: Poly, place: u32) -> Result<Row
     requires residues { HasResidues field.now element }
     ensures row { IfOk result (IsRow field.now) }
     ensures element { IfOk result (λ row. row.element ≡ element) }
-    ensures tracked { (fs : List (List Term)) → place < length fs → slice_index_or fs place [] ≡ element → IfOk result (IsTracked field.now fs []) }
+    ensures tracked { (fs : List (List Term)) → place < length fs → slice_index_or fs place [] ≡ element →
+        IfOk result (IsTracked field.now fs []) }
 {
     let _modulus = field.modulus();
     let _terms = element.terms();
@@ -69,7 +73,8 @@ fn insert(alloc: Global, field: &Field, leaders: &mut Vec<Row>, row: Row) -> Res
     ensures leaders { OnOk result (AreLeaders field.now leaders.new.items) }
     ensures kept { OnOk result ((r : Row) → Contains leaders.old.items r → Contains leaders.new.items r) }
     ensures spanned { OnOk result (IsPlusSpan field.now leaders.new.items row.element []) }
-    ensures tracked { (fs : List (List Term)) → All (IsTracked field.now fs []) leaders.old.items → IsTracked field.now fs [] row
+    ensures tracked { (fs : List (List Term)) → All (IsTracked field.now fs []) leaders.old.items →
+        IsTracked field.now fs [] row
         → OnOk result (All (IsTracked field.now fs []) leaders.new.items) }
 {
     let Some(word) = row.element.lead() else {

@@ -104,7 +104,8 @@ pub(crate) fn monic(alloc: Global, field: &Field, row: &Row) -> Result<Row, NoMe
     ensures monic { IfOk result (λ m. IsMonic m.element) }
     ensures lead { IfOk result (λ m. lead_word m ≡ lead_word row.now) }
     ensures multiple { IfOk result (λ m. (c : ℕ) × IsSame field.now row.now.element (scaled c m.element)) }
-    ensures tracked { (fs : List (List Term)) → IsTracked field.now fs [] row.now → IfOk result (IsTracked field.now fs []) }
+    ensures tracked { (fs : List (List Term)) → IsTracked field.now fs [] row.now →
+        IfOk result (IsTracked field.now fs []) }
 {
     let a = field.inv(row.element.terms()[0].coefficient);
     let element = row.element.monic(alloc, field)?;

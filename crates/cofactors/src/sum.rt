@@ -18,11 +18,13 @@ pub fn expand(
     presentation: &Presentation,
     products: &[Product],
 ) -> Result<Poly, NoMemory>
-    requires products { (d : ℕ) × All (IsProduct field.now presentation.now.alphabet.weights presentation.now.relations d)
+    requires products { (d : ℕ) × All (IsProduct field.now presentation.now.alphabet.weights
+        presentation.now.relations d)
         products.now }
     requires relations { All (HasResidues field.now) presentation.now.relations }
 
-    ensures sum { IfOk result (λ f. IsSame field.now f (flat_map (product_terms presentation.now.relations) products.now)) }
+    ensures sum { IfOk result (λ f. IsSame field.now f (flat_map (product_terms presentation.now.relations)
+        products.now)) }
     ensures form { IfOk result IsPolynomial }
     ensures residues { IfOk result (HasResidues field.now) }
 {

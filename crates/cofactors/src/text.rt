@@ -48,7 +48,8 @@ fn push_normal(
 ) -> Result<(), NoMemory>
     requires letters { UsesLetters (length alphabet.now.weights) normal.now }
     requires residues { HasResidues field.now normal.now }
-    ensures { IfOk result (λ _. text.new.items ≡ text.old.items ++ normal_text alphabet.now.names field.now normal.now) }
+    ensures { IfOk result (λ _. text.new.items ≡ text.old.items
+        ++ normal_text alphabet.now.names field.now normal.now) }
 {
     match normal.terms() {
         [] => text.extend_from_slice(b"0"),
@@ -139,7 +140,8 @@ fn push_product(
     requires coefficient { product.now.coefficient < field.now }
     requires left { IsOver (length alphabet.now.weights) product.now.left }
     requires right { IsOver (length alphabet.now.weights) product.now.right }
-    ensures { IfOk result (λ _. text.new.items ≡ text.old.items ++ product_line alphabet.now.names field.now product.now) }
+    ensures { IfOk result (λ _. text.new.items ≡ text.old.items
+        ++ product_line alphabet.now.names field.now product.now) }
 {
     text.extend_from_slice(b"from ")?;
     push_minus(text, field, product.coefficient)?;

@@ -16,7 +16,8 @@ use words::{Alphabet, NoMemory, Word};
 pub(crate) fn count_triples(presentation: &Presentation, counts: &[u64; 65], d: u32) -> u64
     requires small { d ≤ 64 }
     requires counts { AreCounts presentation.now.alphabet.weights counts.now (d + 1) }
-    ensures { result ≡ min (length (triples presentation.now.alphabet.weights presentation.now.relations d)) (2 ^ 64 - 1) }
+    ensures { result ≡ min (length (triples presentation.now.alphabet.weights presentation.now.relations d))
+        (2 ^ 64 - 1) }
 {
     let mut count: u64 = 0;
     for relation in presentation.relations.as_slice() {
@@ -121,7 +122,8 @@ fn push_rounds(
     rights: &[Word],
     found: &mut Vec<Product>,
 ) -> Result<(), NoMemory>
-    ensures { OnOk result (found.new.items ≡ found.old.items ++ flat_map (λ u. map (triple number u) rights.now) lefts.now) }
+    ensures { OnOk result (found.new.items ≡ found.old.items
+        ++ flat_map (λ u. map (triple number u) rights.now) lefts.now) }
 {
     for left in lefts {
         push_rights(alloc, number, left, rights, found)?;

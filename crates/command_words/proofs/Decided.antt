@@ -97,7 +97,8 @@ modulus_or_not : (text : List ℕ) → Decided (IsModulus text)
 modulus_or_not text = elim (number_or_not text) [
   | inl n ↦ elim (cases_Bool (list_any (λ y. y == n.0) listed_moduli)) [
     | inl is ↦ inl (Count n.0, record { number = n.0; is_number = n.1; listed = listed_says n.0 listed_moduli is; value_is = refl })
-    | inr not ↦ inr (λ v h. true≢false (sym (says_listed n.0 listed_moduli (subst (λ (m : ℕ). Contains listed_moduli m) (one_number text h.number n.0 h.is_number n.1) h.listed)) ∙ not))
+    | inr not ↦ inr (λ v h. true≢false (sym (says_listed n.0 listed_moduli
+        (subst (λ (m : ℕ). Contains listed_moduli m) (one_number text h.number n.0 h.is_number n.1) h.listed)) ∙ not))
   ]
   | inr none ↦ inr (λ v h. none h.number h.is_number)
 ]
@@ -146,6 +147,7 @@ key_or_not (k ∷ row) word = elim (has_key_or_not k word) [
   | inl has ↦ inl (k, ((0, omega arith, refl), has))
   | inr other ↦ elim (key_or_not row word) [
     | inl m ↦ inl (m.0, (Contains-more k row m.0 m.1.0, m.1.1))
-    | inr none ↦ inr (λ key h. elim (Contains-cases k row key h.0) [ inl e ↦ other (subst (λ (l : Key). HasKey l word) (sym e) h.1) | inr m ↦ none key (m, h.1) ])
+    | inr none ↦ inr (λ key h. elim (Contains-cases k row key h.0)
+        [ inl e ↦ other (subst (λ (l : Key). HasKey l word) (sym e) h.1) | inr m ↦ none key (m, h.1) ])
   ]
 ]

@@ -1,5 +1,6 @@
 -- What is kept of the words, word by word.
-use Rattle.std.proofs.Common.{◌≡◌, ◌≢◌, ◌+◌, ◌<◌, ◌≤◌, ℕ, zero, suc, List, [], ◌∷◌, ◌++◌, length, get_or, replicate, set, refl, sym, ap, ◌∙◌, inl, inr, arith, Option, Some, None, subst, ◌==◌, length-append}
+use Rattle.std.proofs.Common.{◌≡◌, ◌≢◌, ◌+◌, ◌<◌, ◌≤◌, ℕ, zero, suc, List, [], ◌∷◌, ◌++◌, length, get_or, replicate, set, refl, sym, ap, ◌∙◌, inl}
+use Rattle.std.proofs.Common.{inr, arith, Option, Some, None, subst, ◌==◌, length-append}
 use Rattle.std.specs.Prelude.{IsSome, MatchOption, is_some}
 use Rattle.std.proofs.lemmas.Bool.{cases_Bool, eqb-false, eqb-true}
 use Rattle.std.proofs.lemmas.List.{get_or-replicate, get_or-set_other, get_or-set_same, length-set}
@@ -25,7 +26,8 @@ filled-first : (o : Option Value) (values : List (Option Value)) → o ≡ None 
 filled-first None values e = refl
 filled-first (Some v) values e = absurd (cc e)
 
-filled-set : (values : List (Option Value)) (i : ℕ) (v : Value) → i < length values → get_or values i None ≡ None → filled (set values i (Some v)) ≡ filled values + 1
+filled-set : (values : List (Option Value)) (i : ℕ) (v : Value) → i < length values → get_or values i None ≡ None →
+    filled (set values i (Some v)) ≡ filled values + 1
 filled-set [] i v lt e = absurd (omega (arith, lt))
 filled-set (o ∷ values) zero v lt e = filled-first o values e
 filled-set (None ∷ values) (suc i) v lt e = filled-set values i v (omega (arith, lt)) e
@@ -45,12 +47,30 @@ module _ (command : Command) (words : List (List ℕ)) (values : List (Option Va
   few = omega (arith, filled-le values, draft.each_once, draft.size)
 
   -- what the draft refuses is refused
-  pub refused_so : (word : List ℕ) (number : ℕ) (fault : UsageFault) → number ≡ length words + 2 → IsRefusal command values word number fault → IsRefused command words word fault
+  pub refused_so : (word : List ℕ) (number : ℕ) (fault : UsageFault) → number ≡ length words + 2 →
+      IsRefusal command values word number fault → IsRefused command words word fault
   refused_so word number NoCommand e r = r
   refused_so word number UnknownCommand e r = r
   refused_so word number (UnknownKey n) e r = (r.0 ∙ e, r.1)
-  refused_so word number (RepeatedKey n) e r = (r.0 ∙ e, record { key = r.1.key; of_command = r.1.of_command; has_key = r.1.has_key; stands = kept_stands r.1.key r.1.before })
-  refused_so word number (BadValue n) e r = (r.0 ∙ e, record { key = r.1.key; of_command = r.1.of_command; has_key = r.1.has_key; first = unkept r.1.key r.1.first; no_value = r.1.no_value })
+  refused_so word number (RepeatedKey n) e r = (
+    r.0 ∙ e,
+    record {
+      key = r.1.key;
+      of_command = r.1.of_command;
+      has_key = r.1.has_key;
+      stands = kept_stands r.1.key r.1.before;
+    },
+  )
+  refused_so word number (BadValue n) e r = (
+    r.0 ∙ e,
+    record {
+      key = r.1.key;
+      of_command = r.1.of_command;
+      has_key = r.1.has_key;
+      first = unkept r.1.key r.1.first;
+      no_value = r.1.no_value;
+    },
+  )
   refused_so word number (MissingKey key) e r = r
 
   module _ (new : List (Option Value)) (word : List ℕ) (takes : Takes command values new word) where
@@ -68,12 +88,14 @@ module _ (command : Command) (words : List (List ℕ)) (values : List (Option Va
 
     taken_more : AreTaken command (words ++ word ∷ [])
     taken_more fault h = elim (split_last words word h.before h.word h.after h.words_are) [
-      | inl p ↦ not_refused fault (subst (λ (w : List ℕ). IsRefused command words w fault) (sym p.1) (subst (λ (ws : List (List ℕ)). IsRefused command ws h.word fault) (sym p.0) h.refused))
+      | inl p ↦ not_refused fault (subst (λ (w : List ℕ). IsRefused command words w fault) (sym p.1)
+          (subst (λ (ws : List (List ℕ)). IsRefused command ws h.word fault) (sym p.0) h.refused))
       | inr p ↦ draft.taken fault (record { before = h.before; word = h.word; after = p.0; words_are = p.1; refused = h.refused })
     ]
 
     -- what was said of another key is said now
-    told_as_before : (key : Key) (o : Option Value) → (HasKey key word → ⊥) → MatchOption o (Stands words key → ⊥) (IsTold words key) → MatchOption o (Stands (words ++ word ∷ []) key → ⊥) (IsTold (words ++ word ∷ []) key)
+    told_as_before : (key : Key) (o : Option Value) → (HasKey key word → ⊥) → MatchOption o (Stands words key → ⊥) (IsTold words key) →
+        MatchOption o (Stands (words ++ word ∷ []) key → ⊥) (IsTold (words ++ word ∷ []) key)
     told_as_before key None other h = λ s. elim (Contains-append_cases words (word ∷ []) s.word s.among) [
       | inl m ↦ h (record { word = s.word; among = m; has_key = s.has_key })
       | inr m ↦ other (subst (HasKey key) (only_member word s.word m) s.has_key)
@@ -87,7 +109,8 @@ module _ (command : Command) (words : List (List ℕ)) (values : List (Option Va
     kept_here = ap (λ (vs : List (Option Value)). kept vs takes.key) takes.new_is ∙ get_or-set_same values (place_of takes.key) (Some takes.value) None within
 
     kept_elsewhere : (key : Key) → place_of key ≢ place_of takes.key → kept new key ≡ kept values key
-    kept_elsewhere key other = ap (λ (vs : List (Option Value)). kept vs key) takes.new_is ∙ get_or-set_other values (place_of takes.key) (place_of key) (Some takes.value) None other
+    kept_elsewhere key other = ap (λ (vs : List (Option Value)). kept vs key) takes.new_is
+        ∙ get_or-set_other values (place_of takes.key) (place_of key) (Some takes.value) None other
 
     told_here : IsTold (words ++ word ∷ []) takes.key takes.value
     told_here = record { word = word; among = Contains-append_right words (word ∷ []) word (0, omega arith, refl); says = takes.says }
@@ -97,7 +120,8 @@ module _ (command : Command) (words : List (List ℕ)) (values : List (Option Va
       | inl same ↦ (
           let e : key ≡ takes.key = one_place key takes.key (eqb-true (place_of key) (place_of takes.key) same) in
           subst (λ (k : Key). MatchOption (kept new k) (Stands (words ++ word ∷ []) k → ⊥) (IsTold (words ++ word ∷ []) k)) (sym e)
-          (subst (λ (o : Option Value). MatchOption o (Stands (words ++ word ∷ []) takes.key → ⊥) (IsTold (words ++ word ∷ []) takes.key)) (sym kept_here) told_here))
+          (subst (λ (o : Option Value). MatchOption o (Stands (words ++ word ∷ []) takes.key → ⊥) (IsTold (words ++ word ∷ []) takes.key))
+          (sym kept_here) told_here))
       | inr other ↦ (
           let apart : place_of key ≢ place_of takes.key = eqb-false (place_of key) (place_of takes.key) other in
           subst (λ (o : Option Value). MatchOption o (Stands (words ++ word ∷ []) key → ⊥) (IsTold (words ++ word ∷ []) key)) (sym (kept_elsewhere key apart))
@@ -109,13 +133,16 @@ module _ (command : Command) (words : List (List ℕ)) (values : List (Option Va
       taken = taken_more;
       told = told_more;
       size = ap (λ (vs : List (Option Value)). length vs) takes.new_is ∙ length-set values (place_of takes.key) (Some takes.value) ∙ draft.size;
-      each_once = ap filled takes.new_is ∙ filled-set values (place_of takes.key) takes.value within takes.first ∙ ap (λ (n : ℕ). n + 1) draft.each_once ∙ sym (length-append words (word ∷ []));
+      each_once = ap filled takes.new_is ∙ filled-set values (place_of takes.key) takes.value within takes.first
+          ∙ ap (λ (n : ℕ). n + 1) draft.each_once ∙ sym (length-append words (word ∷ []));
     }
 
 pub draft_none : (command : Command) (values : List (Option Value)) → values ≡ replicate 12 None → IsDraft command [] values
 draft_none command values e = record {
   taken = λ fault h. no_split h.before h.word h.after h.words_are;
-  told = λ key. subst (λ (o : Option Value). MatchOption o (Stands [] key → ⊥) (IsTold [] key)) (sym (ap (λ (vs : List (Option Value)). kept vs key) e ∙ get_or-replicate 12 (place_of key) None None (place_below key))) (λ s. omega (arith, s.among.1));
+  told = λ key. subst (λ (o : Option Value). MatchOption o (Stands [] key → ⊥) (IsTold [] key))
+      (sym (ap (λ (vs : List (Option Value)). kept vs key) e ∙ get_or-replicate 12 (place_of key) None None (place_below key)))
+      (λ s. omega (arith, s.among.1));
   size = ap (λ (vs : List (Option Value)). length vs) e;
   each_once = ap filled e;
 }

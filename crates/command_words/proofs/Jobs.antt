@@ -23,7 +23,8 @@ use Rattle.command_words.proofs.Drafts.{kept_stands, unkept}
 abbrev pub AreValues : List (Option Value) → Type 0
 AreValues values = (key : Key) → IfSome (kept values key) (λ value. (text : List ℕ) × IsValue key text value)
 
-has_text : (words : List (List ℕ)) (key : Key) (o : Option Value) → MatchOption o (Stands words key → ⊥) (IsTold words key) → IfSome o (λ value. (text : List ℕ) × IsValue key text value)
+has_text : (words : List (List ℕ)) (key : Key) (o : Option Value) → MatchOption o (Stands words key → ⊥) (IsTold words key) →
+    IfSome o (λ value. (text : List ℕ) × IsValue key text value)
 has_text words key None h = tt
 has_text words key (Some v) h = (h.says.text, h.says.is_value)
 
@@ -98,22 +99,26 @@ module _ (values : List (Option Value)) (job : Job) (are : AreValues values) (fi
   field_is keys.Show = show_is (kept values keys.Show) shows.Both job.show fields.show (is_show (kept values keys.Show) (are keys.Show))
   field_is keys.Trace = answer_is (kept values keys.Trace) false job.trace fields.trace (is_answer (kept values keys.Trace) (are keys.Trace))
   field_is keys.Engine = engine_is (kept values keys.Engine) engines.Race job.engine fields.engine (is_engine (kept values keys.Engine) (are keys.Engine))
-  field_is keys.Schedule = count_is (kept values keys.Schedule) 0 job.schedule fields.schedule (is_count 0 4294967295 (kept values keys.Schedule) (are keys.Schedule))
+  field_is keys.Schedule = count_is (kept values keys.Schedule) 0 job.schedule fields.schedule
+      (is_count 0 4294967295 (kept values keys.Schedule) (are keys.Schedule))
   field_is keys.Number = count_is (kept values keys.Number) 0 job.number fields.number (is_count 0 4294967295 (kept values keys.Number) (are keys.Number))
   field_is keys.Vars = count_is (kept values keys.Vars) 0 job.letters fields.letters (is_count 2 33 (kept values keys.Vars) (are keys.Vars))
   field_is keys.Gens = count_is (kept values keys.Gens) 0 job.gens fields.gens (is_count 1 64 (kept values keys.Gens) (are keys.Gens))
   field_is keys.List = answer_is (kept values keys.List) false job.list fields.list (is_answer (kept values keys.List) (are keys.List))
   field_is keys.Ask = count_is (kept values keys.Ask) 0 job.ask fields.ask (is_count 1 4096 (kept values keys.Ask) (are keys.Ask))
 
-value_in_words : (words : List (List ℕ)) (key : Key) (o : Option Value) (v : Value) → MatchOption o (Stands words key → ⊥) (IsTold words key) → v ≡ unwrap_or o (default_of key) → IsValueIn words key v
+value_in_words : (words : List (List ℕ)) (key : Key) (o : Option Value) (v : Value) →
+    MatchOption o (Stands words key → ⊥) (IsTold words key) → v ≡ unwrap_or o (default_of key) → IsValueIn words key v
 value_in_words words key None v h e = inr (h, e)
 value_in_words words key (Some w) v h e = inl (subst (IsTold words key) (sym e) h)
 
 module _ (command : Command) (rest : List (List ℕ)) (values : List (Option Value)) (draft : IsDraft command rest values) where
   pub job_is : (words : List (List ℕ)) (job : Job) → words ≡ command_name command ∷ rest → job.command ≡ command
-      → All (λ key. IsSome (kept values key)) (required_of command) → ((key : Key) → value_at key job ≡ unwrap_or (kept values key) (default_of key)) → IsJob words job
+      → All (λ key. IsSome (kept values key)) (required_of command) →
+      ((key : Key) → value_at key job ≡ unwrap_or (kept values key) (default_of key)) → IsJob words job
   job_is words job whole same complete fields =
-      let stand : All (Stands rest) (required_of command) = All-weaker (λ (key : Key). IsSome (kept values key)) (Stands rest) (kept_stands command rest values draft) (required_of command) complete in
+      let stand : All (Stands rest) (required_of command) = All-weaker (λ (key : Key). IsSome (kept values key)) (Stands rest)
+      (kept_stands command rest values draft) (required_of command) complete in
       record {
         rest = rest;
         words_are = whole ∙ ap (λ (c : Command). command_name c ∷ rest) (sym same);

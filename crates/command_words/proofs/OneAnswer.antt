@@ -16,7 +16,8 @@ use Rattle.command_words.proofs.OneFault.{fault_kind, not_taken, one_fault_of}
 use Rattle.command_words.proofs.OneJob.{one_job}
 
 -- a fault is of the first word or of those after it
-usage_kind : (words : List (List ℕ)) (f : UsageFault) → IsUsageFault words f → ((f ≡ NoCommand) × (words ≡ [])) ⊎ (((f ≡ UnknownCommand) × HasNoCommand words) ⊎ HasFault words f)
+usage_kind : (words : List (List ℕ)) (f : UsageFault) → IsUsageFault words f →
+    ((f ≡ NoCommand) × (words ≡ [])) ⊎ (((f ≡ UnknownCommand) × HasNoCommand words) ⊎ HasFault words f)
 usage_kind words NoCommand p = inl (refl, p)
 usage_kind words UnknownCommand p = inr (inl (refl, p))
 usage_kind words (UnknownKey n) p = inr (inr p)
@@ -78,7 +79,8 @@ job_or_fault words j f p q = elim (usage_kind words f q) [
         let r = same_rest words (command_name s.command) (command_name j.command) s.rest p.rest s.words_are p.words_are in
         let here = subst (λ (d : Command). IsFaultOf d s.rest f) c s.fault_is in
         elim (fault_kind j.command p.rest f (subst (λ (ws : List (List ℕ)). IsFaultOf j.command ws f) r here)) [
-          | inl t ↦ t.3.missing (All-contains (Stands p.rest) (required_of j.command) t.0 p.complete (subst (λ (ks : List Key). Contains ks t.0) (sym t.3.keys_are) (middle t.3.earlier t.0 t.3.later)))
+          | inl t ↦ t.3.missing (All-contains (Stands p.rest) (required_of j.command) t.0 p.complete
+              (subst (λ (ks : List Key). Contains ks t.0) (sym t.3.keys_are) (middle t.3.earlier t.0 t.3.later)))
           | inr t ↦ not_taken j.command p.rest f t p.taken
         ])
   ]

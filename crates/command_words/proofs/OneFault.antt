@@ -29,17 +29,22 @@ module _ (command : Command) (before : List (List ℕ)) (word : List ℕ) where
   refused_once (UnknownKey n) g p q = absurd q
   refused_once (RepeatedKey n) (UnknownKey m) p q = absurd (q.1 p.1.key p.1.of_command p.1.has_key)
   refused_once (RepeatedKey n) (RepeatedKey m) p q = ap RepeatedKey (p.0 ∙ sym q.0)
-  refused_once (RepeatedKey n) (BadValue m) p q = absurd (q.1.first (subst (Stands before) (one_key p.1.key q.1.key word p.1.has_key.text q.1.has_key.text p.1.has_key.word_is q.1.has_key.word_is) p.1.stands))
+  refused_once (RepeatedKey n) (BadValue m) p q = absurd (q.1.first
+      (subst (Stands before) (one_key p.1.key q.1.key word p.1.has_key.text q.1.has_key.text p.1.has_key.word_is q.1.has_key.word_is)
+      p.1.stands))
   refused_once (RepeatedKey n) g p q = absurd q
   refused_once (BadValue n) (UnknownKey m) p q = absurd (q.1 p.1.key p.1.of_command p.1.has_key)
-  refused_once (BadValue n) (RepeatedKey m) p q = absurd (p.1.first (subst (Stands before) (one_key q.1.key p.1.key word q.1.has_key.text p.1.has_key.text q.1.has_key.word_is p.1.has_key.word_is) q.1.stands))
+  refused_once (BadValue n) (RepeatedKey m) p q = absurd (p.1.first
+      (subst (Stands before) (one_key q.1.key p.1.key word q.1.has_key.text p.1.has_key.text q.1.has_key.word_is p.1.has_key.word_is)
+      q.1.stands))
   refused_once (BadValue n) (BadValue m) p q = ap BadValue (p.0 ∙ sym q.0)
   refused_once (BadValue n) g p q = absurd q
   refused_once f g p q = absurd p
 
 one_refusal : (command : Command) (words : List (List ℕ)) (f g : UsageFault) → IsFirstRefusal command words f → IsFirstRefusal command words g → f ≡ g
 one_refusal command words f g p q = elim (compare_splits p.before p.word p.after q.before q.word q.after (sym p.words_are ∙ q.words_are)) [
-  | inl e ↦ refused_once command q.before q.word f g (subst (λ (w : List ℕ). IsRefused command q.before w f) e.1 (subst (λ (b : List (List ℕ)). IsRefused command b p.word f) e.0 p.refused)) q.refused
+  | inl e ↦ refused_once command q.before q.word f g (subst (λ (w : List ℕ). IsRefused command q.before w f) e.1
+      (subst (λ (b : List (List ℕ)). IsRefused command b p.word f) e.0 p.refused)) q.refused
   | inr r ↦ elim r [
     | inl s ↦ absurd (q.taken f (record { before = p.before; word = p.word; after = s.0; words_are = s.1; refused = p.refused }))
     | inr s ↦ absurd (p.taken g (record { before = q.before; word = q.word; after = s.0; words_are = s.1; refused = q.refused }))

@@ -32,13 +32,23 @@ module _ (command : Command) (words : List (List ℕ)) (taken : AreTaken command
       let stands : Stands before key = record { word = v; among = (i, first, get_or-take j words i v lt ∙ e); has_key = p } in
       let has : HasKey key (get_or words j w) = subst (HasKey key) (sym f) q in
       elim (member_or_not (keys_of command) key) [
-        | inl m ↦ taken (RepeatedKey (length before + 2)) (record { before = before; word = get_or words j w; after = parts.0; words_are = parts.1; refused = (refl, record { key = key; of_command = m; has_key = has; stands = stands }) })
+        | inl m ↦ taken (RepeatedKey (length before + 2)) (record {
+          before = before;
+          word = get_or words j w;
+          after = parts.0;
+          words_are = parts.1;
+          refused = (refl, record { key = key; of_command = m; has_key = has; stands = stands });
+        })
         | inr none ↦ taken (UnknownKey (length before + 2)) (record {
           before = before;
           word = get_or words j w;
           after = parts.0;
           words_are = parts.1;
-          refused = (refl, λ k m h. none (subst (λ (l : Key). Contains (keys_of command) l) (one_key k key (get_or words j w) h.text has.text h.word_is has.word_is) m));
+          refused = (
+            refl,
+            λ k m h. none (subst (λ (l : Key). Contains (keys_of command) l)
+                (one_key k key (get_or words j w) h.text has.text h.word_is has.word_is) m),
+          );
         })
       ]
 
@@ -117,4 +127,5 @@ one_job words j k p q =
     let first : command_name j.command ≡ command_name k.command = cc whole in
     let rest : p.rest ≡ q.rest = cc whole in
     same_job j k (one_command j.command k.command first)
-    (λ key. one_value_in k.command q.rest q.taken key (value_at key j) (value_at key k) (subst (λ (ws : List (List ℕ)). IsValueIn ws key (value_at key j)) rest (p.values key)) (q.values key))
+    (λ key. one_value_in k.command q.rest q.taken key (value_at key j) (value_at key k)
+    (subst (λ (ws : List (List ℕ)). IsValueIn ws key (value_at key j)) rest (p.values key)) (q.values key))

@@ -1,5 +1,6 @@
 -- Parts of lists, and cases of an option.
-use Rattle.std.proofs.Common.{◌≡◌, ◌⊎◌, ◌+◌, ◌<◌, ℕ, zero, suc, List, [], ◌∷◌, ◌++◌, map, take, length, get_or, refl, sym, ap, ◌∙◌, inl, inr, arith, Option, Some, None}
+use Rattle.std.proofs.Common.{◌≡◌, ◌⊎◌, ◌+◌, ◌<◌, ℕ, zero, suc, List, [], ◌∷◌, ◌++◌, map, take, length, get_or, refl, sym, ap, ◌∙◌, inl, inr, arith}
+use Rattle.std.proofs.Common.{Option, Some, None}
 use Rattle.std.proofs.lemmas.List.{map-append, take_more}
 use Rattle.std.specs.Prelude.{Contains, IsSome, MatchOption, is_some, false}
 
@@ -13,7 +14,8 @@ module _ {X : Type 0} where
   no_split (b ∷ before) x after e = cc e
 
   -- a split of a list with one more element is at that element, or is a split of the list
-  pub split_last : (xs : List X) (x : X) (before : List X) (y : X) (after : List X) → xs ++ x ∷ [] ≡ before ++ y ∷ after → ((xs ≡ before) × (x ≡ y)) ⊎ ((rest : List X) × (xs ≡ before ++ y ∷ rest))
+  pub split_last : (xs : List X) (x : X) (before : List X) (y : X) (after : List X) → xs ++ x ∷ [] ≡ before ++ y ∷ after →
+      ((xs ≡ before) × (x ≡ y)) ⊎ ((rest : List X) × (xs ≡ before ++ y ∷ rest))
   split_last [] x [] y after e = inl (refl, cc e)
   split_last [] x (b ∷ before) y after e = let t : [] ≡ before ++ y ∷ after = cc e in absurd (no_split before y after t)
   split_last (z ∷ xs) x [] y after e = let h : z ≡ y = cc e in inr (xs, ap (λ (w : X). w ∷ xs) h)

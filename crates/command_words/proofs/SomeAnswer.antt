@@ -1,5 +1,6 @@
 -- Words have an answer.
-use Rattle.std.proofs.Common.{◌≡◌, ◌⊎◌, ◌+◌, ℕ, List, [], ◌∷◌, ◌++◌, length, replicate, set, refl, sym, ap, inl, inr, subst, append_assoc, false, Option, Some, None, Result, Ok, Err}
+use Rattle.std.proofs.Common.{◌≡◌, ◌⊎◌, ◌+◌, ℕ, List, [], ◌∷◌, ◌++◌, length, replicate, set, refl, sym, ap, inl, inr, subst, append_assoc, false}
+use Rattle.std.proofs.Common.{Option, Some, None, Result, Ok, Err}
 use Rattle.std.specs.Prelude.{All, IsSome}
 use Rattle.std.proofs.lemmas.List.{append-nil}
 use Rattle.std.proofs.lemmas.List.Elements.{All-cons, All-nil}
@@ -62,7 +63,8 @@ job_with command values = record {
   ask = count_in (kept values keys.Ask) 0;
 }
 
-job_there : (command : Command) (rest : List (List ℕ)) (values : List (Option Value)) → IsDraft command rest values → All (λ (key : Key). IsSome (kept values key)) (required_of command) → IsJob (command_name command ∷ rest) (job_with command values)
+job_there : (command : Command) (rest : List (List ℕ)) (values : List (Option Value)) → IsDraft command rest values →
+    All (λ (key : Key). IsSome (kept values key)) (required_of command) → IsJob (command_name command ∷ rest) (job_with command values)
 unfolding job_with
 job_there command rest values draft all =
     job_is command rest values draft (command_name command ∷ rest) (job_with command values) refl refl all
@@ -92,20 +94,49 @@ module _ (command : Command) where
     | inr g ↦ inl (MissingKey g.0, (draft.taken, missing_is command rest values draft (required_of command) g.0 g.1))
   ]
 
-  refusal : (words : List (List ℕ)) (values : List (Option Value)) (word : List ℕ) (left : List (List ℕ)) (fault : UsageFault) → IsDraft command words values → IsRefused command words word fault → IsFirstRefusal command (words ++ word ∷ left) fault
-  refusal words values word left fault draft refused = record { before = words; word = word; after = left; words_are = refl; taken = draft.taken; refused = refused }
+  refusal : (words : List (List ℕ)) (values : List (Option Value)) (word : List ℕ) (left : List (List ℕ)) (fault : UsageFault) →
+      IsDraft command words values → IsRefused command words word fault → IsFirstRefusal command (words ++ word ∷ left) fault
+  refusal words values word left fault draft refused = record {
+    before = words;
+    word = word;
+    after = left;
+    words_are = refl;
+    taken = draft.taken;
+    refused = refused;
+  }
 
   from : (left words : List (List ℕ)) (values : List (Option Value)) → IsDraft command words values → Outcome command (words ++ left)
   from [] words values draft = subst (Outcome command) (sym (append-nil words)) (at_end words values draft)
   from (word ∷ left) words values draft = elim (key_or_not (keys_of command) word) [
-    | inr none ↦ inl (UnknownKey (length words + 2), refusal words values word left (UnknownKey (length words + 2)) draft (refl, λ key m has. none key (m, has)))
+    | inr none ↦ inl (
+      UnknownKey (length words + 2),
+      refusal words values word left (UnknownKey (length words + 2)) draft
+          (refl, λ key m has. none key (m, has)),
+    )
     | inl k ↦ elim (kept_or_not (kept values k.0)) [
-      | inr some ↦ inl (RepeatedKey (length words + 2), refusal words values word left (RepeatedKey (length words + 2)) draft (refl, record { key = k.0; of_command = k.1.0; has_key = k.1.1; stands = kept_stands command words values draft k.0 some }))
+      | inr some ↦ inl (
+        RepeatedKey (length words + 2),
+        refusal words values word left (RepeatedKey (length words + 2)) draft
+            (refl, record { key = k.0; of_command = k.1.0; has_key = k.1.1; stands = kept_stands command words values draft k.0 some }),
+      )
       | inl gap ↦ elim (said_or_not k.0 word k.1.1) [
-        | inr none ↦ inl (BadValue (length words + 2), refusal words values word left (BadValue (length words + 2)) draft (refl, record { key = k.0; of_command = k.1.0; has_key = k.1.1; first = unkept command words values draft k.0 gap; no_value = none }))
+        | inr none ↦ inl (
+          BadValue (length words + 2),
+          refusal words values word left (BadValue (length words + 2)) draft (
+            refl,
+            record {
+              key = k.0;
+              of_command = k.1.0;
+              has_key = k.1.1;
+              first = unkept command words values draft k.0 gap;
+              no_value = none;
+            },
+          ),
+        )
         | inl v ↦ (
             let new = set values (place_of k.0) (Some v.0) in
-            let more = draft_more command words values draft new word (record { key = k.0; of_command = k.1.0; value = v.0; says = v.1; first = gap; new_is = refl }) in
+            let more = draft_more command words values draft new word (record
+            { key = k.0; of_command = k.1.0; value = v.0; says = v.1; first = gap; new_is = refl }) in
             subst (Outcome command) (append_assoc words (word ∷ []) left) (from left (words ++ word ∷ []) new more))
       ]
     ]

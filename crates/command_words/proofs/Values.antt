@@ -21,18 +21,22 @@ pub no_answer : (text : List ℕ) → text ≢ codes "yes" → text ≢ codes "n
 no_answer text a b true = a
 no_answer text a b false = b
 
-pub no_engine : (text : List ℕ) → text ≢ codes "race" → text ≢ codes "core" → text ≢ codes "seq" → text ≢ codes "plain" → (engine : EngineKind) → text ≢ engine_name engine
+pub no_engine : (text : List ℕ) → text ≢ codes "race" → text ≢ codes "core" → text ≢ codes "seq" → text ≢ codes "plain" →
+    (engine : EngineKind) → text ≢ engine_name engine
 no_engine text a b c d engines.Race = a
 no_engine text a b c d engines.Core = b
 no_engine text a b c d engines.Seq = c
 no_engine text a b c d engines.Plain = d
 
-pub no_command : (word : List ℕ) → word ≢ codes "gb" → word ≢ codes "make" → word ≢ codes "module" → word ≢ codes "chains" → word ≢ codes "normal" → (command : Command) → word ≢ command_name command
+pub no_command : (word : List ℕ) → word ≢ codes "gb" → word ≢ codes "make" → word ≢ codes "module" → word ≢ codes "chains" →
+    word ≢ codes "normal" → (command : Command) → word ≢ command_name command
 no_command word a b c d e commands.Gb = a
 no_command word a b c d e commands.Make = b
 no_command word a b c d e commands.Module = c
 no_command word a b c d e commands.Chains = d
 no_command word a b c d e commands.Normal = e
 
-pub value_of_key : (a b : Key) (text : List ℕ) (o : Option Value) → a ≡ b → MatchOption o ((value : Value) → IsValue b text value → ⊥) (IsValue b text) → MatchOption o ((value : Value) → IsValue a text value → ⊥) (IsValue a text)
+pub value_of_key : (a b : Key) (text : List ℕ) (o : Option Value) → a ≡ b →
+    MatchOption o ((value : Value) → IsValue b text value → ⊥) (IsValue b text) →
+    MatchOption o ((value : Value) → IsValue a text value → ⊥) (IsValue a text)
 value_of_key a b text o e h = subst (λ (key : Key). MatchOption o ((value : Value) → IsValue key text value → ⊥) (IsValue key text)) (sym e) h

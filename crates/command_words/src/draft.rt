@@ -1,8 +1,10 @@
-ghost use Rattle.std.specs.Prelude.{◌≡◌, ℕ, List, All, None, IsSome, IfSome, MatchOption, MatchResult, false, replicate, unwrap_or};
+ghost use Rattle.std.specs.Prelude.{◌≡◌, ℕ, List, All, None, IsSome, IfSome, MatchOption, MatchResult, false};
+ghost use Rattle.std.specs.Prelude.{replicate, unwrap_or};
 ghost use Rattle.command_words.specs.declared.job.Key.{Key};
 ghost use Rattle.command_words.specs.Keys.{required_of};
 ghost use Rattle.command_words.specs.Values.{IsValue, default_of, value_at};
-ghost use Rattle.command_words.specs.Draft.{IsFirstGap, IsRefusal, Takes, answer_in, count_in, engine_in, kept, place_of, show_in};
+ghost use Rattle.command_words.specs.Draft.{IsFirstGap, IsRefusal, Takes, answer_in, count_in, engine_in, kept};
+ghost use Rattle.command_words.specs.Draft.{place_of, show_in};
 
 use crate::job::{Command, EngineKind, Job, Key, Show, UsageFault};
 use crate::table::{key_in, required_row, value_said};
@@ -23,7 +25,8 @@ impl Draft {
 
     /// Takes one word more, which has this number.
     pub fn take(&mut self, command: Command, number: u32, word: &[u8]) -> Result<(), UsageFault>
-        ensures { MatchResult result (λ _. Takes command self.old.values self.new.values word.now) (IsRefusal command self.old.values word.now number) }
+        ensures { MatchResult result (λ _. Takes command self.old.values self.new.values word.now)
+            (IsRefusal command self.old.values word.now number) }
     {
         let Some(key) = key_in(command, word) else {
             return Err(UsageFault::UnknownKey { word: number });
@@ -40,7 +43,8 @@ impl Draft {
 
     /// The first required key that no word had.
     pub fn missing(&self, command: Command) -> Option<Key>
-        ensures { MatchOption result (All (λ key. IsSome (kept self.now.values key)) (required_of command)) (IsFirstGap (required_of command) self.now.values) }
+        ensures { MatchOption result (All (λ key. IsSome (kept self.now.values key)) (required_of command))
+            (IsFirstGap (required_of command) self.now.values) }
     {
         for key in required_row(command) {
             if self.value_of(*key).is_none() {

@@ -27,7 +27,8 @@ pub fn read_words(words: &[String]) -> Result<Job, UsageFault>
 
 /// What the words after the command say.
 fn draft_of(command: Command, words: &[String]) -> Result<Draft, UsageFault>
-    ensures { MatchResult result (λ draft. IsDraft command (map string_bytes words.now) draft.values) (IsFirstRefusal command (map string_bytes words.now)) }
+    ensures { MatchResult result (λ draft. IsDraft command (map string_bytes words.now) draft.values)
+        (IsFirstRefusal command (map string_bytes words.now)) }
 {
     let mut draft = Draft::new();
     let mut number = 2;

@@ -82,7 +82,8 @@ pub fn required_row(command: Command) -> &'static [Key]
 }
 
 pub fn command_in(word: &[u8]) -> Option<Command>
-    ensures { MatchOption result ((command : Command) → word.now ≢ command_name command) (λ command. word.now ≡ command_name command) }
+    ensures { MatchOption result ((command : Command) → word.now ≢ command_name command)
+        (λ command. word.now ≡ command_name command) }
 {
     if word == b"gb".as_slice() {
         return Some(Command::Gb);
@@ -104,7 +105,8 @@ pub fn command_in(word: &[u8]) -> Option<Command>
 
 /// The key of the command that the word has.
 pub fn key_in(command: Command, word: &[u8]) -> Option<Key>
-    ensures { MatchOption result (IsUnknown command word.now) (λ key. Contains (keys_of command) key × HasKey key word.now) }
+    ensures { MatchOption result (IsUnknown command word.now)
+        (λ key. Contains (keys_of command) key × HasKey key word.now) }
 {
     for key in row_of(command) {
         if text_behind(*key, word).is_some() {

@@ -56,7 +56,8 @@ fn is_listed(number: u32) -> bool
 }
 
 fn number_from(text: &[u8], low: u32, high: u32) -> Option<Value>
-    ensures { MatchOption result ((value : Value) → IsNumberFrom low high text.now value → ⊥) (IsNumberFrom low high text.now) }
+    ensures { MatchOption result ((value : Value) → IsNumberFrom low high text.now value → ⊥)
+        (IsNumberFrom low high text.now) }
 {
     let Some(number) = number_in(text, high) else {
         return None;

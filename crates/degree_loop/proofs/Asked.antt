@@ -14,7 +14,8 @@ module _ (Q : Quantities) where
   first_before (l ∷ ls) ms kind value (inr h) = inr (h.0, h.1, h.2, first_before ls ms kind value h.3)
 
   -- what passes first behind limits that none passes
-  pub first_behind : (ls ms : List (LimitKind × ℕ)) (kind : LimitKind) (value : ℕ) → NonePasses Q ls → IsFirstPassing Q ms kind value → IsFirstPassing Q (ls ++ ms) kind value
+  pub first_behind : (ls ms : List (LimitKind × ℕ)) (kind : LimitKind) (value : ℕ) → NonePasses Q ls → IsFirstPassing Q ms kind value →
+      IsFirstPassing Q (ls ++ ms) kind value
   first_behind [] ms kind value none h = h
   first_behind (l ∷ ls) ms kind value none h = inr (none.0.0, none.0.1, none.0.2, first_behind ls ms kind value none.1 h)
 
@@ -42,7 +43,8 @@ abbrev pub NamesFirst : Quantities → ℕ → List (LimitKind × ℕ) → {T : 
 NamesFirst Q d limits r = (kind : LimitKind) (degree value : ℕ) → r ≡ Err (Limit kind degree value) → (degree ≡ d) × IsFirstPassing Q limits kind value
 
 -- a fault that is handed on
-module _ (Q : Quantities) (d : ℕ) (ls ms : List (LimitKind × ℕ)) {T U : Type 0} (fault : EngineFault) (given : Result U EngineFault) (is : given ≡ Err fault) (r : Result T EngineFault) (handed : IsErrAnd r (λ f. f ≡ fault)) where
+module _ (Q : Quantities) (d : ℕ) (ls ms : List (LimitKind × ℕ)) {T U : Type 0} (fault : EngineFault) (given : Result U EngineFault)
+    (is : given ≡ Err fault) (r : Result T EngineFault) (handed : IsErrAnd r (λ f. f ≡ fault)) where
   same_fault : (other : EngineFault) → r ≡ Err other → given ≡ Err other
   same_fault other e = let p = err_from_is_err_and r handed in is ∙ ap Err (sym p.2 ∙ one_fault r p.0 other p.1 e)
 
@@ -50,4 +52,5 @@ module _ (Q : Quantities) (d : ℕ) (ls ms : List (LimitKind × ℕ)) {T U : Typ
   handed_first h kind degree value e = let k = h kind degree value (same_fault (Limit kind degree value) e) in (k.0, first_before Q ls ms kind value k.1)
 
   pub handed_behind : NonePasses Q ls → NamesFirst Q d ms given → NamesFirst Q d (ls ++ ms) r
-  handed_behind none h kind degree value e = let k = h kind degree value (same_fault (Limit kind degree value) e) in (k.0, first_behind Q ls ms kind value none k.1)
+  handed_behind none h kind degree value e = let k = h kind degree value (same_fault (Limit kind degree value) e) in
+      (k.0, first_behind Q ls ms kind value none k.1)

@@ -45,7 +45,8 @@ use Rattle.degree_loop.proofs.PivotLeads.{LeadsAt, held_leads, row_leads}
 use Rattle.degree_loop.proofs.WonCalls.{part_of_sum, won_apart, won_from}
 
 -- the calls of a state in which the rule of claimed pivots holds
-module _ (problem : Problem) (crew : ℕ) (s : State) (rule : ClaimedPivots problem crew s) (legal : IsLegalHistory problem crew s) (merge : IsMergeOfLogs problem crew s) where
+module _ (problem : Problem) (crew : ℕ) (s : State) (rule : ClaimedPivots problem crew s) (legal : IsLegalHistory problem crew s)
+    (merge : IsMergeOfLogs problem crew s) where
   abbrev calls : List Call
   calls = merged (logs_of s)
 
@@ -62,7 +63,8 @@ module _ (problem : Problem) (crew : ℕ) (s : State) (rule : ClaimedPivots prob
   once = calls_of-pairs (λ k l. k.column ≢ l.column) calls (λ i. elim (cases_lt i crew) [
     | inl lt ↦ subst (AllPairs (λ (k l : Call). k.column ≢ l.column)) (sym (merge.logs i lt)) (rule.calls_and_counts.columns i lt)
     | inr out ↦
-        subst (AllPairs (λ (k l : Call). k.column ≢ l.column)) (sym (calls_of-none i calls (All-weaker (λ (k : Call). k.seat < crew) (IsElsewhere i) (λ k lt e. omega (arith, lt, e, out)) calls merge.seats)))
+        subst (AllPairs (λ (k l : Call). k.column ≢ l.column)) (sym (calls_of-none i calls
+        (All-weaker (λ (k : Call). k.seat < crew) (IsElsewhere i) (λ k lt e. omega (arith, lt, e, out)) calls merge.seats)))
         (AllPairs-nil (λ (k l : Call). k.column ≢ l.column))
   ])
 
@@ -76,7 +78,8 @@ module _ (problem : Problem) (crew : ℕ) (s : State) (rule : ClaimedPivots prob
       let l : Call = get_or calls j d in
       let first = won_holds k (told i d (omega (arith, below, within))) k_won in
       let second = won_holds l (told j d within) l_won in
-      won_apart [] calls legal.replays i j d below within k_won l_won (rule.disjoint_rows.holders_apart k.column l.column first.0 second.0 (first.1 ∙ same ∙ sym second.1))
+      won_apart [] calls legal.replays i j d below within k_won l_won
+      (rule.disjoint_rows.holders_apart k.column l.column first.0 second.0 (first.1 ∙ same ∙ sym second.1))
 
   -- what is won is held, and what is held was won
   pub won_held : (k : Call) → Contains calls k → IsWon k → IsHeld problem s k.column
@@ -94,8 +97,10 @@ module _ (problem : Problem) (crew : ℕ) (s : State) (rule : ClaimedPivots prob
       (k, All-contains (Contains calls) own k (legal.inside i.0 lt) (Contains-get_or own j.0 none j.1), won.0, won.1)
 
 -- the leading words of a degree are those of the held columns
-module _ (p : ℕ) (weights : List ℕ) (relations : List (List Term)) (st : IsSetting p weights relations) (d : ℕ) (G : List (List Term)) (lower : AreLower p weights relations d G)
-    (closed : ClosedColumns) (problem : Problem) (matrix : IsMatrix p weights relations G d closed problem) (s : State) (pivots : ArePivots problem (holders problem s) (values problem s))
+module _ (p : ℕ) (weights : List ℕ) (relations : List (List Term)) (st : IsSetting p weights relations) (d : ℕ) (G : List (List Term))
+    (lower : AreLower p weights relations d G)
+    (closed : ClosedColumns) (problem : Problem) (matrix : IsMatrix p weights relations G d closed problem) (s : State)
+    (pivots : ArePivots problem (holders problem s) (values problem s))
     (form_law : HaveOneRref) (basis_law : RowsGiveBasis) (elements : List (List Term)) (basis : IsReducedBasis p weights relations d elements) where
   abbrev contested : List (List ℕ)
   contested = contested_words closed.columns closed.reducers
@@ -108,7 +113,10 @@ module _ (p : ℕ) (weights : List ℕ) (relations : List (List Term)) (st : IsS
       let q = Contains-map_cases (row_of problem.m problem.cells.items) (range_with_len 0 problem.n) r there in
       let lt : q.0 < problem.n = omega (arith, (range-bounds 0 problem.n q.0 q.1).1) in
       subst (IsRow problem.modulus problem.m) q.2
-      (record { size = row_size problem.m problem.n problem.cells.items q.0 problem.shape lt; residues = row_residues problem.modulus problem.m problem.cells.items q.0 problem.residues })))
+      (record {
+        size = row_size problem.m problem.n problem.cells.items q.0 problem.shape lt;
+        residues = row_residues problem.modulus problem.m problem.cells.items q.0 problem.residues;
+      })))
 
   abbrev echelon : List (List ℕ)
   echelon = (form_law problem.modulus problem.m (rows_of problem) modulus problem_rows).echelon
@@ -117,7 +125,8 @@ module _ (p : ℕ) (weights : List ℕ) (relations : List (List Term)) (st : IsS
   form = (form_law problem.modulus problem.m (rows_of problem) modulus problem_rows).form
 
   own_basis : IsReducedBasis p weights relations d (map (element_on contested) echelon)
-  own_basis = basis_law p weights relations st d G lower matrix.rows closed.columns closed.reducers matrix.are_closed (rows_of problem) matrix.contested echelon (form_of p weights relations G d closed problem matrix echelon form)
+  own_basis = basis_law p weights relations st d G lower matrix.rows closed.columns closed.reducers matrix.are_closed (rows_of problem)
+      matrix.contested echelon (form_of p weights relations G d closed problem matrix echelon form)
 
   led_word : (r : List ℕ) (c : ℕ) → c < problem.m → LeadsAt c r → lead_of (element_on contested r) ≡ Some (get_or contested c [])
   led_word r c lt h = (element_on-first contested r c (omega (arith, lt, matrix.width)) h.before h.one).0
@@ -126,17 +135,22 @@ module _ (p : ℕ) (weights : List ℕ) (relations : List (List Term)) (st : IsS
   lead_held w h =
       let there = (own_basis.exactly h.0).1 ((basis.exactly h.0).0 h.1) in
       let q = Contains-map_cases (element_on contested) echelon h.0 there in
-      let l = row_leads problem (holders problem s) (values problem s) pivots modulus echelon form q.0 q.1 in
-      (l.0, (held_holders problem s l.0 l.1.row l.1.below l.1.is).0, some_same (get_or contested l.0 []) w (sym (led_word q.0 l.0 l.1.below l.2) ∙ ap lead_of q.2 ∙ h.2))
+      let l = row_leads problem (holders problem s) (values problem s) pivots modulus echelon form q.0 q.1 in (
+        l.0,
+        (held_holders problem s l.0 l.1.row l.1.below l.1.is).0,
+        some_same (get_or contested l.0 []) w (sym (led_word q.0 l.0 l.1.below l.2) ∙ ap lead_of q.2 ∙ h.2),
+      )
 
   pub held_lead : (c : ℕ) → IsHeld problem s c → IsLeadOf elements (get_or contested c [])
   held_lead c h =
-      let r = held_leads problem (holders problem s) (values problem s) pivots modulus echelon form c (record { below = h.below; row = holder_of problem s c; is = holders-held problem s c h }) in
+      let r = held_leads problem (holders problem s) (values problem s) pivots modulus echelon form c
+      (record { below = h.below; row = holder_of problem s c; is = holders-held problem s c h }) in
       let f : List Term = element_on contested r.0 in
       (f, (basis.exactly f).1 ((own_basis.exactly f).0 (Contains-map (element_on contested) echelon r.0 r.1)), led_word r.0 c h.below r.2)
 
 -- an account by its parts
-account_is : (account : Account) (n : ℕ) (words : List (List ℕ)) (ks : List Call) → account.rows ≡ n → account.columns ≡ words → account.calls ≡ ks → account ≡ record { rows = n; columns = words; calls = ks }
+account_is : (account : Account) (n : ℕ) (words : List (List ℕ)) (ks : List Call) → account.rows ≡ n → account.columns ≡ words →
+    account.calls ≡ ks → account ≡ record { rows = n; columns = words; calls = ks }
 account_is account n words ks r c k = λ i. record { rows = r i; columns = c i; calls = k i }
 
 pub run_accounts_tell : ClaimedPivotsLaw → HeldRowsArePivots → OneLegalHistory → HistoryMergesLogs → HaveOneRref → RowsGiveBasis → RunAccountsTell
@@ -145,7 +159,11 @@ run_accounts_tell rules pivot_law histories merges form_law basis_law workers p 
     let crew : ℕ = crew_of workers problem.n in
     let s : State = state_after problem crew run.events in
     let contested : List (List ℕ) = contested_words run.closed.columns run.closed.reducers in
-    let setting : claims.IsSetting problem crew = record { field = subst IsFieldModulus (sym run.matrix.modulus) st.modulus; some = omega arith; few = omega (arith, few) } in
+    let setting : claims.IsSetting problem crew = record {
+      field = subst IsFieldModulus (sym run.matrix.modulus) st.modulus;
+      some = omega arith;
+      few = omega (arith, few);
+    } in
     let rule : ClaimedPivots problem crew s = rules problem crew setting run.events in
     let legal : IsLegalHistory problem crew s = histories problem crew setting run.events in
     let merge : IsMergeOfLogs problem crew s = merges problem crew setting run.events in
@@ -165,7 +183,8 @@ run_accounts_tell rules pivot_law histories merges form_law basis_law workers p 
       order = merge.order;
       seats = merge.seats;
       rows = All-weaker (IsTrueCall problem s) (λ (k : Call). k.row < problem.n) (λ k is. is.row) own_calls own_told;
-      columns = All-weaker (IsTrueCall problem s) (λ (k : Call). k.column < length contested) (λ k is. omega (arith, is.column, run.matrix.width)) own_calls own_told;
+      columns = All-weaker (IsTrueCall problem s) (λ (k : Call). k.column < length contested)
+          (λ k is. omega (arith, is.column, run.matrix.width)) own_calls own_told;
       replays = legal.replays;
       once = once problem crew s rule legal merge;
       rows_apart = rows_apart problem crew s rule legal merge;
@@ -175,7 +194,11 @@ run_accounts_tell rules pivot_law histories merges form_law basis_law workers p 
             let k = held_won problem crew s rule legal merge c.0 c.1 in
             (k.0, k.1, k.2, ap (λ (i : ℕ). get_or contested i []) k.3 ∙ c.2))),
         (λ h. subst (IsLeadOf elements) h.3
-            (held_lead p weights relations st d G lower run.closed problem run.matrix s pivots form_law basis_law elements basis h.0.column (won_held problem crew s rule legal merge h.0 h.1 h.2))),
+            (held_lead p weights relations st d G lower run.closed problem run.matrix s pivots form_law basis_law elements basis h.0.column
+            (won_held problem crew s rule legal merge h.0 h.1 h.2))),
       );
-    } in
-    (tells, subst (λ (a : Account). IsClaimHistory (crew_of workers a.rows) elements a) (sym (account_is account problem.n contested own_calls run.count run.contested run.calls)) history)
+    } in (
+      tells,
+      subst (λ (a : Account). IsClaimHistory (crew_of workers a.rows) elements a)
+          (sym (account_is account problem.n contested own_calls run.count run.contested run.calls)) history,
+    )

@@ -22,7 +22,8 @@ use Rattle.row_store.specs.Contested.{IsCellQuantity, IsOnColumns, IsReducing, M
 use Rattle.degree_loop.specs.Matrix.{AreColumnWords}
 use Rattle.degree_loop.proofs.Contested.{length-contested}
 
-module _ (p : ℕ) (weights : List ℕ) (relations : List (List Term)) (st : IsSetting p weights relations) (d : ℕ) (G : List (List Term)) (lower : AreLower p weights relations d G) where
+module _ (p : ℕ) (weights : List ℕ) (relations : List (List Term)) (st : IsSetting p weights relations) (d : ℕ) (G : List (List Term))
+    (lower : AreLower p weights relations d G) where
   pub below_forms : All IsPolynomial G
   below_forms = All-from_members IsPolynomial G (λ g m. ((lower g).0 m).2.inside.element.form)
 
@@ -31,13 +32,15 @@ module _ (p : ℕ) (weights : List ℕ) (relations : List (List Term)) (st : IsS
 
   module _ (rows : List (List Term)) (are : AreRows p weights relations G d rows) where
     term_says : (f : List Term) → Contains rows f → (t : Term) → Contains f t → IsOver (length weights) t.word × (degree_of weights t.word ≡ d)
-    term_says f m t n = words_of_degree-says weights st.are_weights d t.word (member_word p weights relations st d f (row_member p weights relations st d G lower rows are f m) t n)
+    term_says f m t n = words_of_degree-says weights st.are_weights d t.word
+        (member_word p weights relations st d f (row_member p weights relations st d G lower rows are f m) t n)
 
     pub rows_degree : All (HasDegree weights d) rows
     rows_degree = All-from_members (HasDegree weights d) rows (λ f m. All-from_members (λ t. degree_of weights t.word ≡ d) f (λ t n. (term_says f m t n).1))
 
     pub rows_letters : All (UsesLetters (length weights)) rows
-    rows_letters = All-from_members (UsesLetters (length weights)) rows (λ f m. All-from_members (λ t. IsOver (length weights) t.word) f (λ t n. (term_says f m t n).0))
+    rows_letters = All-from_members (UsesLetters (length weights)) rows
+        (λ f m. All-from_members (λ t. IsOver (length weights) t.word) f (λ t n. (term_says f m t n).0))
 
     pub rows_residues : All (HasResidues p) rows
     rows_residues = All-from_members (HasResidues p) rows (λ f m. (row_member p weights relations st d G lower rows are f m).residues)
@@ -49,7 +52,8 @@ module _ (p : ℕ) (weights : List ℕ) (relations : List (List Term)) (st : IsS
       pub rows_on_columns : All (IsOnColumns columns) rows
       rows_on_columns = All-from_members (IsOnColumns columns) rows
           (λ f m. All-from_members (λ t. Contains columns t.word) f
-          (λ t n. (are_columns.exactly t.word).1 (given t.word (Contains-map (λ (s : Term). s.word) (flat_map (λ g. g) rows) t (Contains-flat_map (λ g. g) rows f t m n)))))
+          (λ t n. (are_columns.exactly t.word).1 (given t.word (Contains-map (λ (s : Term). s.word) (flat_map (λ g. g) rows) t
+          (Contains-flat_map (λ g. g) rows f t m n)))))
 
       may_reduce : (w : List ℕ) (o : Option (List Term)) → Contains columns w → HasReducer G w o → MayReduce p columns w o
       may_reduce w None m h = tt
@@ -65,11 +69,15 @@ module _ (p : ℕ) (weights : List ℕ) (relations : List (List Term)) (st : IsS
                 (λ t n. (are_columns.exactly t.word).1 (brought w t.word g ((are_columns.exactly w).0 m) h (Contains-map (λ (s : Term). s.word) g t n)));
           }
 
-      all_reduce : (ws : List (List ℕ)) (rs : List (Option (List Term))) → ((w : List ℕ) → Contains ws w → Contains columns w) → AllZip (HasReducer G) ws rs → AllZip (MayReduce p columns) ws rs
+      all_reduce : (ws : List (List ℕ)) (rs : List (Option (List Term))) → ((w : List ℕ) → Contains ws w → Contains columns w) →
+          AllZip (HasReducer G) ws rs → AllZip (MayReduce p columns) ws rs
       all_reduce [] [] among z = z
       all_reduce [] (r ∷ rs) among z = absurd z
       all_reduce (w ∷ ws) [] among z = absurd z
-      all_reduce (w ∷ ws) (r ∷ rs) among z = (may_reduce w r (among w (Contains-first w ws)) z.0, all_reduce ws rs (λ v m. among v (Contains-more w ws v m)) z.1)
+      all_reduce (w ∷ ws) (r ∷ rs) among z = (
+        may_reduce w r (among w (Contains-first w ws)) z.0,
+        all_reduce ws rs (λ v m. among v (Contains-more w ws v m)) z.1,
+      )
 
       module _ (reducers : List (Option (List Term))) (have : AllZip (HasReducer G) columns reducers) where
         contested_has : (w : List ℕ) → Contains (contested_words columns reducers) w → IsOver (length weights) w × (degree_of weights w ≡ d)
@@ -81,27 +89,40 @@ module _ (p : ℕ) (weights : List ℕ) (relations : List (List Term)) (st : IsS
         pub column_words : d ≤ 64 → AreColumnWords weights (contested_words columns reducers)
         column_words small = record {
           letters = All-from_members (IsOver (length weights)) (contested_words columns reducers) (λ w m. (contested_has w m).0);
-          small = All-from_members (λ w. degree_of weights w ≤ 64) (contested_words columns reducers) (λ w m. let e = (contested_has w m).1 in omega (arith, e, small));
+          small = All-from_members (λ w. degree_of weights w ≤ 64) (contested_words columns reducers)
+              (λ w m. let e = (contested_has w m).1 in omega (arith, e, small));
           one_degree = λ i j x before within. contested_degree i x (omega (arith, before, within)) ∙ sym (contested_degree j x within);
           falling = contested_falling columns reducers are_columns.falling;
         }
 
     pub reducing_closed : (closed : ClosedColumns) → IsClosed G (words_of rows) closed → IsReducing p closed
-    reducing_closed closed h = record { falling = h.are_columns.falling; reducers = all_reduce closed.columns h.are_columns closed.columns closed.reducers (λ w m. m) h.are_reducers }
+    reducing_closed closed h = record {
+      falling = h.are_columns.falling;
+      reducers =
+          all_reduce closed.columns h.are_columns closed.columns closed.reducers (λ w m. m) h.are_reducers;
+    }
 
-module _ (p : ℕ) (weights : List ℕ) (relations : List (List Term)) (below : Elements) (d : ℕ) (rows : List (List Term)) (are : AreRows p weights relations below.elements d rows) where
+module _ (p : ℕ) (weights : List ℕ) (relations : List (List Term)) (below : Elements) (d : ℕ) (rows : List (List Term))
+    (are : AreRows p weights relations below.elements d rows) where
   -- what is asked of the closure of the rows is a quantity of the degree
   pub closed_quantity : (kind : LimitKind) (q : ℕ) → IsClosedQuantity below.elements rows kind q → IsQuantity p weights relations below d kind q
   closed_quantity PlainWords q h = absurd h
   closed_quantity Rows q h = absurd h
   closed_quantity Columns q h = (rows, h.0, are, h.1, h.2)
-  closed_quantity Entries q h = (rows, h.0.columns, h.0.reducers, record { are_rows = are; are_columns = h.1.are_columns; are_reducers = h.1.are_reducers }, h.2)
+  closed_quantity Entries q h = (
+    rows,
+    h.0.columns,
+    h.0.reducers,
+    record { are_rows = are; are_columns = h.1.are_columns; are_reducers = h.1.are_reducers },
+    h.2,
+  )
   closed_quantity Cells q h = absurd h
   closed_quantity Terms q h = absurd h
   closed_quantity NormalWords q h = absurd h
 
   -- and so are the cells
-  pub cell_quantity : (closed : ClosedColumns) → IsClosed below.elements (words_of rows) closed → (kind : LimitKind) (q : ℕ) → IsCellQuantity rows closed kind q → IsQuantity p weights relations below d kind q
+  pub cell_quantity : (closed : ClosedColumns) → IsClosed below.elements (words_of rows) closed → (kind : LimitKind) (q : ℕ) →
+      IsCellQuantity rows closed kind q → IsQuantity p weights relations below d kind q
   cell_quantity closed h PlainWords q e = absurd e
   cell_quantity closed h Rows q e = absurd e
   cell_quantity closed h Columns q e = absurd e

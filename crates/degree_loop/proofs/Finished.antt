@@ -1,5 +1,6 @@
 -- The elements of a degree, from the echelon form of its matrix.
-use Rattle.std.proofs.Common.{◌≡◌, Err, Result, ◌+◌, ◌-◌, ◌^◌, ◌<◌, ◌≤◌, ℕ, List, [], ◌∷◌, All, AllPairs, inl, inr, length, map, min, sym, ap, ◌∙◌, arith, subst, refl}
+use Rattle.std.proofs.Common.{◌≡◌, Err, Result, ◌+◌, ◌-◌, ◌^◌, ◌<◌, ◌≤◌, ℕ, List, [], ◌∷◌, All, AllPairs, inl, inr, length, map, min, sym, ap, ◌∙◌}
+use Rattle.std.proofs.Common.{arith, subst, refl}
 use Rattle.std.specs.List.{Contains, range_with_len}
 use Rattle.std.proofs.lemmas.List.{length-map}
 use Rattle.std.proofs.lemmas.List.FromFn.{length-range_with_len}
@@ -33,29 +34,35 @@ map_twice : {X Y Z : Type 0} (f : X → Y) (g : Y → Z) (xs : List X) → map g
 map_twice f g [] = refl
 map_twice f g (x ∷ xs) = ap (λ (zs : List _). g (f x) ∷ zs) (map_twice f g xs)
 
-module _ (p : ℕ) (weights : List ℕ) (relations G : List (List Term)) (d : ℕ) (closed : ClosedColumns) (problem : Problem) (h : IsMatrix p weights relations G d closed problem) where
+module _ (p : ℕ) (weights : List ℕ) (relations G : List (List Term)) (d : ℕ) (closed : ClosedColumns) (problem : Problem)
+    (h : IsMatrix p weights relations G d closed problem) where
   abbrev contested : List (List ℕ)
   contested = contested_words closed.columns closed.reducers
 
   pub form_of : (echelon : List (List ℕ)) → IsRref problem.modulus problem.m (rows_of problem) echelon → IsRref p (length contested) (rows_of problem) echelon
-  form_of echelon f = subst (λ (n : ℕ). IsRref p n (rows_of problem) echelon) h.width (subst (λ (n : ℕ). IsRref n problem.m (rows_of problem) echelon) h.modulus f)
+  form_of echelon f = subst (λ (n : ℕ). IsRref p n (rows_of problem) echelon) h.width
+      (subst (λ (n : ℕ). IsRref n problem.m (rows_of problem) echelon) h.modulus f)
 
-  pub basis_of : {X : Type 0} (items : X → List ℕ) (law : RowsGiveBasis) (st : IsSetting p weights relations) (lower : AreLower p weights relations d G) (echelon : List X)
+  pub basis_of : {X : Type 0} (items : X → List ℕ) (law : RowsGiveBasis) (st : IsSetting p weights relations)
+      (lower : AreLower p weights relations d G) (echelon : List X)
       → IsRref problem.modulus problem.m (rows_of problem) (map items echelon) → (columns : List (List ℕ)) → columns ≡ contested
       → (elements : List (List Term)) → elements ≡ map (λ row. element_on columns (items row)) echelon → IsReducedBasis p weights relations d elements
   basis_of items law st lower echelon f columns are elements is =
-      let own = law p weights relations st d G lower h.rows closed.columns closed.reducers h.are_closed (rows_of problem) h.contested (map items echelon) (form_of (map items echelon) f) in
+      let own = law p weights relations st d G lower h.rows closed.columns closed.reducers h.are_closed (rows_of problem) h.contested
+      (map items echelon) (form_of (map items echelon) f) in
       subst (IsReducedBasis p weights relations d)
       (sym (is ∙ ap (λ (ws : List (List ℕ)). map (λ row. element_on ws (items row)) echelon) are ∙ sym (map_twice items (element_on contested) echelon))) own
 
 -- the problem has as many rows as the degree
-pub count_rows : (p : ℕ) (weights : List ℕ) (relations G : List (List Term)) (d : ℕ) (closed : ClosedColumns) (problem : Problem) → (h : IsMatrix p weights relations G d closed problem) → problem.n ≡ length h.rows
+pub count_rows : (p : ℕ) (weights : List ℕ) (relations G : List (List Term)) (d : ℕ) (closed : ClosedColumns) (problem : Problem) →
+    (h : IsMatrix p weights relations G d closed problem) → problem.n ≡ length h.rows
 count_rows p weights relations G d closed problem h =
     sym (length-range_with_len 0 problem.n) ∙ sym (length-map (range_with_len 0 problem.n) (row_of problem.m problem.cells.items))
     ∙ AllZip-long (IsContestedRow p closed.columns closed.reducers) h.rows (rows_of problem) h.contested
 
 -- the elements of a reduced basis are monic
-pub basis_monic : (p : ℕ) (weights : List ℕ) (relations : List (List Term)) (d : ℕ) (basis : List (List Term)) → IsReducedBasis p weights relations d basis → All IsMonic basis
+pub basis_monic : (p : ℕ) (weights : List ℕ) (relations : List (List Term)) (d : ℕ) (basis : List (List Term)) →
+    IsReducedBasis p weights relations d basis → All IsMonic basis
 basis_monic p weights relations d basis h = All-from_members IsMonic basis (λ f m. ((h.exactly f).0 m).monic)
 
 -- members of a list with one degree have one degree
@@ -73,9 +80,11 @@ one_degree deg (x ∷ xs) h v w m n = elim (Contains-cases x xs v m) [
 ]
 
 -- the terms pass their limit, or do not
-module _ (p : ℕ) (weights : List ℕ) (relations : List (List Term)) (below : Elements) (d most count : ℕ) (elements : List (List Term)) (basis : IsReducedBasis p weights relations d elements)
+module _ (p : ℕ) (weights : List ℕ) (relations : List (List Term)) (below : Elements) (d most count : ℕ) (elements : List (List Term))
+    (basis : IsReducedBasis p weights relations d elements)
     (few : most < 2 ^ 32) (is : count ≡ min (min (terms_in below.elements) (2 ^ 64 - 1) + min (terms_in elements) (2 ^ 64 - 1)) (2 ^ 64 - 1)) where
-  pub terms_pass : most < count → (kind : LimitKind) (degree value : ℕ) → {T : Type 0} (r : Result T EngineFault) → r ≡ Err (Limit Terms d count) → r ≡ Err (Limit kind degree value)
+  pub terms_pass : most < count → (kind : LimitKind) (degree value : ℕ) → {T : Type 0} (r : Result T EngineFault) →
+      r ≡ Err (Limit Terms d count) → r ≡ Err (Limit kind degree value)
       → (degree ≡ d) × IsFirstPassing (IsQuantity p weights relations below d) ((Terms, most) ∷ []) kind value
   terms_pass lt kind degree value r own e =
       let is_kind : kind ≡ Terms = cc e in

@@ -1,5 +1,6 @@
 -- The seats that have not ended.
-use Rattle.std.proofs.Common.{◌≡◌, ◌≢◌, ◌+◌, ◌-◌, ◌<◌, ◌≤◌, ◌==◌, ◌++◌, ℕ, zero, suc, Bool, true, false, List, [], ◌∷◌, append-nil, cond, not, length, length-append, get_or, refl, sym, ap, ◌∙◌, arith}
+use Rattle.std.proofs.Common.{◌≡◌, ◌≢◌, ◌+◌, ◌-◌, ◌<◌, ◌≤◌, ◌==◌, ◌++◌, ℕ, zero, suc, Bool, true, false, List, [], ◌∷◌, append-nil, cond, not, length}
+use Rattle.std.proofs.Common.{length-append, get_or, refl, sym, ap, ◌∙◌, arith}
 use Rattle.std.specs.List.{filter, range_with_len}
 use Rattle.std.proofs.Math.ListN.{get_or-append}
 use Rattle.std.proofs.Math.Seq.{get_or-append_seam}
@@ -51,7 +52,9 @@ module _ (p : ℕ → Bool) where
       let same : n + 1 + k + 1 ≡ m = omega (arith, is) in
       let grown : passing m ≡ passing (n + 1 + k) ++ cond (p (n + 1 + k)) ((n + 1 + k) ∷ []) [] = sym (ap passing same) ∙ passing_more (n + 1 + k) in
       record {
-        at = ap (λ (l : List ℕ). get_or l (length (passing n)) 0) grown ∙ get_or-append (passing (n + 1 + k)) (cond (p (n + 1 + k)) ((n + 1 + k) ∷ []) []) 0 (length (passing n)) before.within ∙ before.at;
+        at = ap (λ (l : List ℕ). get_or l (length (passing n)) 0) grown
+            ∙ get_or-append (passing (n + 1 + k)) (cond (p (n + 1 + k)) ((n + 1 + k) ∷ []) []) 0 (length (passing n)) before.within
+            ∙ before.at;
         within = omega (arith, before.within, ap length grown, length-append (passing (n + 1 + k)) (cond (p (n + 1 + k)) ((n + 1 + k) ∷ []) []));
       }
 
@@ -83,4 +86,5 @@ going_below problem s n = passing (going_test problem s) n
 
 -- every view has ended where no seat goes on
 pub none_going : (problem : Problem) (s : State) → going_seats problem s ≡ [] → HasEnded problem s
-none_going problem s none i lt = ended_by (view_at problem s i).phase (passing-empty (going_test problem s) (length s.views) i lt none (going_test problem s i) refl)
+none_going problem s none i lt = ended_by (view_at problem s i).phase
+    (passing-empty (going_test problem s) (length s.views) i lt none (going_test problem s i) refl)

@@ -19,8 +19,10 @@ module _ (K : Field) where
       ∙ ap (K.add (w y)) (K.mul_comm K.zero (p y) ∙ mul_zero K (p y)) ∙ K.add_zero (w y)
 
   -- clearing is linear
-  cleared_parts : (P Q : V → Type 0) (k : ℕ) (p : V) → ((g : V) → P g → IsInSpan K ℕ Q (cleared K ℕ k p g)) → (cs : List (K.F × V)) → All (λ c. P c.1) cs → IsInSpan K ℕ Q (cleared K ℕ k p (sum_of K ℕ cs))
-  cleared_parts P Q k p h [] each = same_span K ℕ Q (λ y. K.zero) (cleared K ℕ k p (sum_of K ℕ [])) (λ y. sym (cleared_none k p (λ x. K.zero) refl y)) (IsInSpan-zero K ℕ Q)
+  cleared_parts : (P Q : V → Type 0) (k : ℕ) (p : V) → ((g : V) → P g → IsInSpan K ℕ Q (cleared K ℕ k p g)) → (cs : List (K.F × V)) →
+      All (λ c. P c.1) cs → IsInSpan K ℕ Q (cleared K ℕ k p (sum_of K ℕ cs))
+  cleared_parts P Q k p h [] each = same_span K ℕ Q (λ y. K.zero) (cleared K ℕ k p (sum_of K ℕ []))
+      (λ y. sym (cleared_none k p (λ x. K.zero) refl y)) (IsInSpan-zero K ℕ Q)
   cleared_parts P Q k p h (c ∷ cs) each =
       same_span K ℕ Q (λ y. K.add (K.mul c.0 (cleared K ℕ k p c.1 y)) (cleared K ℕ k p (sum_of K ℕ cs) y)) (cleared K ℕ k p (sum_of K ℕ (c ∷ cs)))
       (λ y. cleared_sum K ℕ c.0 (c.1 y) (sum_of K ℕ cs y) (c.1 k) (sum_of K ℕ cs k) (p y))
@@ -29,7 +31,8 @@ module _ (K : Field) where
       (cleared_parts P Q k p h cs (All-tail (λ (d : K.F × V). P d.1) c cs each)))
 
   -- rows that lead at held columns
-  module _ (Held : ℕ → Type 0) (row : ℕ → V) (one : (c : ℕ) → Held c → row c c ≡ K.one) (before : (c j : ℕ) → Held c → j < c → row c j ≡ K.zero) (known : (c : ℕ) → Held c ⊎ (Held c → ⊥)) where
+  module _ (Held : ℕ → Type 0) (row : ℕ → V) (one : (c : ℕ) → Held c → row c c ≡ K.one)
+      (before : (c j : ℕ) → Held c → j < c → row c j ≡ K.zero) (known : (c : ℕ) → Held c ⊎ (Held c → ⊥)) where
     -- a row of a held column from here on
     pub record IsRowFrom (k : ℕ) (v : V) : Type 0 where
       pub column : ℕ
@@ -44,7 +47,8 @@ module _ (K : Field) where
     later k g h other = record { column = h.column; held = h.held; from = omega (arith, h.from, other); is = h.is }
 
     -- a row of this column is cleared to 0, and a later one stays
-    cleared_row : (k : ℕ) → Held k → (g : V) → (h : IsRowFrom k g) → (h.column ≡ k) ⊎ (h.column ≢ k) → IsInSpan K ℕ (IsRowFrom (suc k)) (cleared K ℕ k (row k) g)
+    cleared_row : (k : ℕ) → Held k → (g : V) → (h : IsRowFrom k g) → (h.column ≡ k) ⊎ (h.column ≢ k) →
+        IsInSpan K ℕ (IsRowFrom (suc k)) (cleared K ℕ k (row k) g)
     cleared_row k held g h (inl same) =
         let is : g ≡ row k = h.is ∙ ap row same in
         same_span K ℕ (IsRowFrom (suc k)) (λ y. K.zero) (cleared K ℕ k (row k) g)
@@ -56,7 +60,8 @@ module _ (K : Field) where
         mul_neg_one a = mul_neg K a K.one ∙ ap K.neg (K.mul_one a)
     cleared_row k held g h (inr other) =
         let g_later : IsRowFrom (suc k) g = later k g h other in
-        same_span K ℕ (IsRowFrom (suc k)) g (cleared K ℕ k (row k) g) (λ y. sym (cleared_none k (row k) g (zero_later k g g_later) y)) (IsInSpan-one K ℕ (IsRowFrom (suc k)) g g_later)
+        same_span K ℕ (IsRowFrom (suc k)) g (cleared K ℕ k (row k) g) (λ y. sym (cleared_none k (row k) g (zero_later k g g_later) y))
+        (IsInSpan-one K ℕ (IsRowFrom (suc k)) g g_later)
 
     -- a combination that is 0 at a column is one of rows behind it
     further : (k : ℕ) (v : V) → v k ≡ K.zero → IsInSpan K ℕ (IsRowFrom k) v → IsInSpan K ℕ (IsRowFrom (suc k)) v
@@ -66,7 +71,8 @@ module _ (K : Field) where
           (λ y. cleared_none k (row k) (sum_of K ℕ s.parts) (sym (s.sum k) ∙ none) y ∙ sym (s.sum y))
           (cleared_parts (IsRowFrom k) (IsRowFrom (suc k)) k (row k) (λ g h. cleared_row k held g h (cases_eq h.column k)) s.parts s.each)
       | inr free ↦
-          IsInSpan-trans K ℕ (IsRowFrom k) (IsRowFrom (suc k)) (λ g h. IsInSpan-one K ℕ (IsRowFrom (suc k)) g (later k g h (λ same. free (subst Held same h.held)))) v s
+          IsInSpan-trans K ℕ (IsRowFrom k) (IsRowFrom (suc k)) (λ g h. IsInSpan-one K ℕ (IsRowFrom (suc k)) g
+          (later k g h (λ same. free (subst Held same h.held)))) v s
     ]
 
     from_here : (k : ℕ) (v : V) → ((j : ℕ) → j < k → v j ≡ K.zero) → IsInSpan K ℕ (IsRowFrom 0) v → IsInSpan K ℕ (IsRowFrom k) v
@@ -78,5 +84,6 @@ module _ (K : Field) where
     leads_at_held v s k some none = elim (known k) [
       | inl held ↦ held
       | inr free ↦
-          absurd (some (IsInSpan-zero_at K ℕ (IsRowFrom k) k (λ g h. zero_later k g (later k g h (λ same. free (subst Held same h.held)))) v (from_here k v none s)))
+          absurd (some (IsInSpan-zero_at K ℕ (IsRowFrom k) k (λ g h. zero_later k g (later k g h (λ same. free (subst Held same h.held)))) v
+          (from_here k v none s)))
     ]

@@ -1,5 +1,6 @@
 -- Relations of a degree, terms and elements, item after item.
-use Rattle.std.proofs.Common.{◌≡◌, ◌≢◌, ◌+◌, ◌<◌, ◌≤◌, ◌==◌, ℕ, suc, Bool, true, false, cond, List, [], ◌∷◌, ◌++◌, All, append-nil, drop, get_or, length, length-append, take, refl, sym, ap, ap₂, ◌∙◌, arith, Some, None, subst}
+use Rattle.std.proofs.Common.{◌≡◌, ◌≢◌, ◌+◌, ◌<◌, ◌≤◌, ◌==◌, ℕ, suc, Bool, true, false, cond, List, [], ◌∷◌, ◌++◌, All, append-nil, drop, get_or}
+use Rattle.std.proofs.Common.{length, length-append, take, refl, sym, ap, ap₂, ◌∙◌, arith, Some, None, subst}
 use Rattle.std.specs.List.{flat_map}
 use Rattle.std.proofs.lemmas.Bool.{eqb-true, false_from_ne_true}
 use Rattle.std.proofs.lemmas.List.{append_assoc, drop_more, take_more}
@@ -14,7 +15,8 @@ use Rattle.ideal_laws.specs.Quantities.{terms_in}
 use Rattle.ideal_laws.proofs.Grown.{of_degree-append}
 
 -- one more polynomial
-pub terms_in-more : (fs : List (List Term)) (k : ℕ) (f : List Term) → k < length fs → f ≡ get_or fs k f → terms_in (take (k + 1) fs) ≡ terms_in (take k fs) + length f
+pub terms_in-more : (fs : List (List Term)) (k : ℕ) (f : List Term) → k < length fs → f ≡ get_or fs k f →
+    terms_in (take (k + 1) fs) ≡ terms_in (take k fs) + length f
 terms_in-more fs k f within is =
     ap terms_in (take_more fs k f within)
     ∙ ap length (flat_map-append (λ g. g) (take k fs) (get_or fs k f ∷ []))
@@ -30,7 +32,8 @@ few_elements ((t ∷ f) ∷ fs) h =
     omega (arith, rest, length-append f (flat_map (λ g. g) fs))
 
 -- one more relation
-pub of_degree-more : (weights : List ℕ) (d : ℕ) (fs : List (List Term)) (k : ℕ) (f : List Term) (b : Bool) → k < length fs → f ≡ get_or fs k f → of_degree weights d (f ∷ []) ≡ cond b (f ∷ []) []
+pub of_degree-more : (weights : List ℕ) (d : ℕ) (fs : List (List Term)) (k : ℕ) (f : List Term) (b : Bool) → k < length fs →
+    f ≡ get_or fs k f → of_degree weights d (f ∷ []) ≡ cond b (f ∷ []) []
     → of_degree weights d (take (k + 1) fs) ≡ of_degree weights d (take k fs) ++ cond b (f ∷ []) []
 of_degree-more weights d fs k f b within is has =
     ap (of_degree weights d) (take_more fs k f within)
@@ -38,7 +41,8 @@ of_degree-more weights d fs k f b within is has =
     ∙ ap (λ (gs : List (List Term)). of_degree weights d (take k fs) ++ gs) (ap (λ (g : List Term). of_degree weights d (g ∷ [])) (sym is) ∙ has)
 
 -- a relation by its leading word
-pub of_degree-lead : (weights : List ℕ) (d : ℕ) (f : List Term) (w : List ℕ) (b : Bool) → Some w ≡ lead_of f → b ≡ (degree_of weights w == d) → of_degree weights d (f ∷ []) ≡ cond b (f ∷ []) []
+pub of_degree-lead : (weights : List ℕ) (d : ℕ) (f : List Term) (w : List ℕ) (b : Bool) → Some w ≡ lead_of f →
+    b ≡ (degree_of weights w == d) → of_degree weights d (f ∷ []) ≡ cond b (f ∷ []) []
 of_degree-lead weights d [] w b e is = cc e
 of_degree-lead weights d (t ∷ f) w b e is =
     let word : w ≡ t.word = cc e in
@@ -53,7 +57,8 @@ length-of_degree weights d [] = omega arith
 length-of_degree weights d ([] ∷ fs) = let rest = length-of_degree weights d fs in omega (arith, rest)
 length-of_degree weights d ((t ∷ f) ∷ fs) = by_test (degree_of weights t.word == d) (length-of_degree weights d fs)
   where
-    by_test : (b : Bool) → length (of_degree weights d fs) ≤ length fs → length (cond b ((t ∷ f) ∷ of_degree weights d fs) (of_degree weights d fs)) ≤ suc (length fs)
+    by_test : (b : Bool) → length (of_degree weights d fs) ≤ length fs →
+        length (cond b ((t ∷ f) ∷ of_degree weights d fs) (of_degree weights d fs)) ≤ suc (length fs)
     by_test true rest = omega (arith, rest)
     by_test false rest = omega (arith, rest)
 
@@ -75,5 +80,7 @@ element_on-more xs row k terms l within =
 pub some_term : (w : List ℕ) (a : ℕ) → a ≢ 0 → term_at w a ≡ record { word = w; coefficient = a } ∷ []
 some_term w a ne = ap (λ (b : Bool). cond b [] (record { word = w; coefficient = a } ∷ [])) (false_from_ne_true (a == 0) (λ e. ne (eqb-true a 0 e)))
 
-pub pushed_term : (terms next : List Term) (word own : List ℕ) (a : ℕ) → a ≢ 0 → next ≡ terms ++ record { word = word; coefficient = a } ∷ [] → word ≡ own → next ≡ terms ++ term_at own a
-pushed_term terms next word own a ne e is = e ∙ ap (λ (w : List ℕ). terms ++ record { word = w; coefficient = a } ∷ []) is ∙ ap (λ (f : List Term). terms ++ f) (sym (some_term own a ne))
+pub pushed_term : (terms next : List Term) (word own : List ℕ) (a : ℕ) → a ≢ 0 →
+    next ≡ terms ++ record { word = word; coefficient = a } ∷ [] → word ≡ own → next ≡ terms ++ term_at own a
+pushed_term terms next word own a ne e is = e ∙ ap (λ (w : List ℕ). terms ++ record { word = w; coefficient = a } ∷ []) is
+    ∙ ap (λ (f : List Term). terms ++ f) (sym (some_term own a ne))

@@ -17,7 +17,8 @@ use Rattle.degree_loop.proofs.Asked.{first_before, first_behind, first_moved, no
 use Rattle.degree_loop.proofs.DegreeClosure.{cell_quantity, closed_quantity}
 
 -- the matrix
-pub is_matrix : (p : ℕ) (weights : List ℕ) (relations G : List (List Term)) (d : ℕ) (rows : List (List Term)) → AreRows p weights relations G d rows → (closed : ClosedColumns) → IsClosed G (words_of rows) closed
+pub is_matrix : (p : ℕ) (weights : List ℕ) (relations G : List (List Term)) (d : ℕ) (rows : List (List Term)) →
+    AreRows p weights relations G d rows → (closed : ClosedColumns) → IsClosed G (words_of rows) closed
     → (problem : Problem) → IsContestedProblem p closed rows d problem → IsMatrix p weights relations G d closed problem
 is_matrix p weights relations G d rows are closed h problem own = record {
   rows = rows;
@@ -41,17 +42,20 @@ module _ (p : ℕ) (weights : List ℕ) (relations : List (List Term)) (below : 
   rows_pass kind value h = first_before Q row_limit ((Columns, limits.columns) ∷ (Entries, limits.entries) ∷ (Cells, limits.cells) ∷ []) kind value h
 
   module _ (rows : List (List Term)) (are : AreRows p weights relations below.elements d rows) (few : NonePasses Q row_limit) where
-    pub close_passes : (kind : LimitKind) (value : ℕ) → IsFirstPassing (IsClosedQuantity below.elements rows) (closing_limits limits) kind value → IsFirstPassing Q (matrix_limits limits) kind value
+    pub close_passes : (kind : LimitKind) (value : ℕ) → IsFirstPassing (IsClosedQuantity below.elements rows) (closing_limits limits) kind
+        value → IsFirstPassing Q (matrix_limits limits) kind value
     close_passes kind value h =
         first_behind Q row_limit ((Columns, limits.columns) ∷ (Entries, limits.entries) ∷ (Cells, limits.cells) ∷ []) kind value few
         (first_before Q (closing_limits limits) cell_limit kind value
         (first_moved (IsClosedQuantity below.elements rows) Q (closed_quantity p weights relations below d rows are) (closing_limits limits) kind value h))
 
-    module _ (closed : ClosedColumns) (is_closed : IsClosed below.elements (words_of rows) closed) (within : NonePasses (IsClosedQuantity below.elements rows) (closing_limits limits)) where
+    module _ (closed : ClosedColumns) (is_closed : IsClosed below.elements (words_of rows) closed)
+        (within : NonePasses (IsClosedQuantity below.elements rows) (closing_limits limits)) where
       own_within : NonePasses Q (closing_limits limits)
       own_within = none_moved (IsClosedQuantity below.elements rows) Q (closed_quantity p weights relations below d rows are) (closing_limits limits) within
 
-      pub cells_pass : (kind : LimitKind) (value : ℕ) → IsFirstPassing (IsCellQuantity rows closed) cell_limit kind value → IsFirstPassing Q (matrix_limits limits) kind value
+      pub cells_pass : (kind : LimitKind) (value : ℕ) → IsFirstPassing (IsCellQuantity rows closed) cell_limit kind value →
+          IsFirstPassing Q (matrix_limits limits) kind value
       cells_pass kind value h =
           first_behind Q row_limit ((Columns, limits.columns) ∷ (Entries, limits.entries) ∷ (Cells, limits.cells) ∷ []) kind value few
           (first_behind Q (closing_limits limits) cell_limit kind value own_within
@@ -64,7 +68,8 @@ module _ (p : ℕ) (weights : List ℕ) (relations : List (List Term)) (below : 
           (none_moved (IsCellQuantity rows closed) Q (cell_quantity p weights relations below d rows are closed is_closed) cell_limit cells))
 
 -- the columns are within their limit
-pub few_columns : (p : ℕ) (weights : List ℕ) (relations : List (List Term)) → IsSetting p weights relations → (below : Elements) (d : ℕ) → IsBelow p weights relations d below → HasOneQuantity → (limits : Limits)
+pub few_columns : (p : ℕ) (weights : List ℕ) (relations : List (List Term)) → IsSetting p weights relations → (below : Elements) (d : ℕ) →
+    IsBelow p weights relations d below → HasOneQuantity → (limits : Limits)
     → (rows : List (List Term)) → AreRows p weights relations below.elements d rows → (closed : ClosedColumns) → IsClosed below.elements (words_of rows) closed
     → NonePasses (IsClosedQuantity below.elements rows) (closing_limits limits) → length closed.columns ≤ limits.columns
 few_columns p weights relations st below d is_below one limits rows are closed h within =

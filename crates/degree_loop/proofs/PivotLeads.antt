@@ -60,11 +60,13 @@ module _ (problem : Problem) (holder : ℕ → Option ℕ) (value : ℕ → ℕ 
   own_one c h = ap (of p modulus.two_or_more modulus.has_inverse) (own_at c c h.below ∙ (pivots.each c h.row h.below h.is).one)
 
   own_before : (c j : ℕ) → HasHolder c → j < c → own_row c j ≡ Kp.zero
-  own_before c j h lt = ap (of p modulus.two_or_more modulus.has_inverse) (own_at c j (omega (arith, lt, h.below)) ∙ (pivots.each c h.row h.below h.is).before j lt)
+  own_before c j h lt = ap (of p modulus.two_or_more modulus.has_inverse)
+      (own_at c j (omega (arith, lt, h.below)) ∙ (pivots.each c h.row h.below h.is).before j lt)
 
   known : (c : ℕ) → HasHolder c ⊎ (HasHolder c → ⊥)
   known c = elim (cases_lt c m) [
-    | inl lt ↦ option_cases (HasHolder c ⊎ (HasHolder c → ⊥)) (holder c) (λ none. inr (λ h. let e = sym none ∙ h.is in cc e)) (λ r is. inl (record { below = lt; row = r; is = is }))
+    | inl lt ↦ option_cases (HasHolder c ⊎ (HasHolder c → ⊥)) (holder c) (λ none. inr (λ h. let e = sym none ∙ h.is in cc e))
+        (λ r is. inl (record { below = lt; row = r; is = is }))
     | inr past ↦ inr (λ h. omega (arith, past, h.below))
   ]
 
@@ -74,14 +76,19 @@ module _ (problem : Problem) (holder : ℕ → Option ℕ) (value : ℕ → ℕ 
   led_row : (c : ℕ) (r : List ℕ) → Contains echelon r → Contains es (c, vec r) → LeadsAt c r
   led_row c r k n =
       let is_row : IsRow p m r = All-contains (IsRow p m) echelon r rref.each k in
-      record { one = one_there p m modulus (rows_of problem) echelon rref c r n is_row; before = none_before p m modulus (rows_of problem) echelon rref c r n is_row }
+      record {
+        one = one_there p m modulus (rows_of problem) echelon rref c r n is_row;
+        before = none_before p m modulus (rows_of problem) echelon rref c r n is_row;
+      }
 
   -- a held column leads a row of the form
   pub held_leads : (c : ℕ) → HasHolder c → (r : List ℕ) × Contains echelon r × LeadsAt c r
   held_leads c h =
       let inside : IsInRowSpan p modulus (rows_of problem) (own_row c) =
-      (pivots.span modulus (own_row c)).0 (IsInSpan-one Kp ℕ (OneOf p modulus (held_rows m holder value)) (own_row c) (one_held p modulus m holder value c h.row h.below h.is)) in
-      let e = first_leads p m modulus (rows_of problem) echelon rref (own_row c) inside c h.below (λ zero. one_is_other (sym (own_one c h) ∙ zero)) (λ j lt. own_before c j h lt) in
+      (pivots.span modulus (own_row c)).0 (IsInSpan-one Kp ℕ (OneOf p modulus (held_rows m holder value)) (own_row c)
+      (one_held p modulus m holder value c h.row h.below h.is)) in
+      let e = first_leads p m modulus (rows_of problem) echelon rref (own_row c) inside c h.below
+      (λ zero. one_is_other (sym (own_one c h) ∙ zero)) (λ j lt. own_before c j h lt) in
       let r = of_lead vec rref.leads echelon e.0 e.1 in
       let there : Contains es (c, vec r.0) = subst (Contains es) (λ i. (e.2 i, r.2 i)) e.1 in
       (r.0, r.1, led_row c r.0 r.1 there)
@@ -91,7 +98,8 @@ module _ (problem : Problem) (holder : ℕ → Option ℕ) (value : ℕ → ℕ 
   row_leads r k =
       let l = with_lead vec rref.leads echelon rref.count r k in
       let own = led_row l.0 r k l.1 in
-      let inside : IsInRowSpan p modulus (held_rows m holder value) (vec r) = (pivots.span modulus (vec r)).1 (row_combined p m modulus (rows_of problem) echelon rref (l.0, vec r) l.1) in
+      let inside : IsInRowSpan p modulus (held_rows m holder value) (vec r) =
+      (pivots.span modulus (vec r)).1 (row_combined p m modulus (rows_of problem) echelon rref (l.0, vec r) l.1) in
       let from : IsInSpan Kp ℕ (IsRowFrom Kp HasHolder own_row own_one own_before known 0) (vec r) =
       IsInSpan-trans Kp ℕ (OneOf p modulus (held_rows m holder value)) (IsRowFrom Kp HasHolder own_row own_one own_before known 0)
       (λ g one. (let f = held_one p modulus m holder value g one in

@@ -1,5 +1,6 @@
 -- Runs whose events the schedule generator chooses.
-use Rattle.std.proofs.Common.{◌≡◌, ◌+◌, ◌-◌, ◌*◌, ◌<◌, ◌≤◌, ◌++◌, ◌∷◌, [], ℕ, true, List, Some, length, refl, sym, ap, ◌∙◌, arith, append_assoc, append-nil, subst}
+use Rattle.std.proofs.Common.{◌≡◌, ◌+◌, ◌-◌, ◌*◌, ◌<◌, ◌≤◌, ◌++◌, ◌∷◌, [], ℕ, true, List, Some, length, refl, sym, ap, ◌∙◌, arith, append_assoc}
+use Rattle.std.proofs.Common.{append-nil, subst}
 use Rattle.std.specs.List.{sum_by}
 use Rattle.back_reduce.specs.declared.problem.Problem.{Problem}
 use Rattle.pivot_core.specs.declared.event.Event.{Event}
@@ -52,7 +53,8 @@ abbrev pub steps_made : State → ℕ
 steps_made s = sum_by (λ (v : Sight). v.steps) s.views
 
 -- a step of the next kind is one more
-pub one_more_step : (problem : Problem) (crew : ℕ) (s : State) (e : Event) → Ranges problem crew s → e.seat < crew → is_next e.kind (view_at problem s e.seat).phase ≡ true
+pub one_more_step : (problem : Problem) (crew : ℕ) (s : State) (e : Event) → Ranges problem crew s → e.seat < crew →
+    is_next e.kind (view_at problem s e.seat).phase ≡ true
     → steps_made (after_event problem s e) ≡ steps_made s + 1
 one_more_step problem crew s e ranges lt next =
     let v : Sight = view_at problem s e.seat in
@@ -61,7 +63,8 @@ one_more_step problem crew s e ranges lt next =
     let there : e.seat < length s.views = omega (arith, lt, ranges.count) in
     let change = made_change problem crew s e some.0 ranges lt in
     let sums = change.sums (λ (u : Sight). u.steps) in
-    let same : steps_made (after_event problem s e) ≡ steps_made (with_step problem s e.seat (Some some.0)) = ap steps_made (makes_state problem s e some.0 there next some.1) in
+    let same : steps_made (after_event problem s e) ≡ steps_made (with_step problem s e.seat (Some some.0)) =
+    ap steps_made (makes_state problem s e some.0 there next some.1) in
     omega (arith, sums, same, one_step (move_of problem v old some.0 some.1))
 
 -- a machine after events from which on the number chooses the rest of the schedule
@@ -84,15 +87,19 @@ module _ (laws : ClaimedPivotsLaw) (counts : StepCounts) (problem : Problem) (cr
     pub so_far_views : length core.state.views ≡ crew
     so_far_views = so_far_ranges.count
 
-    module _ (found : ℕ) (is : found ≡ next_number number) (e : Event) (lt : e.seat < crew) (chosen : IsChosen core.problem core.state found e) (after : Machine) (state_is : after.state ≡ after_event core.problem core.state e) where
+    module _ (found : ℕ) (is : found ≡ next_number number) (e : Event) (lt : e.seat < crew)
+        (chosen : IsChosen core.problem core.state found e) (after : Machine)
+        (state_is : after.state ≡ after_event core.problem core.state e) where
       own_chosen : IsChosen problem core.state (next_number number) e
-      own_chosen = subst (λ (q : Problem). IsChosen q core.state (next_number number) e) h.problem_is (subst (λ (s : ℕ). IsChosen core.problem core.state s e) is chosen)
+      own_chosen = subst (λ (q : Problem). IsChosen q core.state (next_number number) e) h.problem_is
+          (subst (λ (s : ℕ). IsChosen core.problem core.state s e) is chosen)
 
       own_state : after.state ≡ after_event problem core.state e
       own_state = state_is ∙ ap (λ (q : Problem). after_event q core.state e) h.problem_is
 
       reached_next : after.state ≡ state_after problem crew (h.events ++ e ∷ [])
-      reached_next = own_state ∙ ap (λ (s : State). after_event problem s e) h.reached ∙ sym (after_events-append problem (opening problem crew) h.events (e ∷ []))
+      reached_next = own_state ∙ ap (λ (s : State). after_event problem s e) h.reached
+          ∙ sym (after_events-append problem (opening problem crew) h.events (e ∷ []))
 
       pub next_so_far : after.problem ≡ core.problem → after.crew ≡ core.crew → IsSoFar problem crew schedule after found
       next_so_far problem_is crew_is = record {
@@ -102,19 +109,28 @@ module _ (laws : ClaimedPivotsLaw) (counts : StepCounts) (problem : Problem) (cr
         reached = reached_next;
         rest = λ more k.
             subst (IsScheduled problem (opening problem crew) schedule) (sym (append_assoc h.events (e ∷ []) more))
-            (h.rest (e ∷ more) (own_chosen, subst (λ (s : State). IsScheduled problem s (next_number number) more) own_state (subst (λ (n : ℕ). IsScheduled problem after.state n more) is k)));
+            (h.rest (e ∷ more) (
+              own_chosen,
+              subst (λ (s : State). IsScheduled problem s (next_number number) more) own_state
+                  (subst (λ (n : ℕ). IsScheduled problem after.state n more) is k),
+            ));
       }
 
       pub fewer_left : most_steps problem crew - steps_made after.state < most_steps problem crew - steps_made core.state
       fewer_left =
-          let one : steps_made after.state ≡ steps_made core.state + 1 = ap steps_made own_state ∙ one_more_step problem crew core.state e so_far_ranges lt own_chosen.kind in
-          let most : steps_made after.state ≤ most_steps problem crew = subst (λ (s : State). steps_made s ≤ most_steps problem crew) (sym reached_next) (counts problem crew setting (h.events ++ e ∷ [])).all_steps in
+          let one : steps_made after.state ≡ steps_made core.state + 1 = ap steps_made own_state
+          ∙ one_more_step problem crew core.state e so_far_ranges lt own_chosen.kind in
+          let most : steps_made after.state ≤ most_steps problem crew =
+          subst (λ (s : State). steps_made s ≤ most_steps problem crew) (sym reached_next)
+          (counts problem crew setting (h.events ++ e ∷ [])).all_steps in
           omega (arith, one, most)
 
-    pub ended_schedule : HasEnded core.problem core.state → (f : Finished) → f.problem ≡ core.problem → f.logs ≡ logs_of core.state → IsScheduledRun problem crew schedule f
+    pub ended_schedule : HasEnded core.problem core.state → (f : Finished) → f.problem ≡ core.problem → f.logs ≡ logs_of core.state →
+        IsScheduledRun problem crew schedule f
     ended_schedule ended f problem_is logs = record {
       problem_is = problem_is ∙ h.problem_is;
       events = h.events;
-      scheduled = subst (IsScheduled problem (opening problem crew) schedule) (append-nil h.events) (h.rest [] (subst (λ (q : Problem). HasEnded q core.state) h.problem_is ended));
+      scheduled = subst (IsScheduled problem (opening problem crew) schedule) (append-nil h.events)
+          (h.rest [] (subst (λ (q : Problem). HasEnded q core.state) h.problem_is ended));
       logs = logs ∙ ap logs_of h.reached;
     }

@@ -1,5 +1,6 @@
 -- Calls that won.
-use Rattle.std.proofs.Common.{◌≡◌, ◌≢◌, ◌<◌, ◌==◌, ℕ, suc, true, false, Bool, All, AllPairs, Contains, List, [], ◌∷◌, cond, length, get_or, refl, sym, ap, ◌∙◌, arith, inl, inr}
+use Rattle.std.proofs.Common.{◌≡◌, ◌≢◌, ◌<◌, ◌==◌, ℕ, suc, true, false, Bool, All, AllPairs, Contains, List, [], ◌∷◌, cond, length, get_or, refl, sym}
+use Rattle.std.proofs.Common.{ap, ◌∙◌, arith, inl, inr}
 use Rattle.std.specs.List.{sum_by}
 use Rattle.std.proofs.lemmas.Bool.{cases_eq, eqb-true}
 use Rattle.std.proofs.lemmas.List.Elements.{All-cons, All-nil}
@@ -30,7 +31,8 @@ won_from c k some = by_answer k.answer some
     by_test true on h = eqb-true k.column c on
     by_test false on h = absurd (omega (arith, h))
 
-    by_answer : (a : Answer) → 0 < (elim a as (λ b. ℕ) [ answer.Won ↦ cond (k.column == c) 1 0 | answer.Lost row stamp ↦ 0 ]) → (a ≡ answer.Won) × (k.column ≡ c)
+    by_answer : (a : Answer) → 0 < (elim a as (λ b. ℕ) [ answer.Won ↦ cond (k.column == c) 1 0 | answer.Lost row stamp ↦ 0 ]) →
+        (a ≡ answer.Won) × (k.column ≡ c)
     by_answer answer.Won h = (refl, by_test (k.column == c) refl h)
     by_answer (answer.Lost row stamp) h = absurd (omega (arith, h))
 
@@ -42,7 +44,11 @@ taken (l ∷ done) k there won e = elim (Contains-cases l done k there) [
   | inr rest ↦ by_answer l.answer (k.column) e (λ f. taken done k rest won f)
 ]
   where
-    by_answer : (a : Answer) (c : ℕ) → (elim a as (λ b. Answer) [ answer.Won ↦ cond (l.column == c) (answer.Lost l.row l.stamp) (answer_after done c) | answer.Lost row stamp ↦ answer_after done c ]) ≡ answer.Won
+    by_answer : (a : Answer) (c : ℕ) → (elim a as (λ b. Answer) [
+      | answer.Won ↦
+          cond (l.column == c) (answer.Lost l.row l.stamp) (answer_after done c)
+      | answer.Lost row stamp ↦ answer_after done c
+    ]) ≡ answer.Won
         → (answer_after done c ≡ answer.Won → ⊥) → ⊥
     by_answer answer.Won c f more = by_test (l.column == c) f more
       where
@@ -56,7 +62,11 @@ taken (l ∷ done) k there won e = elim (Contains-cases l done k there) [
         let l_won : l.answer ≡ answer.Won = ap (λ (j : Call). j.answer) is ∙ won in
         let at : (l.column == k.column) ≡ true = ap (λ (j : Call). j.column == k.column) is ∙ same_tested k.column in
         let lost : answer_after (l ∷ done) k.column ≡ answer.Lost l.row l.stamp =
-        ap (λ (a : Answer). elim a as (λ b. Answer) [ answer.Won ↦ cond (l.column == k.column) (answer.Lost l.row l.stamp) (answer_after done k.column) | answer.Lost row stamp ↦ answer_after done k.column ]) l_won
+        ap (λ (a : Answer). elim a as (λ b. Answer) [
+          | answer.Won ↦ cond (l.column == k.column) (answer.Lost l.row l.stamp)
+              (answer_after done k.column)
+          | answer.Lost row stamp ↦ answer_after done k.column
+        ]) l_won
         ∙ ap (λ (b : Bool). cond b (answer.Lost l.row l.stamp) (answer_after done k.column)) at in
         let no = sym lost ∙ e in
         cc no
@@ -64,10 +74,12 @@ taken (l ∷ done) k there won e = elim (Contains-cases l done k there) [
 later_apart : (k : Call) → IsWon k → (done ks : List Call) → Contains done k → ReplaysAfter done ks → All (λ l. IsWon l → k.column ≢ l.column) ks
 later_apart k won done [] there h = All-nil (λ l. IsWon l → k.column ≢ l.column)
 later_apart k won done (l ∷ ks) there h =
-    All-cons (λ j. IsWon j → k.column ≢ j.column) l ks (λ l_won same. taken done k there won (ap (answer_after done) same ∙ sym h.0 ∙ l_won)) (later_apart k won (l ∷ done) ks (Contains-more l done k there) h.1)
+    All-cons (λ j. IsWon j → k.column ≢ j.column) l ks (λ l_won same. taken done k there won
+    (ap (answer_after done) same ∙ sym h.0 ∙ l_won)) (later_apart k won (l ∷ done) ks (Contains-more l done k there) h.1)
 
 -- in a history no column is won twice
 pub won_apart : (done ks : List Call) → ReplaysAfter done ks → AllPairs (λ k l. IsWon k → IsWon l → k.column ≢ l.column) ks
 won_apart done [] h = AllPairs-nil (λ (k l : Call). IsWon k → IsWon l → k.column ≢ l.column)
 won_apart done (k ∷ ks) h =
-    AllPairs-cons (λ j l. IsWon j → IsWon l → j.column ≢ l.column) k ks (λ j d within won l_won. later_apart k won (k ∷ done) ks (Contains-first k done) h.1 j d within l_won) (won_apart (k ∷ done) ks h.1)
+    AllPairs-cons (λ j l. IsWon j → IsWon l → j.column ≢ l.column) k ks
+    (λ j d within won l_won. later_apart k won (k ∷ done) ks (Contains-first k done) h.1 j d within l_won) (won_apart (k ∷ done) ks h.1)

@@ -42,8 +42,10 @@ pub record AreScheduledCalls (workers schedule : ℕ) (problem : Problem) (calls
   pub run : AreRunCalls workers problem calls
   pub scheduled : IsScheduled problem (opening problem (crew_of workers problem.n)) schedule run.events
 
--- the matrix of the degree, and all calls of an ended run of the machine of claims on it, by rising stamp and then by rising seat
-pub record IsRunAccount (workers p : ℕ) (weights : List ℕ) (relations G : List (List Term)) (d : ℕ) (account : Account) : Type 0 where
+-- the matrix of the degree, and all calls of an ended run of the machine of claims on it, by rising stamp and then by
+-- rising seat
+pub record IsRunAccount (workers p : ℕ) (weights : List ℕ) (relations G : List (List Term)) (d : ℕ)
+    (account : Account) : Type 0 where
   pub closed : ClosedColumns
   pub problem : Problem
   pub matrix : IsMatrix p weights relations G d closed problem
@@ -54,6 +56,7 @@ pub record IsRunAccount (workers p : ℕ) (weights : List ℕ) (relations G : Li
   pub calls : account.calls ≡ merged (logs_of (state_after problem (crew_of workers problem.n) events))
 
 -- that of the engine of the one-thread machine: the generator that begins with the schedule has chosen the events
-pub record IsCoreAccount (workers schedule p : ℕ) (weights : List ℕ) (relations G : List (List Term)) (d : ℕ) (account : Account) : Type 0 where
+pub record IsCoreAccount (workers schedule p : ℕ) (weights : List ℕ) (relations G : List (List Term)) (d : ℕ)
+    (account : Account) : Type 0 where
   pub run : IsRunAccount workers p weights relations G d account
   pub scheduled : IsScheduled run.problem (opening run.problem (crew_of workers run.problem.n)) schedule run.events

@@ -1,5 +1,6 @@
 -- What the calls of a degree tell.
-use Rattle.std.specs.Prelude.{ℕ, ◌≡◌, ◌≢◌, ◌↔◌, ◌⊎◌, ◌<◌, ◌≤◌, List, [], All, AllPairs, Contains, Some, length, slice_index_or}
+use Rattle.std.specs.Prelude.{ℕ, ◌≡◌, ◌≢◌, ◌↔◌, ◌⊎◌, ◌<◌, ◌≤◌, List, [], All, AllPairs, Contains, Some, length}
+use Rattle.std.specs.Prelude.{slice_index_or}
 use Rattle.free_poly.specs.declared.term.Term.{Term}
 use Rattle.free_poly.specs.Poly.{lead_of}
 use Rattle.ideal_laws.specs.declared.account.Account.{Account}
@@ -43,8 +44,12 @@ pub record IsClaimHistory (crew : ℕ) (elements : List (List Term)) (account : 
   pub above : All IsAboveAnswer account.calls
   pub leads : (w : List ℕ) → IsLeadOf elements w ↔ IsWonWord account w
 
--- the account of an ended run tells the matrix of the degree and the calls of its crew, of which the won ones name exactly the leading words
+-- the account of an ended run tells the matrix of the degree and the calls of its crew, of which the won ones name
+-- exactly the leading words
 abbrev pub RunAccountsTell : Type 0
-RunAccountsTell = (workers p : ℕ) (weights : List ℕ) (relations : List (List Term)) → IsSetting p weights relations → 1 ≤ workers → workers ≤ 64 → (d : ℕ) (G : List (List Term)) → AreLower p weights relations d G
-    → (account : Account) → IsRunAccount workers p weights relations G d account → (elements : List (List Term)) → IsReducedBasis p weights relations d elements
+RunAccountsTell = (workers p : ℕ) (weights : List ℕ) (relations : List (List Term)) → IsSetting p weights relations
+    → 1 ≤ workers →
+    workers ≤ 64 → (d : ℕ) (G : List (List Term)) → AreLower p weights relations d G
+    → (account : Account) → IsRunAccount workers p weights relations G d account → (elements : List (List Term)) →
+    IsReducedBasis p weights relations d elements
     → TellsMatrix p weights relations G d account × IsClaimHistory (crew_of workers account.rows) elements account

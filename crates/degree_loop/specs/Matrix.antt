@@ -11,7 +11,8 @@ use Rattle.back_reduce.specs.Problems.{rows_of}
 use Rattle.row_laws.specs.Contested.{AreContestedRows}
 
 -- the rows of the degree are closed, and this is what they leave at the contested columns
-pub record IsMatrix (p : ℕ) (weights : List ℕ) (relations G : List (List Term)) (d : ℕ) (closed : ClosedColumns) (problem : Problem) : Type 0 where
+pub record IsMatrix (p : ℕ) (weights : List ℕ) (relations G : List (List Term)) (d : ℕ) (closed : ClosedColumns)
+    (problem : Problem) : Type 0 where
   pub rows : List (List Term)
   pub are_closed : AreClosed p weights relations G d rows closed.columns closed.reducers
   pub modulus : problem.modulus ≡ p
@@ -19,7 +20,8 @@ pub record IsMatrix (p : ℕ) (weights : List ℕ) (relations G : List (List Ter
   pub contested : AreContestedRows p closed.columns closed.reducers rows (rows_of problem)
 
 -- the number of the rows of a degree, and its contested columns by falling word
-pub record TellsMatrix (p : ℕ) (weights : List ℕ) (relations G : List (List Term)) (d : ℕ) (account : Account) : Type 0 where
+pub record TellsMatrix (p : ℕ) (weights : List ℕ) (relations G : List (List Term)) (d : ℕ)
+    (account : Account) : Type 0 where
   pub rows : List (List Term)
   pub columns : List (List ℕ)
   pub reducers : List (Option (List Term))

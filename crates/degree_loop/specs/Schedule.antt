@@ -14,7 +14,8 @@ use Rattle.pivot_core.specs.Runs.{HasEnded, State, after_event, after_events, op
 abbrev pub going_seats : Problem → State → List ℕ
 going_seats problem s = filter (λ i. is_ended (view_at problem s i).phase == 0) (range_with_len 0 (length s.views))
 
--- the number chooses one of the seats that have not ended, by its upper half, and the event is the next step of this seat
+-- the number chooses one of the seats that have not ended, by its upper half, and the event is the next step of this
+-- seat
 pub record IsChosen (problem : Problem) (s : State) (number : ℕ) (e : Event) : Type 0 where
   pub some : going_seats problem s ≢ []
   pub seat : e.seat ≡ slice_index (going_seats problem s) ((number / 65536) % length (going_seats problem s))
@@ -23,7 +24,8 @@ pub record IsChosen (problem : Problem) (s : State) (number : ℕ) (e : Event) :
 -- events that one number after another chooses, until every view has ended
 abbrev pub IsScheduled : Problem → State → ℕ → List Event → Type 0
 IsScheduled problem s number [] = HasEnded problem s
-IsScheduled problem s number (e ∷ es) = IsChosen problem s (next_number number) e × IsScheduled problem (after_event problem s e) (next_number number) es
+IsScheduled problem s number (e ∷ es) = IsChosen problem s (next_number number) e
+    × IsScheduled problem (after_event problem s e) (next_number number) es
 
 -- what a run of the crew on the problem leaves, whose events the generator chooses that begins with the number
 pub record IsScheduledRun (problem : Problem) (crew number : ℕ) (f : Finished) : Type 0 where
@@ -34,4 +36,6 @@ pub record IsScheduledRun (problem : Problem) (crew number : ℕ) (f : Finished)
 
 -- a schedule leads to one state
 abbrev pub LeadsToOneState : Type 0
-LeadsToOneState = (problem : Problem) (s : State) (number : ℕ) (events others : List Event) → IsScheduled problem s number events → IsScheduled problem s number others → after_events problem s events ≡ after_events problem s others
+LeadsToOneState = (problem : Problem) (s : State) (number : ℕ) (events others : List Event) →
+    IsScheduled problem s number events →
+    IsScheduled problem s number others → after_events problem s events ≡ after_events problem s others

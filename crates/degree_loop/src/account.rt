@@ -14,7 +14,8 @@ pub fn account_of(
     calls: Items<Call>,
 ) -> Result<Account, NoMemory>
     ensures rows { IfOk result (λ account. account.rows ≡ rows) }
-    ensures columns { IfOk result (λ account. account.columns ≡ contested_words closed.now.columns closed.now.reducers) }
+    ensures columns { IfOk result (λ account. account.columns
+        ≡ contested_words closed.now.columns closed.now.reducers) }
     ensures calls { IfOk result (λ account. account.calls ≡ calls) }
 {
     let columns = words_copied(alloc, closed.contested())?;

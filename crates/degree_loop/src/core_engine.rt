@@ -48,7 +48,8 @@ impl DegreeEngine for CoreEngine {
 
     ghost kinds = { λ engine. engine_limits engine.limits };
 
-    ghost may_account = { λ engine p given below d account. IsCoreAccount engine.workers engine.schedule p given.alphabet.weights given.relations below.elements d account };
+    ghost may_account = { λ engine p given below d account. IsCoreAccount engine.workers engine.schedule p
+        given.alphabet.weights given.relations below.elements d account };
 
     fn degree<R: Threads + Sync>(
         &mut self,

@@ -40,14 +40,18 @@ pub fn elements_of<R: Threads + Sync, P: PivotRows>(
     requires weights { below.now.weights ≡ presentation.now.alphabet.weights }
     requires reduced { IsReducedUpto field.now presentation.now.relations below.now }
     requires residues { All (HasResidues field.now) presentation.now.relations }
-    requires matrix { IsMatrix field.now presentation.now.alphabet.weights presentation.now.relations below.now.elements d closed.now (P.given pivots.now) }
+    requires matrix { IsMatrix field.now presentation.now.alphabet.weights presentation.now.relations
+        below.now.elements d closed.now (P.given pivots.now) }
 
-    ensures elements { IfOk result (IsReducedBasis field.now presentation.now.alphabet.weights presentation.now.relations d) }
+    ensures elements { IfOk result (IsReducedBasis field.now presentation.now.alphabet.weights
+        presentation.now.relations d) }
     ensures few { IfOk result (λ elements. length elements ≤ most) }
-    ensures within { OnOk result (NonePasses (IsQuantity field.now presentation.now.alphabet.weights presentation.now.relations below.now d) ((Terms, most) ∷ [])) }
+    ensures within { OnOk result (NonePasses (IsQuantity field.now presentation.now.alphabet.weights
+        presentation.now.relations below.now d) ((Terms, most) ∷ [])) }
 
     ensures limit { (kind : LimitKind) (degree value : ℕ) → result ≡ Err (EngineFault.Limit kind degree value)
-        → (degree ≡ d) × IsFirstPassing (IsQuantity field.now presentation.now.alphabet.weights presentation.now.relations below.now d) ((Terms, most) ∷ []) kind value }
+        → (degree ≡ d) × IsFirstPassing (IsQuantity field.now presentation.now.alphabet.weights
+        presentation.now.relations below.now d) ((Terms, most) ∷ []) kind value }
 {
     lower_law();
     rows_law();

@@ -44,11 +44,14 @@ pub fn matrix_of<R: Threads + Sync>(
     requires residues { All (HasResidues field.now) presentation.now.relations }
     requires limits { AreLimits limits.now }
 
-    ensures matrix { IfOk result (λ matrix. IsMatrix field.now presentation.now.alphabet.weights presentation.now.relations below.now.elements d matrix.closed matrix.problem) }
-    ensures within { OnOk result (NonePasses (IsQuantity field.now presentation.now.alphabet.weights presentation.now.relations below.now d) (matrix_limits limits.now)) }
+    ensures matrix { IfOk result (λ matrix. IsMatrix field.now presentation.now.alphabet.weights
+        presentation.now.relations below.now.elements d matrix.closed matrix.problem) }
+    ensures within { OnOk result (NonePasses (IsQuantity field.now presentation.now.alphabet.weights
+        presentation.now.relations below.now d) (matrix_limits limits.now)) }
 
     ensures limit { (kind : LimitKind) (degree value : ℕ) → result ≡ Err (EngineFault.Limit kind degree value)
-        → (degree ≡ d) × IsFirstPassing (IsQuantity field.now presentation.now.alphabet.weights presentation.now.relations below.now d) (matrix_limits limits.now) kind value }
+        → (degree ≡ d) × IsFirstPassing (IsQuantity field.now presentation.now.alphabet.weights
+        presentation.now.relations below.now d) (matrix_limits limits.now) kind value }
 {
     lower_law();
     quantities_law();

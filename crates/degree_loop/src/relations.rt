@@ -29,7 +29,8 @@ pub(crate) fn relations_of_degree(
     d: u32,
 ) -> Result<Vec<Poly>, NoMemory>
     requires { d ≤ 64 }
-    ensures { IfOk result (λ found. found.items ≡ of_degree presentation.now.alphabet.weights d presentation.now.relations) }
+    ensures { IfOk result (λ found. found.items ≡ of_degree presentation.now.alphabet.weights d
+        presentation.now.relations) }
 {
     let mut found = Vec::new(alloc);
     for relation in presentation.relations.as_slice() {

@@ -30,12 +30,15 @@ pub(crate) fn rows_of_degree(
     requires factor_free { IsFactorFree below.now.elements }
     requires residues { All (HasResidues field.now) below.now.elements }
 
-    ensures rows { IfOk result (λ rows. AreRows field.now presentation.now.alphabet.weights presentation.now.relations below.now.elements d rows.items) }
+    ensures rows { IfOk result (λ rows. AreRows field.now presentation.now.alphabet.weights
+        presentation.now.relations below.now.elements d rows.items) }
     ensures few { IfOk result (λ rows. length rows.items ≤ most) }
-    ensures within { OnOk result (NonePasses (IsQuantity field.now presentation.now.alphabet.weights presentation.now.relations below.now d) ((Rows, most) ∷ [])) }
+    ensures within { OnOk result (NonePasses (IsQuantity field.now presentation.now.alphabet.weights
+        presentation.now.relations below.now d) ((Rows, most) ∷ [])) }
 
     ensures limit { (kind : LimitKind) (degree value : ℕ) → result ≡ Err (EngineFault.Limit kind degree value)
-        → (degree ≡ d) × IsFirstPassing (IsQuantity field.now presentation.now.alphabet.weights presentation.now.relations below.now d) ((Rows, most) ∷ []) kind value }
+        → (degree ≡ d) × IsFirstPassing (IsQuantity field.now presentation.now.alphabet.weights
+        presentation.now.relations below.now d) ((Rows, most) ∷ []) kind value }
 {
     let given = count_of_degree(presentation, d);
     let found = obstructions_within(alloc, below, d, given, most)?;
@@ -59,7 +62,9 @@ fn obstructions_within(
     ensures within { IfOk result (λ found. given + length found.items ≤ most) }
 
     ensures limit { (kind : LimitKind) (degree value : ℕ) → result ≡ Err (EngineFault.Limit kind degree value)
-        → (degree ≡ d) × (kind ≡ Rows) × (value ≡ most + 1) × ((overlaps : List Overlap) × AreObstructions below.now.weights below.now.elements d overlaps × (most < given + length overlaps)) }
+        → (degree ≡ d) × (kind ≡ Rows) × (value ≡ most + 1)
+        × ((overlaps : List Overlap) × AreObstructions below.now.weights below.now.elements d overlaps
+        × (most < given + length overlaps)) }
 {
     match obstructions(alloc, below, d, most.saturating_sub(given)) {
         Ok(found) => {
@@ -92,7 +97,8 @@ fn overlap_rows(
 ) -> Result<Vec<Poly>, NoMemory>
     requires obstructions { All (IsOf below.now.weights below.now.elements) found.now }
     requires residues { All (HasResidues field.now) below.now.elements }
-    ensures { IfOk result (λ rows. AllZip (IsRowFor field.now below.now.weights below.now.elements) found.now rows.items) }
+    ensures { IfOk result (λ rows. AllZip (IsRowFor field.now below.now.weights below.now.elements) found.now
+        rows.items) }
 {
     let mut rows = Vec::with_capacity(alloc, found.len())?;
     for obstruction in found {

@@ -32,7 +32,8 @@ impl DegreeEngine for SeqEngine {
 
     ghost kinds = { λ engine. engine_limits engine.limits };
 
-    ghost may_account = { λ _ p given below d account. IsSeqAccount p given.alphabet.weights given.relations below.elements d account };
+    ghost may_account = { λ _ p given below d account. IsSeqAccount p given.alphabet.weights given.relations
+        below.elements d account };
 
     fn degree<R: Threads + Sync>(
         &mut self,

@@ -1,5 +1,6 @@
 -- Steps of the numbers and lists of the words of all degrees.
-use Rattle.std.proofs.Common.{◌≡◌, ◌≢◌, ◌+◌, ◌-◌, ◌^◌, ◌<◌, ◌≤◌, ℕ, zero, suc, Bool, cond, leb, List, [], ◌∷◌, ◌++◌, map, length, take, get_or, set, min, refl, sym, ap, ◌∙◌, inl, inr, arith, subst, length-append, append-nil, add-one, add-zero, zero-add}
+use Rattle.std.proofs.Common.{◌≡◌, ◌≢◌, ◌+◌, ◌-◌, ◌^◌, ◌<◌, ◌≤◌, ℕ, zero, suc, Bool, cond, leb, List, [], ◌∷◌, ◌++◌, map, length, take, get_or, set}
+use Rattle.std.proofs.Common.{min, refl, sym, ap, ◌∙◌, inl, inr, arith, subst, length-append, append-nil, add-one, add-zero, zero-add}
 use Rattle.std.specs.List.{Contains, flat_map, range_with_len}
 use Rattle.std.proofs.lemmas.Bool.{cases_Bool, cases_eq, le-leb, leb-true, lt-leb}
 use Rattle.std.proofs.lemmas.List.{get_or_append_left, get_or_push, get_or-set_other, get_or-set_same, length-map, length-set, length_push, take_more}
@@ -27,7 +28,8 @@ module _ {X Y : Type 0} (f : X → List Y) where
 
   flat_map-same : (g : X → List Y) (xs : List X) → ((x : X) → Contains xs x → f x ≡ g x) → flat_map f xs ≡ flat_map g xs
   flat_map-same g [] h = refl
-  flat_map-same g (x ∷ xs) h = let first : f x ≡ g x = h x (Contains-first x xs) in let rest = flat_map-same g xs (λ y m. h y (Contains-more x xs y m)) in λ i. first i ++ rest i
+  flat_map-same g (x ∷ xs) h = let first : f x ≡ g x = h x (Contains-first x xs) in let rest =
+      flat_map-same g xs (λ y m. h y (Contains-more x xs y m)) in λ i. first i ++ rest i
 
 pub flat_map-range : {Y : Type 0} (f : ℕ → List Y) (n : ℕ) → flat_map f (range_with_len 0 (n + 1)) ≡ flat_map f (range_with_len 0 n) ++ f n
 flat_map-range f n = ap (flat_map f) (range_more n) ∙ flat_map-push f (range_with_len 0 n) n
@@ -43,7 +45,8 @@ module _ (weights : List ℕ) (W : ℕ → List (List ℕ)) (k x : ℕ) where
   before_letter n = flat_map (with_letter weights W k) (range_with_len 0 n)
 
   -- one more letter, whose words are counted up to a most
-  pub count_more : (most count entry : ℕ) → weight_of weights x ≤ k → count ≡ min (length (before_letter x)) most → entry ≡ min (length (W (k - weight_of weights x))) most
+  pub count_more : (most count entry : ℕ) → weight_of weights x ≤ k → count ≡ min (length (before_letter x)) most →
+      entry ≡ min (length (W (k - weight_of weights x))) most
       → min (count + entry) most ≡ min (length (before_letter (x + 1))) most
   count_more most count entry le c e =
       let sizes : length (before_letter (x + 1)) ≡ length (before_letter x) + length (W (k - weight_of weights x)) =
@@ -53,34 +56,41 @@ module _ (weights : List ℕ) (W : ℕ → List (List ℕ)) (k x : ℕ) where
 
   pub count_same : (most count : ℕ) → k < weight_of weights x → count ≡ min (length (before_letter x)) most → count ≡ min (length (before_letter (x + 1))) most
   count_same most count lt c =
-      c ∙ ap (λ (ws : List (List ℕ)). min (length ws) most) (sym (flat_map-range (with_letter weights W k) x ∙ ap (λ (ws : List (List ℕ)). before_letter x ++ ws) (with_letter-out lt) ∙ append-nil (before_letter x)))
+      c ∙ ap (λ (ws : List (List ℕ)). min (length ws) most) (sym (flat_map-range (with_letter weights W k) x
+      ∙ ap (λ (ws : List (List ℕ)). before_letter x ++ ws) (with_letter-out lt) ∙ append-nil (before_letter x)))
 
-  pub list_more : (ws : List (List ℕ)) → weight_of weights x ≤ k → ws ≡ before_letter x → ws ++ map (λ w. x ∷ w) (W (k - weight_of weights x)) ≡ before_letter (x + 1)
+  pub list_more : (ws : List (List ℕ)) → weight_of weights x ≤ k → ws ≡ before_letter x →
+      ws ++ map (λ w. x ∷ w) (W (k - weight_of weights x)) ≡ before_letter (x + 1)
   list_more ws le e = ap (λ (vs : List (List ℕ)). vs ++ map (λ w. x ∷ w) (W (k - weight_of weights x))) e
       ∙ sym (flat_map-range (with_letter weights W k) x ∙ ap (λ (vs : List (List ℕ)). before_letter x ++ vs) (with_letter-in le))
 
   pub list_same : (ws : List (List ℕ)) → k < weight_of weights x → ws ≡ before_letter x → ws ≡ before_letter (x + 1)
-  list_same ws lt e = e ∙ sym (flat_map-range (with_letter weights W k) x ∙ ap (λ (vs : List (List ℕ)). before_letter x ++ vs) (with_letter-out lt) ∙ append-nil (before_letter x))
+  list_same ws lt e = e ∙ sym (flat_map-range (with_letter weights W k) x
+      ∙ ap (λ (vs : List (List ℕ)). before_letter x ++ vs) (with_letter-out lt) ∙ append-nil (before_letter x))
 
 -- W(d) by its letters
-pub unfolds_at : (weights : List ℕ) → AreWeights weights → (k : ℕ) → 0 < k → words_of_degree weights k ≡ flat_map (with_letter weights (words_of_degree weights) k) (range_with_len 0 (length weights))
+pub unfolds_at : (weights : List ℕ) → AreWeights weights → (k : ℕ) → 0 < k →
+    words_of_degree weights k ≡ flat_map (with_letter weights (words_of_degree weights) k) (range_with_len 0 (length weights))
 unfolds_at weights aw zero some = absurd (omega (arith, some))
 unfolds_at weights aw (suc d) some = words_of_degree-unfolds weights aw d
 
 pub counts_first : (weights counts : List ℕ) → length counts ≡ 65 → AreCounts weights (set counts 0 1) 1
 counts_first weights counts l = record {
   size = length-set counts 0 1 ∙ l;
-  counted = λ k lt. subst (λ (n : ℕ). get_or (set counts 0 1) n 0 ≡ min (length (words_of_degree weights n)) (2 ^ 64 - 1)) (sym (none k lt)) (get_or-set_same counts 0 1 0 (omega (arith, l)));
+  counted = λ k lt. subst (λ (n : ℕ). get_or (set counts 0 1) n 0 ≡ min (length (words_of_degree weights n)) (2 ^ 64 - 1)) (sym (none k lt))
+      (get_or-set_same counts 0 1 0 (omega (arith, l)));
 }
   where
     none : (k : ℕ) → k < 1 → k ≡ 0
     none k lt = omega (arith, lt)
 
-pub counts_more : (weights counts : List ℕ) (k v : ℕ) → k < 65 → v ≡ min (length (words_of_degree weights k)) (2 ^ 64 - 1) → AreCounts weights counts k → AreCounts weights (set counts k v) (k + 1)
+pub counts_more : (weights counts : List ℕ) (k v : ℕ) → k < 65 → v ≡ min (length (words_of_degree weights k)) (2 ^ 64 - 1) →
+    AreCounts weights counts k → AreCounts weights (set counts k v) (k + 1)
 counts_more weights counts k v lt e h = record {
   size = length-set counts k v ∙ h.size;
   counted = λ j below. elim (cases_eq j k) [
-    | inl is ↦ subst (λ (n : ℕ). get_or (set counts k v) n 0 ≡ min (length (words_of_degree weights n)) (2 ^ 64 - 1)) (sym is) (get_or-set_same counts k v 0 (omega (arith, lt, h.size)) ∙ e)
+    | inl is ↦ subst (λ (n : ℕ). get_or (set counts k v) n 0 ≡ min (length (words_of_degree weights n)) (2 ^ 64 - 1)) (sym is)
+        (get_or-set_same counts k v 0 (omega (arith, lt, h.size)) ∙ e)
     | inr other ↦ get_or-set_other counts k j v 0 other ∙ h.counted j (omega (arith, below, other))
   ];
 }
@@ -89,11 +99,13 @@ pub lists_none : (weights : List ℕ) (d : ℕ) → AreLists weights d [] 0
 lists_none weights d = record { size = refl; listed = λ k lt. absurd (omega (arith, lt)); unused = λ k lt. absurd (omega (arith, lt)) }
 
 pub lists_more : (weights : List ℕ) (d k : ℕ) (lists : List (List (List ℕ))) (new : List (List ℕ)) → AreLists weights d lists k
-    → (words_of_degree weights (d - k) ≢ [] → new ≡ words_of_degree weights k) → (words_of_degree weights (d - k) ≡ [] → new ≡ []) → AreLists weights d (lists ++ new ∷ []) (k + 1)
+    → (words_of_degree weights (d - k) ≢ [] → new ≡ words_of_degree weights k) → (words_of_degree weights (d - k) ≡ [] → new ≡ []) →
+    AreLists weights d (lists ++ new ∷ []) (k + 1)
 lists_more weights d k lists new h listed unused = record {
   size = length_push lists new ∙ ap (λ (n : ℕ). n + 1) h.size;
   listed = λ j below some. elim (cases_eq j k) [
-    | inl is ↦ subst (λ (n : ℕ). list_at (lists ++ new ∷ []) n ≡ words_of_degree weights n) (sym is) (last ∙ listed (subst (λ (n : ℕ). words_of_degree weights (d - n) ≢ []) is some))
+    | inl is ↦ subst (λ (n : ℕ). list_at (lists ++ new ∷ []) n ≡ words_of_degree weights n) (sym is)
+        (last ∙ listed (subst (λ (n : ℕ). words_of_degree weights (d - n) ≢ []) is some))
     | inr other ↦ earlier j (omega (arith, below, other)) ∙ h.listed j (omega (arith, below, other)) some
   ];
   unused = λ j below none. elim (cases_eq j k) [
@@ -109,13 +121,15 @@ lists_more weights d k lists new h listed unused = record {
     earlier j lt = get_or_append_left lists (new ∷ []) [] j (omega (arith, lt, h.size))
 
 -- the list of a degree of use, from the lists below
-pub list_unfolds : (weights : List ℕ) → AreWeights weights → (d k : ℕ) (lists : List (List (List ℕ))) → 0 < k → k ≤ d → AreLists weights d lists k → words_of_degree weights (d - k) ≢ []
+pub list_unfolds : (weights : List ℕ) → AreWeights weights → (d k : ℕ) (lists : List (List (List ℕ))) → 0 < k → k ≤ d →
+    AreLists weights d lists k → words_of_degree weights (d - k) ≢ []
     → flat_map (with_letter weights (list_at lists) k) (range_with_len 0 (length weights)) ≡ words_of_degree weights k
 list_unfolds weights aw d k lists some le h needed =
     flat_map-same (with_letter weights (list_at lists) k) (with_letter weights (words_of_degree weights) k) (range_with_len 0 (length weights)) same
     ∙ sym (unfolds_at weights aw k some)
   where
-    longer : (x : ℕ) → x < length weights → (ws : List (List ℕ)) → ws ≡ words_of_degree weights (d - k) → ws ≢ [] → weight_of weights x ≤ k → words_of_degree weights (d - (k - weight_of weights x)) ≢ []
+    longer : (x : ℕ) → x < length weights → (ws : List (List ℕ)) → ws ≡ words_of_degree weights (d - k) → ws ≢ [] → weight_of weights x ≤ k
+        → words_of_degree weights (d - (k - weight_of weights x)) ≢ []
     longer x lt [] e ne in' none = ne refl
     longer x lt (w ∷ ws) e ne in' none =
         let says = words_of_degree-says weights aw (d - k) w (subst (λ (vs : List (List ℕ)). Contains vs w) e (Contains-first w ws)) in
@@ -123,13 +137,16 @@ list_unfolds weights aw d k lists some le h needed =
         let deg : degree_of weights (x ∷ w) ≡ d - (k - weight_of weights x) = omega (arith, says.1, in', le) in
         Contains-none (x ∷ w) (subst (λ (vs : List (List ℕ)). Contains vs (x ∷ w)) (ap (words_of_degree weights) deg ∙ none) there)
 
-    same : (x : ℕ) → Contains (range_with_len 0 (length weights)) x → with_letter weights (list_at lists) k x ≡ with_letter weights (words_of_degree weights) k x
+    same : (x : ℕ) → Contains (range_with_len 0 (length weights)) x →
+        with_letter weights (list_at lists) k x ≡ with_letter weights (words_of_degree weights) k x
     same x m = elim (cases_Bool (leb (weight_of weights x) k)) [
       | inl is ↦
           let in' = leb-true (weight_of weights x) k is in
           let positive = (weight_of-bounds weights aw x).0 in
           let lt = (range-bounds 0 (length weights) x m).1 in
           ap (λ (vs : List (List ℕ)). cond (leb (weight_of weights x) k) (map (λ w. x ∷ w) vs) [])
-          (h.listed (k - weight_of weights x) (omega (arith, some, positive, in')) (longer x (omega (arith, lt)) (words_of_degree weights (d - k)) refl needed in'))
-      | inr out ↦ ap (λ (b : Bool). cond b (map (λ w. x ∷ w) (list_at lists (k - weight_of weights x))) []) out ∙ sym (ap (λ (b : Bool). cond b (map (λ w. x ∷ w) (words_of_degree weights (k - weight_of weights x))) []) out)
+          (h.listed (k - weight_of weights x) (omega (arith, some, positive, in'))
+          (longer x (omega (arith, lt)) (words_of_degree weights (d - k)) refl needed in'))
+      | inr out ↦ ap (λ (b : Bool). cond b (map (λ w. x ∷ w) (list_at lists (k - weight_of weights x))) []) out
+          ∙ sym (ap (λ (b : Bool). cond b (map (λ w. x ∷ w) (words_of_degree weights (k - weight_of weights x))) []) out)
     ]

@@ -50,7 +50,8 @@ fn list_of(
 ) -> Result<Vec<Word>, NoMemory>
     requires some { 0 < k }
     requires below { length lists.now ≡ k }
-    ensures { IfOk result (λ v. v.items ≡ flat_map (with_letter alphabet.now.weights (list_at lists.now) k) (range_with_len 0 (length alphabet.now.weights))) }
+    ensures { IfOk result (λ v. v.items ≡ flat_map (with_letter alphabet.now.weights (list_at lists.now) k)
+        (range_with_len 0 (length alphabet.now.weights))) }
 {
     let mut words = Vec::new(alloc);
     for letter in 0..alphabet.len() {

@@ -1,5 +1,6 @@
 -- A number that no smaller number from 2 on divides is a field modulus, and the other way round.
-use Rattle.std.proofs.Common.{Bool, true, false, not, ◌&&◌, ◌==◌, ◌≡◌, ◌≢◌, ◌+◌, ◌-◌, ◌*◌, ◌/◌, ◌%◌, ◌<◌, ◌≤◌, ℕ, suc, zero, refl, sym, ap, ◌∙◌, inl, inr, arith}
+use Rattle.std.proofs.Common.{Bool, true, false, not, ◌&&◌, ◌==◌, ◌≡◌, ◌≢◌, ◌+◌, ◌-◌, ◌*◌, ◌/◌, ◌%◌, ◌<◌, ◌≤◌, ℕ, suc, zero, refl, sym, ap, ◌∙◌, inl}
+use Rattle.std.proofs.Common.{inr, arith}
 use Rattle.std.proofs.lemmas.Bool.{cases_lt, cases_eq}
 use Rattle.std.proofs.lemmas.Nat.{mul-mod_second, mul-mod_first, div-add-mod', mul-le}
 use Rattle.std.proofs.Math.Nat.{mul_assoc, mul_comm, mul-sub, mul-add-mod_self_left, mod-lt, mod-eq_of_lt, mul-mod_right}
@@ -16,7 +17,8 @@ pub next_inverse : (p a s : ℕ) → 0 < a → (p % a * s) % p ≡ 1 → (a * ((
 next_inverse p a s pos e =
     let split : a * (p / a) + p % a ≡ p = omega (arith, div-add-mod' p a, mul_comm a (p / a)) in
     let product : a * (p - p / a) * s ≡ p * ((a - 1) * s) + p % a * s = rw (step_product p a (p / a) (p % a) pos split) (omega arith) in
-    mul-mod_second a ((p - p / a) * s) p ∙ ap (λ (n : ℕ). n % p) (sym (mul_assoc a (p - p / a) s) ∙ product) ∙ mul-add-mod_self_left p ((a - 1) * s) (p % a * s) ∙ e
+    mul-mod_second a ((p - p / a) * s) p ∙ ap (λ (n : ℕ). n % p) (sym (mul_assoc a (p - p / a) s) ∙ product)
+    ∙ mul-add-mod_self_left p ((a - 1) * s) (p % a * s) ∙ e
 
 -- by the remainder of p, which is smaller
 pub inverse_from : (p : ℕ) → 2 ≤ p → ((a : ℕ) → 2 ≤ a → a < p → p % a ≢ 0) → (n a : ℕ) → a ≤ n → 0 < a → a < p → (b : ℕ) × (b < p) × ((a * b) % p ≡ 1)
@@ -65,7 +67,11 @@ undivided_from_test p k t room a two lt is = elim (cases_lt k a) [
   | inr small ↦ tested p k a t two small is
   | inl large ↦
       let whole : a * (p / a) ≡ p = omega (arith, div-add-mod' p a, mul_comm a (p / a), is) in
-      let below : p / a ≤ k = elim (cases_lt k (p / a)) [ inl above ↦ absurd (omega (arith, mul-le (k + 1) (k + 1) a (p / a) (omega arith) (omega arith))) | inr le ↦ le ] in
+      let below : p / a ≤ k = elim (cases_lt k (p / a)) [
+        | inl above ↦
+            absurd (omega (arith, mul-le (k + 1) (k + 1) a (p / a) (omega arith) (omega arith)))
+        | inr le ↦ le
+      ] in
       let not_one : p / a ≢ 1 = λ e. omega (arith, e, whole, ap (λ (n : ℕ). a * n) e) in
       let not_none : p / a ≢ 0 = λ e. omega (arith, e, whole, ap (λ (n : ℕ). a * n) e) in
       let divided : p % (p / a) ≡ 0 = ap (λ (n : ℕ). n % (p / a)) (sym (mul_comm (p / a) a ∙ whole)) ∙ mul-mod_right (p / a) a in
@@ -82,7 +88,8 @@ undivided_from_field_modulus p f a two lt is =
     let inv = f.has_inverse a (omega arith) lt in
     let whole : a * (p / a) ≡ p = omega (arith, div-add-mod' p a, mul_comm a (p / a), is) in
     let zero_mod : (a * inv.0 * (p / a)) % p ≡ 0 =
-    ap (λ (n : ℕ). n % p) (mul_assoc a inv.0 (p / a) ∙ ap (λ (n : ℕ). a * n) (mul_comm inv.0 (p / a)) ∙ sym (mul_assoc a (p / a) inv.0) ∙ ap (λ (n : ℕ). n * inv.0) whole) ∙ mul-mod_right p inv.0 in
+    ap (λ (n : ℕ). n % p) (mul_assoc a inv.0 (p / a) ∙ ap (λ (n : ℕ). a * n) (mul_comm inv.0 (p / a)) ∙ sym (mul_assoc a (p / a) inv.0)
+    ∙ ap (λ (n : ℕ). n * inv.0) whole) ∙ mul-mod_right p inv.0 in
     let kept : (a * inv.0 * (p / a)) % p ≡ (1 * (p / a)) % p =
     sym (mul-mod_first (a * inv.0) (p / a) p) ∙ ap (λ (n : ℕ). (n * (p / a)) % p) inv.2 in
     let positive : p / a ≢ 0 = λ e. omega (arith, f.two_or_more, whole, ap (λ (n : ℕ). a * n) e) in

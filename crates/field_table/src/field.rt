@@ -1,5 +1,6 @@
 ghost use Rattle.std.specs.Prelude.{◌≡◌, ℕ, ◌+◌, ◌-◌, ◌*◌, ◌%◌, ◌<◌, ◌≤◌, ◌^◌, IfOk, All, length};
-ghost use Rattle.field_table.specs.Residues.{IsFieldModulus, listed_moduli, sum_of, product_of, negative_of, difference_of, plus_multiple};
+ghost use Rattle.field_table.specs.Residues.{IsFieldModulus, listed_moduli, sum_of, product_of, negative_of};
+ghost use Rattle.field_table.specs.Residues.{difference_of, plus_multiple};
 ghost use Rattle.field_table.specs.Table.{IsTableUpto};
 
 use std::alloc::{AllocError, Global};

@@ -20,10 +20,12 @@ module _ (weights : List ℕ) where
   pub IsGreatestDegree-none : IsGreatestDegree weights [] 0
   IsGreatestDegree-none = record { most = All-nil (λ t. degree_of weights t.word ≤ 0); some = inl (refl, refl) }
 
-  pub IsGreatestDegree-push : (f : List Term) (t : Term) (d : ℕ) → IsGreatestDegree weights f d → IsGreatestDegree weights (f ++ t ∷ []) (max d (degree_of weights t.word))
+  pub IsGreatestDegree-push : (f : List Term) (t : Term) (d : ℕ) → IsGreatestDegree weights f d →
+      IsGreatestDegree weights (f ++ t ∷ []) (max d (degree_of weights t.word))
   IsGreatestDegree-push f t d h = record {
     most = All-push (λ s. degree_of weights s.word ≤ max d (degree_of weights t.word)) f t
-        (All-weaker (λ s. degree_of weights s.word ≤ d) (λ s. degree_of weights s.word ≤ max d (degree_of weights t.word)) (λ s le. omega (arith, le)) f h.most) (omega arith);
+        (All-weaker (λ s. degree_of weights s.word ≤ d) (λ s. degree_of weights s.word ≤ max d (degree_of weights t.word))
+        (λ s le. omega (arith, le)) f h.most) (omega arith);
     some = elim (cases_lt d (degree_of weights t.word)) [
       | inl above ↦ inr (t, Contains-push f t, omega (arith, above))
       | inr within ↦ elim h.some [
@@ -34,7 +36,8 @@ module _ (weights : List ℕ) where
   }
 
   module _ (first : ℕ) where
-    pub IsNextAnswer-same : (f : List Term) (t : Term) (answer : Option ℕ) → degree_of weights t.word ≡ first → IsNextAnswer weights f first answer → IsNextAnswer weights (f ++ t ∷ []) first answer
+    pub IsNextAnswer-same : (f : List Term) (t : Term) (answer : Option ℕ) → degree_of weights t.word ≡ first →
+        IsNextAnswer weights f first answer → IsNextAnswer weights (f ++ t ∷ []) first answer
     IsNextAnswer-same f t None is h = All-push (λ s. degree_of weights s.word ≡ first) f t h is
     IsNextAnswer-same f t (Some other) is h = record {
       apart = h.apart;
@@ -52,7 +55,8 @@ module _ (weights : List ℕ) where
         let d = max (degree_of weights t.word) 0 in record {
           apart = λ e. other (omega (arith, e));
           most = All-push (λ s. (degree_of weights s.word ≡ first) ⊎ (degree_of weights s.word ≤ d)) f t
-              (All-weaker (λ s. degree_of weights s.word ≡ first) (λ s. (degree_of weights s.word ≡ first) ⊎ (degree_of weights s.word ≤ d)) (λ s e. inl e) f h) (inr (omega arith));
+              (All-weaker (λ s. degree_of weights s.word ≡ first) (λ s. (degree_of weights s.word ≡ first) ⊎ (degree_of weights s.word ≤ d))
+              (λ s e. inl e) f h) (inr (omega arith));
           some = (t, Contains-push f t, omega arith);
         }
     IsNextAnswer-other f t (Some old) other h =
@@ -62,7 +66,8 @@ module _ (weights : List ℕ) where
             | inr within ↦ other (omega (arith, within, e))
           ];
           most = All-push (λ s. (degree_of weights s.word ≡ first) ⊎ (degree_of weights s.word ≤ d)) f t
-              (All-weaker (λ s. (degree_of weights s.word ≡ first) ⊎ (degree_of weights s.word ≤ old)) (λ s. (degree_of weights s.word ≡ first) ⊎ (degree_of weights s.word ≤ d))
+              (All-weaker (λ s. (degree_of weights s.word ≡ first) ⊎ (degree_of weights s.word ≤ old))
+              (λ s. (degree_of weights s.word ≡ first) ⊎ (degree_of weights s.word ≤ d))
               (λ s c. more d old (omega arith) (degree_of weights s.word) c) f h.most) (inr (omega arith));
           some = elim (cases_lt (degree_of weights t.word) old) [
             | inl above ↦ (h.some.0, Contains-append_left f (t ∷ []) h.some.0 h.some.1, omega (arith, above, h.some.2))
@@ -75,7 +80,8 @@ module _ (weights : List ℕ) where
       → IsGreatestDegree weights f first → IsNextDegree weights f first other → HasTwoDegrees p weights g first other
   HasTwoDegrees-from p f g first other form residues same top next =
       let best = some_degree top.some in
-      let stands : (t : Term) → Contains f t → Stands p g t.word = λ t m e. All-contains (λ s. Stands p f s.word) f t (Stands-own p f form residues) m (same t.word ∙ e) in
+      let stands : (t : Term) → Contains f t → Stands p g t.word = λ t m e. All-contains (λ s. Stands p f s.word) f t
+      (Stands-own p f form residues) m (same t.word ∙ e) in
       let under : degree_of weights next.some.0.word ≤ first = All-contains (λ s. degree_of weights s.word ≤ first) f next.some.0 top.most next.some.1 in
       record {
         greatest = best.0.word;
@@ -89,6 +95,7 @@ module _ (weights : List ℕ) where
         others = λ w s. word_from_same p (λ v. (degree_of weights v ≡ first) ⊎ (degree_of weights v ≤ other)) g f w (IsSame-back p f g same) s next.most;
       }
     where
-      some_degree : ((f ≡ []) × (first ≡ 0)) ⊎ ((t : Term) × Contains f t × (degree_of weights t.word ≡ first)) → (t : Term) × Contains f t × (degree_of weights t.word ≡ first)
+      some_degree : ((f ≡ []) × (first ≡ 0)) ⊎ ((t : Term) × Contains f t × (degree_of weights t.word ≡ first)) →
+          (t : Term) × Contains f t × (degree_of weights t.word ≡ first)
       some_degree (inl none) = absurd (Contains-none next.some.0 (subst (λ (h : List Term). Contains h next.some.0) none.0 next.some.1))
       some_degree (inr found) = found

@@ -7,7 +7,8 @@ use Rattle.words.proofs.Members.{AllPairs-first}
 use Rattle.words.proofs.OrderFacts.{agrees_in_degree, greater_says, has_no_prefixes}
 use Rattle.free_poly.specs.declared.term.Term.{Term}
 use Rattle.free_poly.specs.Terms.{scaled}
-use Rattle.free_poly.specs.ElementLaws.{HasNoPrefixInDegree, KeepsDegreeInMultiples, KeepsDegreeInSums, KeepsLettersInMultiples, KeepsLettersInSums, LeadsWithGreatest}
+use Rattle.free_poly.specs.ElementLaws.{HasNoPrefixInDegree, KeepsDegreeInMultiples, KeepsDegreeInSums, KeepsLettersInMultiples, KeepsLettersInSums}
+use Rattle.free_poly.specs.ElementLaws.{LeadsWithGreatest}
 use Rattle.free_poly.proofs.Sums.{words_of_same}
 
 -- the words of a multiple are those of the sum

@@ -1,5 +1,6 @@
 -- The terms of a map's entries, taken from the last one back.
-use Rattle.std.proofs.Common.{◌≡◌, ◌≢◌, ◌+◌, ◌<◌, ℕ, Bool, true, false, cond, List, [], ◌∷◌, ◌++◌, map, length, get_or, refl, sym, ap, ◌∙◌, inl, inr, arith, bytes_eq, zero-add, add-zero, All, AllPairs, subst, length-append}
+use Rattle.std.proofs.Common.{◌≡◌, ◌≢◌, ◌+◌, ◌<◌, ℕ, Bool, true, false, cond, List, [], ◌∷◌, ◌++◌, map, length, get_or, refl, sym, ap, ◌∙◌, inl, inr}
+use Rattle.std.proofs.Common.{arith, bytes_eq, zero-add, add-zero, All, AllPairs, subst, length-append}
 use Rattle.std.specs.Prelude.{unwrap_or}
 use Rattle.std.specs.BTreeMap.{is_at}
 use Rattle.std.specs.Map.{lookup}
@@ -63,12 +64,14 @@ module _ {X : Type 0} where
       (subst (R (get_or (xs ++ x ∷ []) k d)) (get_or_push xs x d (length xs) refl) (h k (length xs) d within (omega (arith, length-append xs (x ∷ [])))))
 
 -- what the map has at a word
-pub total_at-entries : (es : List Entry) (w : List ℕ) → IsStrictlySortedBy letterwise_cmp (map (λ e. e.0) es) → total_at (terms_of es) w ≡ unwrap_or (lookup (is_at (letterwise_cmp w)) es) 0
+pub total_at-entries : (es : List Entry) (w : List ℕ) → IsStrictlySortedBy letterwise_cmp (map (λ e. e.0) es) →
+    total_at (terms_of es) w ≡ unwrap_or (lookup (is_at (letterwise_cmp w)) es) 0
 total_at-entries [] w h = refl
 total_at-entries (e ∷ es) w h = elim (cases_Bool (bytes_eq e.0 w)) [
   | inl is ↦
       let found : is_at (letterwise_cmp w) e.0 ≡ true = sym (letterwise_ties w e.0) ∙ here w e.0 (sym ((bytes_eq-Decides e.0 w).0 is)) in
-      let later : All (λ y. letterwise_cmp e.0 y ≡ Less) (map (λ (f : Entry). f.0) es) = All-from_recursion _ _ (sorted_head letterwise_cmp e.0 (map (λ f. f.0) es) h) in
+      let later : All (λ y. letterwise_cmp e.0 y ≡ Less) (map (λ (f : Entry). f.0) es) =
+      All-from_recursion _ _ (sorted_head letterwise_cmp e.0 (map (λ f. f.0) es) h) in
       let none : total_at (terms_of es) w ≡ 0 = total_at-absent (terms_of es) w (gone e.0 w es ((bytes_eq-Decides e.0 w).0 is) later) in
       rw (is, found, none) (add-zero e.1)
   | inr other ↦
@@ -81,7 +84,8 @@ total_at-entries (e ∷ es) w h = elim (cases_Bool (bytes_eq e.0 w)) [
 
     less_at : (k : List ℕ) (es : List Entry) → All (λ y. letterwise_cmp k y ≡ Less) (map (λ (f : Entry). f.0) es) → All (λ e. letterwise_cmp k e.0 ≡ Less) es
     less_at k [] h = All-nil (λ (e : Entry). letterwise_cmp k e.0 ≡ Less)
-    less_at k (e ∷ es) h = All-cons (λ (e : Entry). letterwise_cmp k e.0 ≡ Less) e es (All-head (λ y. letterwise_cmp k y ≡ Less) e.0 (map (λ (f : Entry). f.0) es) h)
+    less_at k (e ∷ es) h = All-cons (λ (e : Entry). letterwise_cmp k e.0 ≡ Less) e es
+        (All-head (λ y. letterwise_cmp k y ≡ Less) e.0 (map (λ (f : Entry). f.0) es) h)
         (less_at k es (All-tail (λ y. letterwise_cmp k y ≡ Less) e.0 (map (λ (f : Entry). f.0) es) h))
 
     gone : (k w : List ℕ) (es : List Entry) → k ≡ w → All (λ y. letterwise_cmp k y ≡ Less) (map (λ (f : Entry). f.0) es) → All (λ t. t.word ≢ w) (terms_of es)
@@ -90,7 +94,8 @@ total_at-entries (e ∷ es) w h = elim (cases_Bool (bytes_eq e.0 w)) [
 
 pub Rises-sorted : (es : List Entry) → IsStrictlySortedBy letterwise_cmp (map (λ e. e.0) es) → Rises es
 Rises-sorted es h i j d below within =
-    let at : (k : ℕ) → k < length es → get_or (map (λ (e : Entry). e.0) es) k d.0 ≡ (get_or es k d).0 = λ k inside. get_or-map (λ (e : Entry). e.0) es k d d.0 inside in
+    let at : (k : ℕ) → k < length es → get_or (map (λ (e : Entry). e.0) es) k d.0 ≡ (get_or es k d).0 =
+    λ k inside. get_or-map (λ (e : Entry). e.0) es k d d.0 inside in
     subst (λ (y : List ℕ). letterwise_cmp (get_or es i d).0 y ≡ Less) (at j within)
     (subst (λ (y : List ℕ). letterwise_cmp y (get_or (map (λ (e : Entry). e.0) es) j d.0) ≡ Less) (at i (omega (arith, below, within)))
     (Less-from_sorted letterwise_cmp (map (λ e. e.0) es) i j d.0 h below (omega (arith, within, length-map {A = Entry} {B = List ℕ} es))))
@@ -125,7 +130,8 @@ Unloads-zero all left x made zero u = record {
 }
 
 -- another is the next term
-pub Unloads-more : (all left : List Entry) (x : Entry) (made : List Term) → x.1 ≢ 0 → Unloads all (left ++ x ∷ []) made → Unloads all left (made ++ term_of x ∷ [])
+pub Unloads-more : (all left : List Entry) (x : Entry) (made : List Term) → x.1 ≢ 0 → Unloads all (left ++ x ∷ []) made →
+    Unloads all left (made ++ term_of x ∷ [])
 Unloads-more all left x made other u = record {
   sum = λ w. omega (arith, u.sum w, last_total left x w, total_at-append made (term_of x ∷ []) w);
   rises = AllPairs-front (λ a b. letterwise_cmp a.0 b.0 ≡ Less) left x u.rises;

@@ -1,5 +1,6 @@
 -- The polynomial with given coefficients at the words of a list.
-use Rattle.std.proofs.Common.{ap₂, ◌≡◌, ◌≢◌, ◌⊎◌, ◌+◌, ◌==◌, ℕ, Bool, true, false, cond, List, [], ◌∷◌, sym, ap, ◌∙◌, inl, inr, bytes_eq, zero-add, add-zero, All, AllPairs, subst}
+use Rattle.std.proofs.Common.{ap₂, ◌≡◌, ◌≢◌, ◌⊎◌, ◌+◌, ◌==◌, ℕ, Bool, true, false, cond, List, [], ◌∷◌, sym, ap, ◌∙◌, inl, inr, bytes_eq, zero-add}
+use Rattle.std.proofs.Common.{add-zero, All, AllPairs, subst}
 use Rattle.std.specs.List.{Contains}
 use Rattle.std.proofs.lemmas.Bool.{cases_Bool, eqb-true}
 use Rattle.std.proofs.lemmas.List.Elements.{All-cons, All-contains, All-nil}
@@ -21,7 +22,8 @@ zero_test : (n : ℕ) → (n == 0) ≡ false → n ≢ 0
 zero_test n f e = let t : (n == 0) ≡ true = ap (λ (m : ℕ). m == 0) e in cc
 
 -- what holds of each term that can be there
-pub from_words-all : (P : Term → Type 0) (xs : List (List ℕ)) (c : List ℕ → ℕ) → ((x : List ℕ) → Contains xs x → c x ≢ 0 → P (record { word = x; coefficient = c x })) → All P (from_words xs c)
+pub from_words-all : (P : Term → Type 0) (xs : List (List ℕ)) (c : List ℕ → ℕ) →
+    ((x : List ℕ) → Contains xs x → c x ≢ 0 → P (record { word = x; coefficient = c x })) → All P (from_words xs c)
 from_words-all P [] c h = All-nil P
 from_words-all P (x ∷ xs) c h =
     let rest = from_words-all P xs c (λ y m ne. h y (Contains-more x xs y m) ne) in
@@ -30,14 +32,16 @@ from_words-all P (x ∷ xs) c h =
       | inr some ↦ rw some (All-cons P _ _ (h x (Contains-first x xs) (zero_test (c x) some)) rest)
     ]
 
-pub from_words-falling : (xs : List (List ℕ)) (c : List ℕ → ℕ) → AllPairs IsLetterwiseGreater xs → AllPairs (λ s t. IsLetterwiseGreater s.word t.word) (from_words xs c)
+pub from_words-falling : (xs : List (List ℕ)) (c : List ℕ → ℕ) → AllPairs IsLetterwiseGreater xs →
+    AllPairs (λ s t. IsLetterwiseGreater s.word t.word) (from_words xs c)
 from_words-falling [] c h = AllPairs-nil (λ s t. IsLetterwiseGreater s.word t.word)
 from_words-falling (x ∷ xs) c h =
     let rest = from_words-falling xs c (AllPairs-rest IsLetterwiseGreater x xs h) in
     elim (cases_Bool (c x == 0)) [
       | inl none ↦ rw none rest
       | inr some ↦ rw some (AllPairs-cons (λ s t. IsLetterwiseGreater s.word t.word) _ _
-          (from_words-all (λ t. IsLetterwiseGreater x t.word) xs c (λ y m ne. All-contains (IsLetterwiseGreater x) xs y (AllPairs-first IsLetterwiseGreater x xs h) m)) rest)
+          (from_words-all (λ t. IsLetterwiseGreater x t.word) xs c (λ y m ne. All-contains (IsLetterwiseGreater x) xs y
+          (AllPairs-first IsLetterwiseGreater x xs h) m)) rest)
     ]
 
 pub from_words-polynomial : (xs : List (List ℕ)) (c : List ℕ → ℕ) → AllPairs IsLetterwiseGreater xs → IsPolynomial (from_words xs c)

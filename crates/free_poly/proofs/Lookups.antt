@@ -39,12 +39,15 @@ standing-le w s t above = elim (compared w t.word) [
 
 pub standing-rises : (w : List ℕ) (f : List Term) → IsPolynomial f → IsNonDecreasingBy (λ t. ordering_index (standing w t)) f
 standing-rises w f form i j d ordered within = elim (cases_eq i j) [
-  | inl e ↦ let is : ordering_index (standing w (get_or f i d)) ≡ ordering_index (standing w (get_or f j d)) = ap (λ (k : ℕ). ordering_index (standing w (get_or f k d))) e in omega (arith, is)
+  | inl e ↦ let is : ordering_index (standing w (get_or f i d)) ≡ ordering_index (standing w (get_or f j d)) =
+      ap (λ (k : ℕ). ordering_index (standing w (get_or f k d))) e in omega (arith, is)
   | inr other ↦ standing-le w (get_or f i d) (get_or f j d) (form.falling i j d (omega (arith, ordered, other)) within)
 ]
 
-pub total_at-standing : (w : List ℕ) (f : List Term) (i : ℕ) (t : Term) → IsPolynomial f → i < length f → HoldsAt (λ s. standing w s ≡ Equal) f i → total_at f w ≡ (get_or f i t).coefficient
-total_at-standing w f i t form within found = total_at-found f i t w (AreApart-from_polynomial f form) within (sym (letterwise-IsAntisymmetric w (get_or f i t).word (found t)))
+pub total_at-standing : (w : List ℕ) (f : List Term) (i : ℕ) (t : Term) → IsPolynomial f → i < length f →
+    HoldsAt (λ s. standing w s ≡ Equal) f i → total_at f w ≡ (get_or f i t).coefficient
+total_at-standing w f i t form within found = total_at-found f i t w (AreApart-from_polynomial f form) within
+    (sym (letterwise-IsAntisymmetric w (get_or f i t).word (found t)))
 
 pub total_at-between : (w : List ℕ) (f : List Term) (i : ℕ) → IsPartitionPoint (λ s. standing w s ≡ Less) (λ s. standing w s ≡ Greater) f i → total_at f w ≡ 0
 total_at-between w f i parts = total_at-absent f w (λ k d within e. elim (cases_lt k i) [

@@ -1,5 +1,6 @@
 -- Two polynomials merged: the terms that were made, and what is left of the two.
-use Rattle.std.proofs.Common.{ap₂, ◌≡◌, ◌≢◌, ◌+◌, ◌*◌, ◌-◌, ◌<◌, ◌%◌, ℕ, Bool, true, false, cond, ◌==◌, List, [], ◌∷◌, ◌++◌, length, get_or, take, drop, refl, sym, ap, ◌∙◌, inl, inr, arith, bytes_eq, zero-add, add-zero, mul-zero, append-nil, All, subst}
+use Rattle.std.proofs.Common.{ap₂, ◌≡◌, ◌≢◌, ◌+◌, ◌*◌, ◌-◌, ◌<◌, ◌%◌, ℕ, Bool, true, false, cond, ◌==◌, List, [], ◌∷◌, ◌++◌, length, get_or, take}
+use Rattle.std.proofs.Common.{drop, refl, sym, ap, ◌∙◌, inl, inr, arith, bytes_eq, zero-add, add-zero, mul-zero, append-nil, All, subst}
 use Rattle.std.proofs.Math.Nat.{add-mod-mod, mod-eq_of_lt, mod-lt, mul-add, zero-mod}
 use Rattle.std.proofs.lemmas.Bool.{cases_Bool, eqb-true}
 use Rattle.std.proofs.lemmas.List.Elements.{All-cons, All-head, All-nil, All-push, All-tail}
@@ -51,7 +52,8 @@ All-made P made w c h here = elim (cases_Bool (c == 0)) [
   | inr some ↦ rw some (All-push P made (record { word = w; coefficient = c }) h here)
 ]
 
-IsPolynomial-made : (made : List Term) (w : List ℕ) (c : ℕ) → IsPolynomial made → All (λ t. IsLetterwiseGreater t.word w) made → IsPolynomial (made ++ term_at w c)
+IsPolynomial-made : (made : List Term) (w : List ℕ) (c : ℕ) → IsPolynomial made → All (λ t. IsLetterwiseGreater t.word w) made →
+    IsPolynomial (made ++ term_at w c)
 IsPolynomial-made made w c form above = elim (cases_Bool (c == 0)) [
   | inl none ↦ rw (none, append-nil) form
   | inr some ↦ rw some (record {
@@ -68,7 +70,8 @@ pub first_above : (p : ℕ) (made : List Term) (x : Term) (left : List Term) →
 first_above p made x left h k d within = All-head (λ t. IsLetterwiseGreater (get_or made k d).word t.word) x left (h.below k d within)
 
 -- the rest of it, after a term at a word above it was made
-IsLeft-rest : (p : ℕ) (made : List Term) (x : Term) (left : List Term) (w : List ℕ) (c : ℕ) → IsLeft p made (x ∷ left) → w ≡ x.word → IsLeft p (made ++ term_at w c) left
+IsLeft-rest : (p : ℕ) (made : List Term) (x : Term) (left : List Term) (w : List ℕ) (c : ℕ) → IsLeft p made (x ∷ left) → w ≡ x.word →
+    IsLeft p (made ++ term_at w c) left
 IsLeft-rest p made x left w c h is = record {
   form = IsPolynomial-rest x left h.form;
   residues = All-tail (λ t. t.coefficient < p) x left h.residues;
@@ -123,7 +126,8 @@ module _ (p a : ℕ) (f g made : List Term) where
       let below : x.coefficient < p = All-head (λ t. t.coefficient < p) x first m.first_left.residues in record {
         sum = λ w.
             let b = bytes_eq x.word w in
-            let step = taken p a (total_at made w) (cond b x.coefficient 0) (cond b x.coefficient 0) 0 (total_at first w) (total_at second w) (by_test b x.coefficient below) in
+            let step = taken p a (total_at made w) (cond b x.coefficient 0) (cond b x.coefficient 0) 0 (total_at first w)
+            (total_at second w) (by_test b x.coefficient below) in
             ap (λ (n : ℕ). (n + total_at first w + a * total_at second w) % p) (made_total made x.word x.coefficient w) ∙ step
             ∙ ap (λ (n : ℕ). (total_at made w + (cond b x.coefficient 0 + total_at first w) + a * n) % p) (zero-add (total_at second w)) ∙ m.sum w;
         form = IsPolynomial-made made x.word x.coefficient m.form (first_above p made x first m.first_left);
@@ -135,12 +139,14 @@ module _ (p a : ℕ) (f g made : List Term) where
       by_test : (b : Bool) (c : ℕ) → c < p → cond b c 0 ≡ (cond b c 0 + a * 0) % p
       by_test b c below = if_residue p b c below ∙ ap (λ (n : ℕ). (cond b c 0 + n) % p) (sym (mul-zero a))
 
-  pub Merges-second : (y : Term) (c : ℕ) (first second : List Term) → c ≡ (a * y.coefficient) % p → 0 < p → Merges p a f g made first (y ∷ second) → IsAbove y.word first
+  pub Merges-second : (y : Term) (c : ℕ) (first second : List Term) → c ≡ (a * y.coefficient) % p → 0 < p →
+      Merges p a f g made first (y ∷ second) → IsAbove y.word first
       → Merges p a f g (made ++ term_at y.word c) first second
   Merges-second y c first second is some m above = record {
     sum = λ w.
         let b = bytes_eq y.word w in
-        let step = taken p a (total_at made w) (cond b c 0) 0 (cond b y.coefficient 0) (total_at first w) (total_at second w) (if_product p a b c y.coefficient is) in
+        let step = taken p a (total_at made w) (cond b c 0) 0 (cond b y.coefficient 0) (total_at first w) (total_at second w)
+        (if_product p a b c y.coefficient is) in
         ap (λ (n : ℕ). (n + total_at first w + a * total_at second w) % p) (made_total made y.word c w) ∙ step
         ∙ ap (λ (n : ℕ). (total_at made w + n + a * (cond b y.coefficient 0 + total_at second w)) % p) (zero-add (total_at first w)) ∙ m.sum w;
     form = IsPolynomial-made made y.word c m.form (first_above p made y second m.second_left);
@@ -154,11 +160,14 @@ module _ (p a : ℕ) (f g made : List Term) where
   Merges-both x y c first second same is some m = record {
     sum = λ w.
         let b = bytes_eq x.word w in
-        let step = taken p a (total_at made w) (cond b c 0) (cond b x.coefficient 0) (cond b y.coefficient 0) (total_at first w) (total_at second w) (if_sum p a b c x.coefficient y.coefficient is) in
+        let step = taken p a (total_at made w) (cond b c 0) (cond b x.coefficient 0) (cond b y.coefficient 0) (total_at first w)
+        (total_at second w) (if_sum p a b c x.coefficient y.coefficient is) in
         ap (λ (n : ℕ). (n + total_at first w + a * total_at second w) % p) (made_total made x.word c w) ∙ step
-        ∙ ap (λ (r : List ℕ). (total_at made w + (cond b x.coefficient 0 + total_at first w) + a * (cond (bytes_eq r w) y.coefficient 0 + total_at second w)) % p) same ∙ m.sum w;
+        ∙ ap (λ (r : List ℕ). (total_at made w + (cond b x.coefficient 0 + total_at first w) + a *
+        (cond (bytes_eq r w) y.coefficient 0 + total_at second w)) % p) same ∙ m.sum w;
     form = IsPolynomial-made made x.word c m.form (first_above p made x first m.first_left);
-    residues = All-made (λ t. t.coefficient < p) made x.word c m.residues (subst (λ (n : ℕ). n < p) (sym is) (mod-lt (x.coefficient + (a * y.coefficient) % p) some));
+    residues = All-made (λ t. t.coefficient < p) made x.word c m.residues
+        (subst (λ (n : ℕ). n < p) (sym is) (mod-lt (x.coefficient + (a * y.coefficient) % p) some));
     first_left = IsLeft-rest p made x first x.word c m.first_left refl;
     second_left = IsLeft-rest p made y second x.word c m.second_left same;
   }
@@ -178,7 +187,8 @@ Merges-none p a f g hf hg rf rg = record {
 pub Merges-all : (p a : ℕ) (f g made : List Term) → Merges p a f g made [] [] → IsSame p made (f ++ scaled a g)
 Merges-all p a f g made m w =
     let whole : total_at made w + 0 + a * 0 ≡ total_at made w = omega (arith, mul-zero a) in
-    let sum : total_at (f ++ scaled a g) w ≡ total_at f w + a * total_at g w = total_at-append f (scaled a g) w ∙ ap (λ (n : ℕ). total_at f w + n) (total_at-scaled a g w) in
+    let sum : total_at (f ++ scaled a g) w ≡ total_at f w + a * total_at g w = total_at-append f (scaled a g) w
+    ∙ ap (λ (n : ℕ). total_at f w + n) (total_at-scaled a g w) in
     ap (λ (n : ℕ). n % p) (sym whole) ∙ m.sum w ∙ ap (λ (n : ℕ). n % p) (sym sum)
 
 -- what is left after the first term, as a slice from place 1 on
@@ -209,7 +219,8 @@ module _ (p a : ℕ) (f g made : List Term) where
       let above : IsLetterwiseGreater u.word t.word = less_says t.word u.word e in
       rw (after_first-cons, is) (Merges-second p a f g made u c (t ∷ first) second same some m (above_from_first u.word t first m.first_left.form above))
 
-  pub step_both : (first second : List Term) (x y : Term) (c : ℕ) → 0 < p → firsts_cmp first second ≡ Equal → x ≡ get_or first 0 x → y ≡ get_or second 0 y → c ≡ (x.coefficient + (a * y.coefficient) % p) % p
+  pub step_both : (first second : List Term) (x y : Term) (c : ℕ) → 0 < p → firsts_cmp first second ≡ Equal → x ≡ get_or first 0 x →
+      y ≡ get_or second 0 y → c ≡ (x.coefficient + (a * y.coefficient) % p) % p
       → Merges p a f g made first second → Merges p a f g (made ++ term_at x.word c) (after_first first) (after_first second)
   step_both first [] x y c some e is also value m = cc e
   step_both [] (u ∷ second) x y c some e is also value m = cc e

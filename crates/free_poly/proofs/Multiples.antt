@@ -30,12 +30,14 @@ IsSame-multiple_of p a (t ∷ f) w =
     once false n = refl
 
 pub HasResidues-multiple_of : (p a : ℕ) (f : List Term) → 0 < p → HasResidues p (multiple_of p a f)
-HasResidues-multiple_of p a f some = All-map (λ t. t.coefficient < p) (λ t. record { word = t.word; coefficient = (a * t.coefficient) % p }) f (λ k d within. mod-lt _ some)
+HasResidues-multiple_of p a f some = All-map (λ t. t.coefficient < p) (λ t. record { word = t.word; coefficient = (a * t.coefficient) % p })
+    f (λ k d within. mod-lt _ some)
 
 module _ (p a c : ℕ) (inverse : (c * a) % p ≡ 1) where
   -- c gives back what a took
   undone : (n : ℕ) → (c * ((a * n) % p)) % p ≡ n % p
-  undone n = mul-mod_second c (a * n) p ∙ ap (λ (m : ℕ). m % p) (sym (mul_assoc c a n)) ∙ sym (mul-mod_first (c * a) n p) ∙ ap (λ (m : ℕ). (m * n) % p) inverse ∙ ap (λ (m : ℕ). m % p) (one-mul n)
+  undone n = mul-mod_second c (a * n) p ∙ ap (λ (m : ℕ). m % p) (sym (mul_assoc c a n)) ∙ sym (mul-mod_first (c * a) n p)
+      ∙ ap (λ (m : ℕ). (m * n) % p) inverse ∙ ap (λ (m : ℕ). m % p) (one-mul n)
 
   kept : (n : ℕ) → n < p → n ≢ 0 → (a * n) % p ≢ 0
   kept n below other e =

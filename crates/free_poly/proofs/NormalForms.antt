@@ -41,7 +41,8 @@ letterwise-trans a b c g h =
 -- at a word that is greater than the first, the sum has nothing
 pub above_all : (w : List ℕ) (t : Term) (f : List Term) → IsPolynomial (t ∷ f) → IsLetterwiseGreater w t.word → total_at (t ∷ f) w ≡ 0
 above_all w t f h g = total_at-absent (t ∷ f) w (All-cons (λ (s : Term). s.word ≢ w) t f (λ e. letterwise-apart w t.word g (sym e))
-    (λ k d within e. letterwise-apart w _ (letterwise-trans w t.word _ g (AllPairs-first (λ s t. IsLetterwiseGreater s.word t.word) t f h.falling k d within)) (sym e)))
+    (λ k d within e. letterwise-apart w _ (letterwise-trans w t.word _ g
+    (AllPairs-first (λ s t. IsLetterwiseGreater s.word t.word) t f h.falling k d within)) (sym e)))
 
 -- a residue other than 0 stays so
 kept : (p c : ℕ) → c < p → c ≢ 0 → c % p ≡ 0 % p → ⊥
@@ -50,10 +51,12 @@ kept p c lt ne e = ne (sym (mod-eq_of_lt lt) ∙ e ∙ zero-mod p)
 first_total : (t : Term) (f : List Term) → IsPolynomial (t ∷ f) → total_at (t ∷ f) t.word ≡ t.coefficient
 first_total t f h =
     ap₂ ◌+◌ (ap (λ (b : Bool). cond b t.coefficient 0) (here t.word t.word refl))
-    (total_at-absent f t.word (λ k d within e. letterwise-apart _ _ (AllPairs-first (λ s t. IsLetterwiseGreater s.word t.word) t f h.falling k d within) (sym e))) ∙ add-zero t.coefficient
+    (total_at-absent f t.word (λ k d within e. letterwise-apart _ _
+    (AllPairs-first (λ s t. IsLetterwiseGreater s.word t.word) t f h.falling k d within) (sym e))) ∙ add-zero t.coefficient
 
 below_first : (t : Term) (f : List Term) → IsPolynomial (t ∷ f) → total_at f t.word ≡ 0
-below_first t f h = total_at-absent f t.word (λ k d within e. letterwise-apart _ _ (AllPairs-first (λ s t. IsLetterwiseGreater s.word t.word) t f h.falling k d within) (sym e))
+below_first t f h = total_at-absent f t.word (λ k d within e. letterwise-apart _ _
+    (AllPairs-first (λ s t. IsLetterwiseGreater s.word t.word) t f h.falling k d within) (sym e))
 
 rest_same : (p : ℕ) (t u : Term) (f g : List Term) → IsPolynomial (t ∷ f) → IsPolynomial (u ∷ g) → t.word ≡ u.word → t.coefficient ≡ u.coefficient
     → (w : List ℕ) → total_at (t ∷ f) w % p ≡ total_at (u ∷ g) w % p → total_at f w % p ≡ total_at g w % p

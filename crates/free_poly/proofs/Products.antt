@@ -1,5 +1,6 @@
 -- Products of sums of terms by words on both sides.
-use Rattle.std.proofs.Common.{ap₂, ◌≡◌, ◌≢◌, ◌⊎◌, ◌+◌, ◌-◌, ◌%◌, ◌<◌, ℕ, Bool, true, false, cond, List, [], ◌∷◌, ◌++◌, length, take, drop, refl, sym, ap, ◌∙◌, inl, inr, arith, bytes_eq, zero-add, length-append, append-nil}
+use Rattle.std.proofs.Common.{ap₂, ◌≡◌, ◌≢◌, ◌⊎◌, ◌+◌, ◌-◌, ◌%◌, ◌<◌, ℕ, Bool, true, false, cond, List, [], ◌∷◌, ◌++◌, length, take, drop, refl, sym}
+use Rattle.std.proofs.Common.{ap, ◌∙◌, inl, inr, arith, bytes_eq, zero-add, length-append, append-nil}
 use Rattle.std.proofs.lemmas.Bool.{cases_Bool}
 use Rattle.std.proofs.lemmas.List.{append_assoc, append_cancel_left, append_cancel_right}
 use Rattle.std.proofs.lemmas.List.Elements.{All-append, All-map}
@@ -84,7 +85,8 @@ round u v w =
         let size : length w - (length u + length v) ≡ length y = omega (arith, ap length e, length-append (u ++ y) v, length-append u y) in
         let tail : drop (length u) w ≡ y ++ v = ap (drop (length u)) (sym e ∙ append_assoc u y v) ∙ after_prefix u (y ++ v) in
         let middle : take (length w - (length u + length v)) (drop (length u) w) ≡ y = ap₂ (λ (n : ℕ) (r : List ℕ). take n r) size tail ∙ before_suffix y v in
-        let t : bytes_eq (u ++ take (length w - (length u + length v)) (drop (length u) w) ++ v) w ≡ true = here _ w (ap (λ (r : List ℕ). u ++ r ++ v) middle ∙ e) in
+        let t : bytes_eq (u ++ take (length w - (length u + length v)) (drop (length u) w) ++ v) w ≡ true =
+        here _ w (ap (λ (r : List ℕ). u ++ r ++ v) middle ∙ e) in
         cc
 
 -- products of sums that are one element are one element
@@ -100,18 +102,22 @@ pub degree_of-round : (weights u x v : List ℕ) → degree_of weights (u ++ x +
 degree_of-round weights u x v = degree_of-append weights (u ++ x) v ∙ ap (λ (n : ℕ). n + degree_of weights v) (degree_of-append weights u x)
 
 -- words of one degree keep their order letter by letter
-pub letterwise-product : (weights : List ℕ) → AreWeights weights → (u a b v : List ℕ) → degree_of weights a ≡ degree_of weights b → IsLetterwiseGreater a b → IsLetterwiseGreater (u ++ a ++ v) (u ++ b ++ v)
+pub letterwise-product : (weights : List ℕ) → AreWeights weights → (u a b v : List ℕ) → degree_of weights a ≡ degree_of weights b →
+    IsLetterwiseGreater a b → IsLetterwiseGreater (u ++ a ++ v) (u ++ b ++ v)
 letterwise-product weights aw u a b v same g = elim (first_difference a b g) [
   | inl d ↦ letterwise_from_difference _ _ (difference_in_product u a b v d)
   | inr q ↦ absurd (has_no_prefixes weights aw b a (sym same) q)
 ]
 
-pub HasDegree-product : (weights : List ℕ) (d : ℕ) (u : List ℕ) (f : List Term) (v : List ℕ) → HasDegree weights d f → HasDegree weights (degree_of weights u + d + degree_of weights v) (product u f v)
+pub HasDegree-product : (weights : List ℕ) (d : ℕ) (u : List ℕ) (f : List Term) (v : List ℕ) → HasDegree weights d f →
+    HasDegree weights (degree_of weights u + d + degree_of weights v) (product u f v)
 HasDegree-product weights d u f v h =
-    All-map (λ t. degree_of weights t.word ≡ degree_of weights u + d + degree_of weights v) (λ t. record { word = u ++ t.word ++ v; coefficient = t.coefficient }) f
+    All-map (λ t. degree_of weights t.word ≡ degree_of weights u + d + degree_of weights v)
+    (λ t. record { word = u ++ t.word ++ v; coefficient = t.coefficient }) f
     (λ k t within. degree_of-round weights u _ v ∙ ap (λ (n : ℕ). degree_of weights u + n + degree_of weights v) (h k t within))
 
-pub UsesLetters-product : (names : ℕ) (u : List ℕ) (f : List Term) (v : List ℕ) → IsOver names u → IsOver names v → UsesLetters names f → UsesLetters names (product u f v)
+pub UsesLetters-product : (names : ℕ) (u : List ℕ) (f : List Term) (v : List ℕ) → IsOver names u → IsOver names v → UsesLetters names f →
+    UsesLetters names (product u f v)
 UsesLetters-product names u f v hu hv h =
     All-map (λ t. IsOver names t.word) (λ t. record { word = u ++ t.word ++ v; coefficient = t.coefficient }) f
     (λ k t within. All-append (λ x. x < names) (u ++ _) v (All-append (λ x. x < names) u _ hu (h k t within)) hv)
@@ -119,7 +125,8 @@ UsesLetters-product names u f v hu hv h =
 pub HasOneDegree-from : (weights : List ℕ) (d : ℕ) (f : List Term) → HasDegree weights d f → HasOneDegree weights f
 HasOneDegree-from weights d f h i j t below within = h i t (omega (arith, below, within)) ∙ sym (h j t within)
 
-pub IsPolynomial-product : (weights : List ℕ) → AreWeights weights → (u : List ℕ) (f : List Term) (v : List ℕ) → HasOneDegree weights f → IsPolynomial f → IsPolynomial (product u f v)
+pub IsPolynomial-product : (weights : List ℕ) → AreWeights weights → (u : List ℕ) (f : List Term) (v : List ℕ) → HasOneDegree weights f →
+    IsPolynomial f → IsPolynomial (product u f v)
 IsPolynomial-product weights aw u f v one h = record {
   falling = AllPairs-map (λ t. record { word = u ++ t.word ++ v; coefficient = t.coefficient })
       (λ s t. (degree_of weights s.word ≡ degree_of weights t.word) × IsLetterwiseGreater s.word t.word) (λ s t. IsLetterwiseGreater s.word t.word)
@@ -132,7 +139,8 @@ pub IsPolynomial-product_apart : (u : List ℕ) (f : List Term) (v : List ℕ) �
 IsPolynomial-product_apart u f v apart h = record {
   falling = AllPairs-map (λ t. record { word = u ++ t.word ++ v; coefficient = t.coefficient })
       (λ s t. (IsProperPrefix t.word s.word → ⊥) × IsLetterwiseGreater s.word t.word) (λ s t. IsLetterwiseGreater s.word t.word)
-      (λ s t g. in_product s.word t.word g.0 (first_difference s.word t.word g.1)) f (λ i j t below within. (apart i j t below within, h.falling i j t below within));
+      (λ s t g. in_product s.word t.word g.0 (first_difference s.word t.word g.1)) f
+      (λ i j t below within. (apart i j t below within, h.falling i j t below within));
   nonzero = All-map (λ t. t.coefficient ≢ 0) (λ t. record { word = u ++ t.word ++ v; coefficient = t.coefficient }) f h.nonzero;
 }
   where

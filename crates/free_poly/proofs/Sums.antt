@@ -1,5 +1,6 @@
 -- Sums of terms that are one element modulo p.
-use Rattle.std.proofs.Common.{◌≡◌, ◌≢◌, ◌+◌, ◌<◌, ◌%◌, ℕ, Bool, cond, List, [], ◌∷◌, refl, sym, ap, ◌∙◌, inl, inr, bytes_eq, zero-add, arith, get_or, All, subst}
+use Rattle.std.proofs.Common.{◌≡◌, ◌≢◌, ◌+◌, ◌<◌, ◌%◌, ℕ, Bool, cond, List, [], ◌∷◌, refl, sym, ap, ◌∙◌, inl, inr, bytes_eq, zero-add, arith, get_or}
+use Rattle.std.proofs.Common.{All, subst}
 use Rattle.std.proofs.Math.Nat.{mod-eq_of_lt, mod-lt, mod-mod, zero-mod}
 use Rattle.std.proofs.lemmas.Bool.{cases_Bool}
 use Rattle.std.proofs.lemmas.List.Elements.{All-head, All-tail}
@@ -32,7 +33,8 @@ pub word_from_same : (p : ℕ) (P : List ℕ → Type 0) (f g : List Term) (w : 
 word_from_same p P f g w same stands h = word_from_total P g w (λ e. stands (same w ∙ ap (λ (n : ℕ). n % p) e ∙ zero-mod p)) h
 
 -- what holds of each word of a sum holds of each word of the polynomial that is the same element
-pub words_of_same : (p : ℕ) (P : List ℕ → Type 0) (f g : List Term) → IsPolynomial f → HasResidues p f → IsSame p f g → All (λ t. P t.word) g → All (λ t. P t.word) f
+pub words_of_same : (p : ℕ) (P : List ℕ → Type 0) (f g : List Term) → IsPolynomial f → HasResidues p f → IsSame p f g →
+    All (λ t. P t.word) g → All (λ t. P t.word) f
 words_of_same p P f g form residues same h k d within = word_from_same p P f g _ same (Stands-own p f form residues k d within) h
 
 pub IsSame-back : (p : ℕ) (f g : List Term) → IsSame p f g → IsSame p g f
@@ -47,13 +49,15 @@ pub HasResidues-from_totals : (p : ℕ) (f g : List Term) → IsPolynomial f →
 HasResidues-from_totals p f g form totals residues k d within =
     let own : total_at f (get_or f k d).word ≡ (get_or f k d).coefficient = total_at-found f k d _ (AreApart-from_polynomial f form) within refl in
     let is : (get_or f k d).coefficient ≡ total_at g (get_or f k d).word % p = sym own ∙ totals _ in
-    let some : 0 < p = word_from_total (λ w. 0 < p) g (get_or f k d).word (λ e. form.nonzero k d within (is ∙ ap (λ (n : ℕ). n % p) e ∙ zero-mod p)) (λ i e inside. omega (arith, residues i e inside)) in
+    let some : 0 < p = word_from_total (λ w. 0 < p) g (get_or f k d).word
+    (λ e. form.nonzero k d within (is ∙ ap (λ (n : ℕ). n % p) e ∙ zero-mod p)) (λ i e inside. omega (arith, residues i e inside)) in
     subst (λ (n : ℕ). n < p) (sym is) (mod-lt _ some)
 
 pub UsesLetters-from_same : (p names : ℕ) (f g : List Term) → IsPolynomial f → HasResidues p f → IsSame p f g → UsesLetters names g → UsesLetters names f
 UsesLetters-from_same p names f g form residues same letters = words_of_same p (IsOver names) f g form residues same letters
 
-pub HasDegree-from_same : (p : ℕ) (weights : List ℕ) (d : ℕ) (f g : List Term) → IsPolynomial f → HasResidues p f → IsSame p f g → HasDegree weights d g → HasDegree weights d f
+pub HasDegree-from_same : (p : ℕ) (weights : List ℕ) (d : ℕ) (f g : List Term) → IsPolynomial f → HasResidues p f → IsSame p f g →
+    HasDegree weights d g → HasDegree weights d f
 HasDegree-from_same p weights d f g form residues same degrees = words_of_same p (λ w. degree_of weights w ≡ d) f g form residues same degrees
 
 pub degrees_from_same : (p : ℕ) (weights : List ℕ) (most : ℕ) (f g : List Term) → IsPolynomial f → HasResidues p f → IsSame p f g

@@ -1,5 +1,6 @@
 -- What a sum of terms has at a word.
-use Rattle.std.proofs.Common.{ap₂, ◌*◌, Bool, mul-zero, ◌≡◌, ◌≢◌, ◌+◌, ◌<◌, ℕ, suc, zero, true, false, cond, List, [], ◌∷◌, ◌++◌, length, get_or, refl, sym, ap, ◌∙◌, arith, bytes_eq, add_assoc, zero-add, add-zero, All, AllPairs}
+use Rattle.std.proofs.Common.{ap₂, ◌*◌, Bool, mul-zero, ◌≡◌, ◌≢◌, ◌+◌, ◌<◌, ℕ, suc, zero, true, false, cond, List, [], ◌∷◌, ◌++◌, length, get_or}
+use Rattle.std.proofs.Common.{refl, sym, ap, ◌∙◌, arith, bytes_eq, add_assoc, zero-add, add-zero, All, AllPairs}
 use Rattle.std.proofs.Math.Nat.{mul-add}
 use Rattle.std.proofs.lemmas.Bool.{false_from_ne_true}
 use Rattle.std.proofs.lemmas.List.Elements.{All-head, All-tail}
@@ -52,10 +53,12 @@ pub AreApart-tail : (t : Term) (f : List Term) → AreApart (t ∷ f) → AreApa
 AreApart-tail t f h i j d below within = h (suc i) (suc j) d (omega arith) (omega arith)
 
 -- at a word of its own a sum has the coefficient of its term
-pub total_at-found : (f : List Term) (i : ℕ) (d : Term) (w : List ℕ) → AreApart f → i < length f → (get_or f i d).word ≡ w → total_at f w ≡ (get_or f i d).coefficient
+pub total_at-found : (f : List Term) (i : ℕ) (d : Term) (w : List ℕ) → AreApart f → i < length f → (get_or f i d).word ≡ w →
+    total_at f w ≡ (get_or f i d).coefficient
 total_at-found [] i d w h within e = absurd (omega arith)
 total_at-found (t ∷ f) zero d w h within e =
-    rw (here t.word w e) (ap (λ (n : ℕ). t.coefficient + n) (total_at-absent f w (λ k s inside is. rest_apart t f h k s inside (is ∙ sym e))) ∙ add-zero t.coefficient)
+    rw (here t.word w e) (ap (λ (n : ℕ). t.coefficient + n) (total_at-absent f w
+    (λ k s inside is. rest_apart t f h k s inside (is ∙ sym e))) ∙ add-zero t.coefficient)
 total_at-found (t ∷ f) (suc i) d w h within e =
     let other : t.word ≢ w = λ is. h zero (suc i) d (omega arith) within (is ∙ sym e) in
     rw (not_here t.word w other, zero-add) (total_at-found f i d w (AreApart-tail t f h) (omega arith) e)

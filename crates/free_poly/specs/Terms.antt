@@ -1,5 +1,6 @@
 -- Sums of terms, and the coefficient that such a sum has at a word.
-use Rattle.std.specs.Prelude.{ℕ, ◌≡◌, ◌+◌, ◌*◌, ◌%◌, ◌<◌, List, [], ◌∷◌, ◌++◌, All, AllPairs, map, if◌then◌else◌, bytes_eq, ◌==◌}
+use Rattle.std.specs.Prelude.{ℕ, ◌≡◌, ◌+◌, ◌*◌, ◌%◌, ◌<◌, List, [], ◌∷◌, ◌++◌, All, AllPairs, map, if◌then◌else◌}
+use Rattle.std.specs.Prelude.{bytes_eq, ◌==◌}
 use Rattle.words.specs.Words.{IsOver, IsProperPrefix, degree_of}
 use Rattle.free_poly.specs.declared.term.Term.{Term}
 

@@ -23,7 +23,8 @@ pub(crate) fn greatest_degree(alphabet: &Alphabet, terms: &[Term]) -> u64
 pub(crate) fn next_degree(alphabet: &Alphabet, terms: &[Term], first: u64) -> Option<u64>
     requires letters { UsesLetters (length alphabet.now.weights) terms.now }
     requires degrees { All (λ t. degree_of alphabet.now.weights t.word < 2 ^ 64) terms.now }
-    ensures { MatchOption result (HasDegree alphabet.now.weights first terms.now) (IsNextDegree alphabet.now.weights terms.now first) }
+    ensures { MatchOption result (HasDegree alphabet.now.weights first terms.now)
+        (IsNextDegree alphabet.now.weights terms.now first) }
 {
     let mut next = None;
     for term in terms {

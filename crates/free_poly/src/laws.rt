@@ -1,4 +1,7 @@
-ghost use Rattle.free_poly.specs.ElementLaws.{AddsCoefficients, AddsDegreeInProducts, HasNoPrefixInDegree, IsKnownByCoefficients, KeepsDegreeInMultiples, KeepsDegreeInSums, KeepsLettersInMultiples, KeepsLettersInProducts, KeepsLettersInSums, LeadsWithGreatest, MovesCoefficients, ScalesCoefficients};
+ghost use Rattle.free_poly.specs.ElementLaws.{AddsCoefficients, AddsDegreeInProducts, HasNoPrefixInDegree};
+ghost use Rattle.free_poly.specs.ElementLaws.{IsKnownByCoefficients, KeepsDegreeInMultiples, KeepsDegreeInSums};
+ghost use Rattle.free_poly.specs.ElementLaws.{KeepsLettersInMultiples, KeepsLettersInProducts, KeepsLettersInSums};
+ghost use Rattle.free_poly.specs.ElementLaws.{LeadsWithGreatest, MovesCoefficients, ScalesCoefficients};
 
 /// The laws of elements: an element is known by its coefficients, by which sums, multiples and products are defined;
 /// its first word is its greatest; and sums, multiples and products of elements of one degree have one degree.

@@ -4,7 +4,8 @@ ghost use Rattle.words.specs.Order.{letterwise_cmp};
 ghost use Rattle.words.specs.Words.{degree_of};
 ghost use Rattle.free_poly.specs.Degrees.{HasTwoDegrees};
 ghost use Rattle.free_poly.specs.Poly.{IsMonic, IsMultiple, IsPolynomial, lead_of};
-ghost use Rattle.free_poly.specs.Terms.{HasNoPrefix, HasOneDegree, HasResidues, IsSame, UsesLetters, product, scaled, total_at};
+ghost use Rattle.free_poly.specs.Terms.{HasNoPrefix, HasOneDegree, HasResidues, IsSame, UsesLetters, product};
+ghost use Rattle.free_poly.specs.Terms.{scaled, total_at};
 
 use crate::degrees::{greatest_degree, next_degree};
 use crate::fault::PolyFault;

@@ -33,7 +33,8 @@ fn totals_of(
     terms: Vec<Term>,
 ) -> Result<BTreeMap<Word, u32>, NoMemory>
     requires { HasResidues field.now terms.items }
-    ensures { IfOk result (λ m. (w : List ℕ) → unwrap_or (get letterwise_cmp m w) 0 ≡ total_at terms.items w % field.now) }
+    ensures { IfOk result (λ m. (w : List ℕ) → unwrap_or (get letterwise_cmp m w) 0
+        ≡ total_at terms.items w % field.now) }
 {
     let mut totals = BTreeMap::new(alloc);
     for term in terms {

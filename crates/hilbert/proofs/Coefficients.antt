@@ -1,5 +1,6 @@
 -- The number of normal words of a degree is its Hilbert coefficient.
-use Rattle.std.proofs.Common.{◌≡◌, ◌≢◌, ◌⊎◌, ◌+◌, ◌<◌, ◌≤◌, ℕ, zero, suc, List, [], ◌∷◌, ◌++◌, length, take, drop, refl, sym, ap, ◌∙◌, inl, inr, arith, All, AllPairs, subst, Some, append_assoc, length-append}
+use Rattle.std.proofs.Common.{◌≡◌, ◌≢◌, ◌⊎◌, ◌+◌, ◌<◌, ◌≤◌, ℕ, zero, suc, List, [], ◌∷◌, ◌++◌, length, take, drop, refl, sym, ap, ◌∙◌, inl, inr}
+use Rattle.std.proofs.Common.{arith, All, AllPairs, subst, Some, append_assoc, length-append}
 use Rattle.std.specs.List.{Contains}
 use Rattle.std.proofs.Math.Seq.{drop-append_seam, take-append_seam}
 use Rattle.std.proofs.lemmas.List.{take-append-drop}
@@ -57,7 +58,8 @@ factor_occurs v w f =
     let split : w ≡ f.before ++ (v ++ f.after) = f.joined ∙ append_assoc f.before v f.after in
     record {
       within = omega (arith, ap length split, length-append f.before (v ++ f.after), length-append v f.after);
-      same = ap (λ (x : List ℕ). take (length v) (drop (length f.before) x)) split ∙ ap (take (length v)) (drop-append_seam f.before (v ++ f.after)) ∙ take-append_seam v f.after;
+      same = ap (λ (x : List ℕ). take (length v) (drop (length f.before) x)) split
+          ∙ ap (take (length v)) (drop-append_seam f.before (v ++ f.after)) ∙ take-append_seam v f.after;
     }
 
 occurs_factor : (v w : List ℕ) (k : ℕ) → OccursAt v w k → IsFactor v w
@@ -68,12 +70,14 @@ occurs_factor v w k o = record {
       ∙ ap (λ (x : List ℕ). take k w ++ x) (take-append-drop (length v) (drop k w)) ∙ take-append-drop k w);
 }
 
-module _ (p : ℕ) (relations : List (List Term)) (basis : Elements) (st : IsSetting p basis.weights relations) (kept : IsKept basis) (upto : IsReducedUpto p relations basis) where
+module _ (p : ℕ) (relations : List (List Term)) (basis : Elements) (st : IsSetting p basis.weights relations) (kept : IsKept basis)
+    (upto : IsReducedUpto p relations basis) where
   lower : AreLower p basis.weights relations (basis.done + 1) basis.elements
   lower = lists_lower p basis.weights relations st (basis.done + 1) basis (record { kept = kept; next = refl; same_weights = refl; reduced = upto })
 
   -- a leading word is not normal
-  leading_not_normal : (d : ℕ) (w : List ℕ) → d ≤ basis.done → Contains (words_of_degree basis.weights d) w → IsNormal basis.elements w → IsLeadingWord p basis.weights relations d w → ⊥
+  leading_not_normal : (d : ℕ) (w : List ℕ) → d ≤ basis.done → Contains (words_of_degree basis.weights d) w → IsNormal basis.elements w →
+      IsLeadingWord p basis.weights relations d w → ⊥
   leading_not_normal d w le m normal l =
       let says = words_of_degree-says basis.weights st.are_weights d w m in
       let own = subst (λ (n : ℕ). IsLeadingWord p basis.weights relations n w) (sym says.1) l in
@@ -84,7 +88,8 @@ module _ (p : ℕ) (relations : List (List Term)) (basis : Elements) (st : IsSet
       normal g.0 f.0 (length f.1.before) ((lower g.0).1 (degree_of basis.weights f.0, within, g.1)) g.2 (factor_occurs f.0 w f.1)
 
   -- the other words are
-  normal_from : (d : ℕ) (w : List ℕ) → Contains (words_of_degree basis.weights d) w → (IsLeadingWord p basis.weights relations d w → ⊥) → IsNormal basis.elements w
+  normal_from : (d : ℕ) (w : List ℕ) → Contains (words_of_degree basis.weights d) w → (IsLeadingWord p basis.weights relations d w → ⊥) →
+      IsNormal basis.elements w
   normal_from d w m not g v k among led o =
       let says = words_of_degree-says basis.weights st.are_weights d w m in
       let r = (lower g).0 among in

@@ -18,12 +18,18 @@ indexes_leads b kept leads is = record {
   some = All-from_members (λ l. l.word ≢ []) leads
       (λ l m.
       let g = (is l).0 m in
-      let in_list : Contains b.elements g.0 = (l.element, slice_get_within b.elements l.element g.0 g.1, get_or_from_slice_get b.elements l.element g.0 g.0 g.1) in
-      (kept_fit b.weights b.done kept.weights kept.degrees g.0 (All-contains (IsKeptElement b.weights b.done) b.elements g.0 kept.each in_list) l.word g.2).some);
+      let in_list : Contains b.elements g.0 = (
+        l.element,
+        slice_get_within b.elements l.element g.0 g.1,
+        get_or_from_slice_get b.elements l.element g.0 g.0 g.1,
+      ) in
+      (kept_fit b.weights b.done kept.weights kept.degrees g.0 (All-contains (IsKeptElement b.weights b.done) b.elements g.0 kept.each
+      in_list) l.word g.2).some);
   says = λ w. (
     λ free g v k m led o.
         let at : slice_get b.elements m.0 ≡ Some g = slice_get-get_or b.elements m.0 g m.1 ∙ ap Some m.2 in
-        All-contains (λ l. OccursAt l.word w k → ⊥) leads (record { word = v; element = m.0 }) (free k) ((is (record { word = v; element = m.0 })).1 (g, at, led)) o,
+        All-contains (λ l. OccursAt l.word w k → ⊥) leads (record { word = v; element = m.0 }) (free k)
+        ((is (record { word = v; element = m.0 })).1 (g, at, led)) o,
     λ normal at. All-from_members (λ l. OccursAt l.word w at → ⊥) leads
         (λ l m o.
         let g = (is l).0 m in

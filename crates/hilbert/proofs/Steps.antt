@@ -1,5 +1,6 @@
 -- One more degree: its number, and the degrees that are held.
-use Rattle.std.proofs.Common.{◌≡◌, ◌≢◌, ◌⊎◌, ◌+◌, ◌-◌, ◌<◌, ◌≤◌, ℕ, zero, suc, min, List, [], ◌∷◌, ◌++◌, Result, Ok, Err, IfOk, length, drop, get_or, refl, sym, ap, ◌∙◌, inl, inr, arith, All, subst, length-append}
+use Rattle.std.proofs.Common.{◌≡◌, ◌≢◌, ◌⊎◌, ◌+◌, ◌-◌, ◌<◌, ◌≤◌, ℕ, zero, suc, min, List, [], ◌∷◌, ◌++◌, Result, Ok, Err, IfOk, length, drop, get_or}
+use Rattle.std.proofs.Common.{refl, sym, ap, ◌∙◌, inl, inr, arith, All, subst, length-append}
 use Rattle.std.specs.List.{Contains}
 use Rattle.std.proofs.lemmas.Bool.{cases_lt}
 use Rattle.std.proofs.lemmas.List.{get_or_append_left, get_or_push}
@@ -15,7 +16,8 @@ if_ok P Q (Ok v) h f = f v h
 if_ok P Q (Err e) h f = h
 
 -- the normal words of the index are those of the elements
-pub normal_words_of : (weights : List ℕ) (G : List (List Term)) (leads : List Lead) (d : ℕ) (words : List (List ℕ)) → IndexesLeads G leads → AreNormal weights leads d words → AreNormalWords weights G d words
+pub normal_words_of : (weights : List ℕ) (G : List (List Term)) (leads : List Lead) (d : ℕ) (words : List (List ℕ)) → IndexesLeads G leads →
+    AreNormal weights leads d words → AreNormalWords weights G d words
 normal_words_of weights G leads d words i h = record {
   exactly = λ w. (λ m. let s = (h.exactly w).0 m in (s.0, (i.says w).0 s.1), λ (m, n). (h.exactly w).1 (m, (i.says w).1 n));
   falling = h.falling;
@@ -25,7 +27,8 @@ module _ (weights : List ℕ) (G : List (List Term)) (limit : ℕ) where
   pub no_counts : AreCounts weights G limit 0 []
   no_counts = record { size = refl; each = λ d lt. absurd (omega (arith, lt)); few = All-nil (λ n. n ≤ limit) }
 
-  pub counts-more : (d : ℕ) (numbers : List ℕ) (words : List (List ℕ)) → AreCounts weights G limit d numbers → AreNormalWords weights G d words → length words ≤ limit → AreCounts weights G limit (d + 1) (numbers ++ length words ∷ [])
+  pub counts-more : (d : ℕ) (numbers : List ℕ) (words : List (List ℕ)) → AreCounts weights G limit d numbers →
+      AreNormalWords weights G d words → length words ≤ limit → AreCounts weights G limit (d + 1) (numbers ++ length words ∷ [])
   counts-more d numbers words h normal le = record {
     size = omega (arith, h.size, length-append numbers (length words ∷ []));
     each = λ e lt. elim (cases_lt e d) [
@@ -33,12 +36,14 @@ module _ (weights : List ℕ) (G : List (List Term)) (limit : ℕ) where
       | inr from ↦
           let same : d ≡ e = omega (arith, lt, from) in
           let one : IsCount weights G d (length words) = record { words = words; are_normal = normal; count = refl } in
-          subst (IsCount weights G e) (sym (get_or_push numbers (length words) 0 e (h.size ∙ same))) (subst (λ (k : ℕ). IsCount weights G k (length words)) same one)
+          subst (IsCount weights G e) (sym (get_or_push numbers (length words) 0 e (h.size ∙ same)))
+          (subst (λ (k : ℕ). IsCount weights G k (length words)) same one)
     ];
     few = All-append (λ n. n ≤ limit) numbers (length words ∷ []) h.few (All-cons (λ n. n ≤ limit) (length words) [] le (All-nil (λ n. n ≤ limit)));
   }
 
-  pub first_large : (bound d degree value : ℕ) (numbers below words : _) → d ≤ bound → AreCounts weights G limit d numbers → AreNormalWords weights G d words → limit < length words → d ≡ degree → limit + 1 ≡ value → numbers ≡ below
+  pub first_large : (bound d degree value : ℕ) (numbers below words : _) → d ≤ bound → AreCounts weights G limit d numbers →
+      AreNormalWords weights G d words → limit < length words → d ≡ degree → limit + 1 ≡ value → numbers ≡ below
       → IsFirstLarge weights G limit bound degree value below
   first_large bound d degree value numbers below words le h normal more same kept is = record {
     upto = omega (arith, le, same);
@@ -63,7 +68,8 @@ module _ (weights : List ℕ) (leads : List Lead) where
   next_of-push [] n d e same = omega (arith, same)
   next_of-push (m ∷ held) n d e same = omega (arith, e, length-append held (n ∷ []))
 
-  pushed : (held : List WordsOfDegree) (n : WordsOfDegree) (d : ℕ) → AreHeld weights leads held → next_of held ≡ d → n.degree ≡ d → AreNormal weights leads d n.words → IsRow (d + 1) (held ++ n ∷ [])
+  pushed : (held : List WordsOfDegree) (n : WordsOfDegree) (d : ℕ) → AreHeld weights leads held → next_of held ≡ d → n.degree ≡ d →
+      AreNormal weights leads d n.words → IsRow (d + 1) (held ++ n ∷ [])
   pushed held n d h e same normal =
       let size = length-append held (n ∷ []) in
       record {
@@ -74,7 +80,9 @@ module _ (weights : List ℕ) (leads : List Lead) where
               omega (arith, size, last, same, ap (λ (x : WordsOfDegree). x.degree) (get_or_push held n m i last))
         ];
         each = All-append (λ k. AreNormal weights leads k.degree k.words) held (n ∷ []) h.each
-            (All-cons (λ k. AreNormal weights leads k.degree k.words) n [] (subst (λ (k : ℕ). AreNormal weights leads k n.words) (sym same) normal) (All-nil (λ k. AreNormal weights leads k.degree k.words)));
+            (All-cons (λ k. AreNormal weights leads k.degree k.words) n []
+            (subst (λ (k : ℕ). AreNormal weights leads k n.words) (sym same) normal)
+            (All-nil (λ k. AreNormal weights leads k.degree k.words)));
         is_next = next_of-push held n d e same;
       }
 
@@ -110,13 +118,15 @@ module _ (weights : List ℕ) (leads : List Lead) where
   still held d k (inl e) lt is = omega (arith, e, is)
   still held d k (inr le) lt is = absurd (omega (arith, le, lt))
 
-  full : (held : List WordsOfDegree) (n : WordsOfDegree) (d : ℕ) → 8 ≤ length held → length held ≤ 8 → IsRow d (held ++ n ∷ []) → IsNextHeld d (drop 1 (held ++ n ∷ []))
+  full : (held : List WordsOfDegree) (n : WordsOfDegree) (d : ℕ) → 8 ≤ length held → length held ≤ 8 → IsRow d (held ++ n ∷ []) →
+      IsNextHeld d (drop 1 (held ++ n ∷ []))
   full [] n d le few r = absurd (omega (arith, le))
   full (x ∷ held) n d le few r =
       let size = length-append held (n ∷ []) in
       from_row d (held ++ n ∷ []) (without_first d x (held ++ n ∷ []) (omega (arith, size)) r) (inr (omega (arith, size, le))) (omega (arith, size, few))
 
-  pub held-more : (held : List WordsOfDegree) (n : WordsOfDegree) (d : ℕ) → IsNextHeld d held → n.degree ≡ d → AreNormal weights leads d n.words → IsNextHeld (d + 1) (drop (length held + 1 - 8) (held ++ n ∷ []))
+  pub held-more : (held : List WordsOfDegree) (n : WordsOfDegree) (d : ℕ) → IsNextHeld d held → n.degree ≡ d →
+      AreNormal weights leads d n.words → IsNextHeld (d + 1) (drop (length held + 1 - 8) (held ++ n ∷ []))
   held-more held n d h same normal =
       let row = pushed held n d h.are_held h.is_next same normal in
       let size = length-append held (n ∷ []) in

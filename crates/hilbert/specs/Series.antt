@@ -24,7 +24,8 @@ pub record AreCounts (weights : List ℕ) (G : List (List Term)) (limit degrees 
   pub few : All (λ n. n ≤ limit) numbers
 
 -- the first degree whose number is above the limit, and the numbers below it
-pub record IsFirstLarge (weights : List ℕ) (G : List (List Term)) (limit bound degree value : ℕ) (below : List ℕ) : Type 0 where
+pub record IsFirstLarge (weights : List ℕ) (G : List (List Term)) (limit bound degree value : ℕ)
+    (below : List ℕ) : Type 0 where
   pub upto : degree ≤ bound
   pub kept : value ≡ limit + 1
   pub before : AreCounts weights G limit degree below
@@ -32,18 +33,23 @@ pub record IsFirstLarge (weights : List ℕ) (G : List (List Term)) (limit bound
   pub is_number : IsCount weights G degree number
   pub large : limit < number
 
--- the index has the leading words, none of which is empty: no word of it stands in a word exactly where no leading word does
+-- the index has the leading words, none of which is empty: no word of it stands in a word exactly where no leading
+-- word does
 pub record IndexesLeads (G : List (List Term)) (leads : List Lead) : Type 0 where
   pub some : All (λ l. l.word ≢ []) leads
   pub says : (w : List ℕ) → IsFree leads w ↔ IsNormal G w
 
 -- the normal words of the last degrees, all degrees that a letter can leave among them, or none in the beginning
 pub record AreHeld (weights : List ℕ) (leads : List Lead) (held : List WordsOfDegree) : Type 0 where
-  pub consecutive : (i : ℕ) (n : WordsOfDegree) → i < length held → (slice_index_or held i n).degree + length held ≡ next_of held + i
+  pub consecutive : (i : ℕ) (n : WordsOfDegree) → i < length held →
+      (slice_index_or held i n).degree + length held ≡ next_of held + i
   pub each : All (λ n. AreNormal weights leads n.degree n.words) held
   pub enough : (next_of held ≡ length held) ⊎ (8 ≤ length held)
 
 -- up to the last degree that is done the coefficients are the numbers of normal words
 abbrev pub CountsCoefficients : Type 0
-CountsCoefficients = (p : ℕ) (relations : List (List Term)) (basis : Elements) → IsSetting p basis.weights relations → IsKept basis → IsReducedUpto p relations basis
-    → (d n : ℕ) → d ≤ basis.done → IsCount basis.weights basis.elements d n → IsHilbertCoefficient p basis.weights relations d n
+CountsCoefficients = (p : ℕ) (relations : List (List Term)) (basis : Elements) → IsSetting p basis.weights relations
+    → IsKept basis →
+    IsReducedUpto p relations basis
+    → (d n : ℕ) → d ≤ basis.done → IsCount basis.weights basis.elements d n →
+    IsHilbertCoefficient p basis.weights relations d n

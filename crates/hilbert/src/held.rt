@@ -1,4 +1,5 @@
-ghost use Rattle.std.specs.Prelude.{◌≡◌, ◌≢◌, ◌+◌, ◌-◌, ◌++◌, ◌∷◌, ◌<◌, ◌≤◌, List, [], ℕ, All, IfOk, IsErrOf, OnOk, drop, length};
+ghost use Rattle.std.specs.Prelude.{◌≡◌, ◌≢◌, ◌+◌, ◌-◌, ◌++◌, ◌∷◌, ◌<◌, ◌≤◌, List, [], ℕ, All, IfOk, IsErrOf, OnOk};
+ghost use Rattle.std.specs.Prelude.{drop, length};
 ghost use Rattle.normal_words.specs.Normal.{AreNormal, next_of};
 ghost use Rattle.hilbert.specs.Series.{AreHeld};
 
@@ -23,7 +24,9 @@ pub(crate) fn words_after(
     ensures words { IfOk result (λ n. AreNormal alphabet.now.weights index.now (next_of held.now) n.words) }
     ensures within { IfOk result (λ n. length n.words ≤ most) }
 
-    ensures many { IsErrOf result NormalFault.TooMany → (words : List (List ℕ)) × AreNormal alphabet.now.weights index.now (next_of held.now) words × (most < length words) }
+    ensures many { IsErrOf result NormalFault.TooMany →
+        (words : List (List ℕ)) × AreNormal alphabet.now.weights index.now (next_of held.now) words
+        × (most < length words) }
 {
     if !held.is_empty() {
         return next_degree(alloc, alphabet, held, index, most);

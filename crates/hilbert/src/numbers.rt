@@ -48,10 +48,12 @@ pub fn series(
     requires weights { basis.now.weights ≡ alphabet.now.weights }
     requires factor_free { IsFactorFree basis.now.elements }
 
-    ensures counts { IfOk result (λ numbers. AreCounts basis.now.weights basis.now.elements limits.now.normal_words (bound + 1) numbers.items) }
+    ensures counts { IfOk result (λ numbers. AreCounts basis.now.weights basis.now.elements limits.now.normal_words
+        (bound + 1) numbers.items) }
 
     // Where the basis is reduced, these are the coefficients.
-    ensures coefficients { IfOk result (λ numbers. (p : ℕ) (relations : List (List Term)) → IsSetting p basis.now.weights relations → IsReducedUpto p relations basis.now
+    ensures coefficients { IfOk result (λ numbers. (p : ℕ) (relations : List (List Term)) →
+        IsSetting p basis.now.weights relations → IsReducedUpto p relations basis.now
         → (d : ℕ) → d ≤ bound → IsHilbertCoefficient p basis.now.weights relations d (slice_index numbers.items d)) }
 
     ensures limit { (degree value : ℕ) (below : List ℕ) → IsErrOf result (SeriesFault.Limit degree value below)
@@ -73,10 +75,12 @@ fn numbers_upto(
     requires bound { bound ≤ 64 }
     requires some { All (λ l. l.word ≢ []) index.now }
 
-    ensures counts { IfOk result (λ numbers. (G : List (List Term)) → IndexesLeads G index.now → AreCounts alphabet.now.weights G most (bound + 1) numbers.items) }
+    ensures counts { IfOk result (λ numbers. (G : List (List Term)) → IndexesLeads G index.now →
+        AreCounts alphabet.now.weights G most (bound + 1) numbers.items) }
 
     ensures limit { (degree value : ℕ) (below : List ℕ) → IsErrOf result (SeriesFault.Limit degree value below)
-        → (G : List (List Term)) → IndexesLeads G index.now → IsFirstLarge alphabet.now.weights G most bound degree value below }
+        → (G : List (List Term)) → IndexesLeads G index.now →
+        IsFirstLarge alphabet.now.weights G most bound degree value below }
 {
     let mut numbers = Vec::new(alloc);
     let mut held = Vec::new(alloc);

@@ -6,7 +6,8 @@ use Rattle.words.specs.Words.{AreWeights, IsOver, degree_of}
 use Rattle.free_poly.specs.declared.term.Term.{Term}
 use Rattle.free_poly.specs.Terms.{HasDegree, product, scaled, total_at}
 use Rattle.free_poly.specs.Poly.{lead_of}
-use Rattle.free_poly.proofs.Products.{HasDegree-product, HasOneDegree-from, HasResidues-product, IsPolynomial-product, IsSame-product, UsesLetters-product, product-append, product-product, product-scaled}
+use Rattle.free_poly.proofs.Products.{HasDegree-product, HasOneDegree-from, HasResidues-product, IsPolynomial-product, IsSame-product}
+use Rattle.free_poly.proofs.Products.{UsesLetters-product, product-append, product-product, product-scaled}
 use Rattle.ideal_laws.specs.Ideal.{IsElement, IsInIdeal, IsMultiple, Multiple, terms_of}
 
 -- words put round a multiple
@@ -31,7 +32,8 @@ module _ (p : ℕ) (weights : List ℕ) (aw : AreWeights weights) where
     degree = HasDegree-product weights d u f v e.degree;
   }
 
-  pub inside_product : (relations : List (List Term)) (d : ℕ) (u : List ℕ) (f : List Term) (v : List ℕ) → IsOver (length weights) u → IsOver (length weights) v → IsInIdeal p weights relations d f
+  pub inside_product : (relations : List (List Term)) (d : ℕ) (u : List ℕ) (f : List Term) (v : List ℕ) → IsOver (length weights) u →
+      IsOver (length weights) v → IsInIdeal p weights relations d f
       → IsInIdeal p weights relations (degree_of weights u + d + degree_of weights v) (product u f v)
   inside_product relations d u f v hu hv i = record {
     element = IsElement-product d u f v hu hv i.element;
@@ -42,7 +44,8 @@ module _ (p : ℕ) (weights : List ℕ) (aw : AreWeights weights) where
           left_over = All-append (λ x. x < length weights) u _ hu h.left_over;
           right_over = All-append (λ x. x < length weights) _ v h.right_over hv;
           among = h.among;
-          degree = subst (HasDegree weights (degree_of weights u + d + degree_of weights v)) (product-product u _ _ _ v) (HasDegree-product weights d u _ v h.degree);
+          degree = subst (HasDegree weights (degree_of weights u + d + degree_of weights v)) (product-product u _ _ _ v)
+              (HasDegree-product weights d u _ v h.degree);
         });
     sum = λ w. IsSame-product p u f (flat_map terms_of i.multiples) v i.sum w ∙ ap (λ (g : List Term). total_at g w % p) (multiples-widened u v i.multiples);
   }

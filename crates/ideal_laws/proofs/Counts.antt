@@ -1,5 +1,6 @@
 -- How many elements of a list have a key up to a number, and where those with that key stand in a list that rises.
-use Rattle.std.proofs.Common.{ap₂, ◌≡◌, ◌+◌, ◌-◌, ◌<◌, ◌≤◌, ◌==◌, ℕ, suc, Bool, true, false, cond, List, [], ◌∷◌, ◌++◌, length, take, drop, refl, sym, ap, ◌∙◌, inl, inr, arith, eq-eqb, All, AllPairs}
+use Rattle.std.proofs.Common.{ap₂, ◌≡◌, ◌+◌, ◌-◌, ◌<◌, ◌≤◌, ◌==◌, ℕ, suc, Bool, true, false, cond, List, [], ◌∷◌, ◌++◌, length, take, drop, refl, sym}
+use Rattle.std.proofs.Common.{ap, ◌∙◌, inl, inr, arith, eq-eqb, All, AllPairs}
 use Rattle.std.specs.List.{count_by, filter, slice_range}
 use Rattle.std.specs.Prelude.{leb, ltb}
 use Rattle.std.proofs.lemmas.Bool.{cases_Bool, cases_lt, eqb-true, le-leb, leb-true, lt-ltb, ltb-true}
@@ -79,17 +80,34 @@ module _ {X : Type 0} (key : X → ℕ) where
   pub below-suc : (d : ℕ) (xs : List X) → below (suc d) xs ≡ upto d xs
   below-suc d [] = refl
   below-suc d (x ∷ xs) = elim (cases_lt d (key x)) [
-    | inl lt ↦ count_by-later (λ x. ltb (key x) (suc d)) x xs (not_ltb (key x) (suc d) (omega (arith, lt))) ∙ below-suc d xs ∙ sym (count_by-later (λ x. leb (key x) d) x xs (not_leb (key x) d lt))
-    | inr le ↦ count_by-first (λ x. ltb (key x) (suc d)) x xs (lt-ltb (key x) (suc d) (omega (arith, le))) ∙ ap suc (below-suc d xs) ∙ sym (count_by-first (λ x. leb (key x) d) x xs (le-leb (key x) d le))
+    | inl lt ↦ count_by-later (λ x. ltb (key x) (suc d)) x xs (not_ltb (key x) (suc d) (omega (arith, lt))) ∙ below-suc d xs
+        ∙ sym (count_by-later (λ x. leb (key x) d) x xs (not_leb (key x) d lt))
+    | inr le ↦ count_by-first (λ x. ltb (key x) (suc d)) x xs (lt-ltb (key x) (suc d) (omega (arith, le))) ∙ ap suc (below-suc d xs)
+        ∙ sym (count_by-first (λ x. leb (key x) d) x xs (le-leb (key x) d le))
   ]
 
   pub below-le-upto : (d : ℕ) (xs : List X) → below d xs ≤ upto d xs
   below-le-upto d [] = omega arith
   below-le-upto d (x ∷ xs) = elim (cases_lt d (key x)) [
-    | inl lt ↦ omega (arith, count_by-later (λ x. ltb (key x) d) x xs (not_ltb (key x) d (omega (arith, lt))), count_by-later (λ x. leb (key x) d) x xs (not_leb (key x) d lt), below-le-upto d xs)
+    | inl lt ↦ omega (
+      arith,
+      count_by-later (λ x. ltb (key x) d) x xs (not_ltb (key x) d (omega (arith, lt))),
+      count_by-later (λ x. leb (key x) d) x xs (not_leb (key x) d lt),
+      below-le-upto d xs,
+    )
     | inr le ↦ elim (cases_lt (key x) d) [
-      | inl under ↦ omega (arith, count_by-first (λ x. ltb (key x) d) x xs (lt-ltb (key x) d under), count_by-first (λ x. leb (key x) d) x xs (le-leb (key x) d le), below-le-upto d xs)
-      | inr not ↦ omega (arith, count_by-later (λ x. ltb (key x) d) x xs (not_ltb (key x) d not), count_by-first (λ x. leb (key x) d) x xs (le-leb (key x) d le), below-le-upto d xs)
+      | inl under ↦ omega (
+        arith,
+        count_by-first (λ x. ltb (key x) d) x xs (lt-ltb (key x) d under),
+        count_by-first (λ x. leb (key x) d) x xs (le-leb (key x) d le),
+        below-le-upto d xs,
+      )
+      | inr not ↦ omega (
+        arith,
+        count_by-later (λ x. ltb (key x) d) x xs (not_ltb (key x) d not),
+        count_by-first (λ x. leb (key x) d) x xs (le-leb (key x) d le),
+        below-le-upto d xs,
+      )
     ]
   ]
 
@@ -102,22 +120,28 @@ module _ {X : Type 0} (key : X → ℕ) where
       elim (cases_lt (key x) d) [
         | inl under ↦
             let other : (key x == d) ≡ false = not_eqb (key x) d (λ e. omega (arith, e, under)) in
-            ap₂ (slice_range (x ∷ xs)) (count_by-first (λ x. ltb (key x) d) x xs (lt-ltb (key x) d under)) (count_by-first (λ x. leb (key x) d) x xs (le-leb (key x) d (omega (arith, under))))
-            ∙ ap (λ (n : ℕ). take n (drop (below d xs) xs)) (omega arith) ∙ rest ∙ sym (ap (λ (b : Bool). cond b (x ∷ filter (λ x. key x == d) xs) (filter (λ x. key x == d) xs)) other)
+            ap₂ (slice_range (x ∷ xs)) (count_by-first (λ x. ltb (key x) d) x xs (lt-ltb (key x) d under))
+            (count_by-first (λ x. leb (key x) d) x xs (le-leb (key x) d (omega (arith, under))))
+            ∙ ap (λ (n : ℕ). take n (drop (below d xs) xs)) (omega arith) ∙ rest
+            ∙ sym (ap (λ (b : Bool). cond b (x ∷ filter (λ x. key x == d) xs) (filter (λ x. key x == d) xs)) other)
         | inr from ↦ elim (cases_lt d (key x)) [
           | inl over ↦
               let other : (key x == d) ≡ false = not_eqb (key x) d (λ e. omega (arith, e, over)) in
               let above : All (λ y. d < key y) xs = λ k e within. omega (arith, over, later k e within) in
               let none : below d xs ≡ 0 = below-none d xs (λ k e within. omega (arith, above k e within)) in
               let nothing : upto d xs ≡ 0 = upto-none d xs above in
-              ap₂ (slice_range (x ∷ xs)) (count_by-later (λ x. ltb (key x) d) x xs (not_ltb (key x) d from) ∙ none) (count_by-later (λ x. leb (key x) d) x xs (not_leb (key x) d over) ∙ nothing)
-              ∙ sym (ap₂ (slice_range xs) none nothing) ∙ rest ∙ sym (ap (λ (b : Bool). cond b (x ∷ filter (λ x. key x == d) xs) (filter (λ x. key x == d) xs)) other)
+              ap₂ (slice_range (x ∷ xs)) (count_by-later (λ x. ltb (key x) d) x xs (not_ltb (key x) d from) ∙ none)
+              (count_by-later (λ x. leb (key x) d) x xs (not_leb (key x) d over) ∙ nothing)
+              ∙ sym (ap₂ (slice_range xs) none nothing) ∙ rest ∙ sym (ap
+              (λ (b : Bool). cond b (x ∷ filter (λ x. key x == d) xs) (filter (λ x. key x == d) xs)) other)
           | inr le ↦
               let equal : (key x == d) ≡ true = eq-eqb (key x) d (omega (arith, from, le)) in
               let none : below d xs ≡ 0 = below-none d xs (λ k e within. omega (arith, from, later k e within)) in
-              ap₂ (slice_range (x ∷ xs)) (count_by-later (λ x. ltb (key x) d) x xs (not_ltb (key x) d from) ∙ none) (count_by-first (λ x. leb (key x) d) x xs (le-leb (key x) d le))
+              ap₂ (slice_range (x ∷ xs)) (count_by-later (λ x. ltb (key x) d) x xs (not_ltb (key x) d from) ∙ none)
+              (count_by-first (λ x. leb (key x) d) x xs (le-leb (key x) d le))
               ∙ ap (λ (n : ℕ). take n (x ∷ xs)) (let whole : suc (upto d xs) - 0 ≡ suc (upto d xs) = omega arith in whole)
-              ∙ ap (λ (ys : List X). x ∷ ys) (ap (λ (n : ℕ). take n xs) (let whole : upto d xs ≡ upto d xs - 0 = omega arith in whole) ∙ sym (ap (λ (n : ℕ). slice_range xs n (upto d xs)) none) ∙ rest)
+              ∙ ap (λ (ys : List X). x ∷ ys) (ap (λ (n : ℕ). take n xs) (let whole : upto d xs ≡ upto d xs - 0 = omega arith in whole)
+              ∙ sym (ap (λ (n : ℕ). slice_range xs n (upto d xs)) none) ∙ rest)
               ∙ sym (ap (λ (b : Bool). cond b (x ∷ filter (λ x. key x == d) xs) (filter (λ x. key x == d) xs)) equal)
         ]
       ]

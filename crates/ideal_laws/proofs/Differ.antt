@@ -1,5 +1,6 @@
 -- Two products of lower elements with one leading word differ by smaller ones, or by the row of an obstruction.
-use Rattle.std.proofs.Common.{ap₂, ◌≡◌, ◌≢◌, ◌⊎◌, ◌+◌, ◌-◌, ◌%◌, ◌<◌, ◌≤◌, ℕ, true, List, [], ◌∷◌, ◌++◌, length, refl, sym, ap, ◌∙◌, inl, inr, arith, AllPairs, subst, Some, bytes_eq, length-append, append-nil}
+use Rattle.std.proofs.Common.{ap₂, ◌≡◌, ◌≢◌, ◌⊎◌, ◌+◌, ◌-◌, ◌%◌, ◌<◌, ◌≤◌, ℕ, true, List, [], ◌∷◌, ◌++◌, length, refl, sym, ap, ◌∙◌, inl, inr, arith}
+use Rattle.std.proofs.Common.{AllPairs, subst, Some, bytes_eq, length-append, append-nil}
 use Rattle.std.specs.List.{Contains}
 use Rattle.std.proofs.Math.Nat.{mod-eq_of_lt}
 use Rattle.std.proofs.lemmas.Bool.{cases_Bool, cases_lt}
@@ -65,7 +66,8 @@ some_same : (a b : List ℕ) → Some a ≡ Some b → a ≡ b
 some_same a b e = cc e
 
 -- behind a member of a falling list all are smaller
-behind_it : (pre : List (List ℕ)) (x : List ℕ) (xs : List (List ℕ)) → AllPairs IsLetterwiseGreater (pre ++ x ∷ xs) → (y : List ℕ) → Contains xs y → IsLetterwiseGreater x y
+behind_it : (pre : List (List ℕ)) (x : List ℕ) (xs : List (List ℕ)) → AllPairs IsLetterwiseGreater (pre ++ x ∷ xs) → (y : List ℕ) →
+    Contains xs y → IsLetterwiseGreater x y
 behind_it [] x xs h y m = All-contains (IsLetterwiseGreater x) xs y (AllPairs-first IsLetterwiseGreater x xs h) m
 behind_it (a ∷ pre) x xs h y m = behind_it pre x xs (AllPairs-rest IsLetterwiseGreater a (pre ++ x ∷ xs) h) y m
 
@@ -107,7 +109,8 @@ module _ (p : ℕ) (weights : List ℕ) (relations : List (List Term)) (st : IsS
   less_itself a y = ap (Kd.add (a y)) (Kd.mul_comm (Kd.neg Kd.one) (a y) ∙ mul_neg Kd (a y) Kd.one ∙ ap Kd.neg (Kd.mul_one (a y))) ∙ Kd.add_neg (a y)
 
   -- reduced elements with one leading word are one
-  reduced_one : (e : ℕ) (f g : List Term) (w : List ℕ) → IsReduced p weights relations e f → IsReduced p weights relations e g → lead_of f ≡ Some w → lead_of g ≡ Some w → f ≡ g
+  reduced_one : (e : ℕ) (f g : List Term) (w : List ℕ) → IsReduced p weights relations e f → IsReduced p weights relations e g →
+      lead_of f ≡ Some w → lead_of g ≡ Some w → f ≡ g
   reduced_one e f g w hf hg lf lg =
       let b = has_one_basis p weights relations st e in
       elim (pair_cases HasGreaterLead b.value b.holds.falling f g ((b.holds.exactly f).1 hf) ((b.holds.exactly g).1 hg)) [
@@ -118,14 +121,17 @@ module _ (p : ℕ) (weights : List ℕ) (relations : List (List Term)) (st : IsS
 
   pub lower_degree : (d : ℕ) (g : List Term) (m : List ℕ) → (l : IsLower p weights relations st d g) → lead_of g ≡ Some m → degree_of weights m ≡ l.degree
   lower_degree d [] m l e = cc e
-  lower_degree d (t ∷ g) m l e = let is : t.word ≡ m = cc e in ap (degree_of weights) (sym is) ∙ All-head (λ (s : Term). degree_of weights s.word ≡ l.degree) t g l.reduced.inside.element.degree
+  lower_degree d (t ∷ g) m l e = let is : t.word ≡ m = cc e in ap (degree_of weights) (sym is)
+      ∙ All-head (λ (s : Term). degree_of weights s.word ≡ l.degree) t g l.reduced.inside.element.degree
 
   pub lead_over : (d : ℕ) (g : List Term) (m : List ℕ) → IsLower p weights relations st d g → lead_of g ≡ Some m → IsOver (length weights) m
   lead_over d [] m l e = cc e
-  lead_over d (t ∷ g) m l e = let is : t.word ≡ m = cc e in subst (IsOver (length weights)) is (All-head (λ (s : Term). IsOver (length weights) s.word) t g l.reduced.inside.element.letters)
+  lead_over d (t ∷ g) m l e = let is : t.word ≡ m = cc e in subst (IsOver (length weights)) is
+      (All-head (λ (s : Term). IsOver (length weights) s.word) t g l.reduced.inside.element.letters)
 
   -- a lead is no proper factor of another
-  no_factor : (d : ℕ) (g h : List Term) (m n : List ℕ) → IsLower p weights relations st d g → IsLower p weights relations st d h → lead_of g ≡ Some m → lead_of h ≡ Some n → IsFactor n m → n ≢ m → ⊥
+  no_factor : (d : ℕ) (g h : List Term) (m n : List ℕ) → IsLower p weights relations st d g → IsLower p weights relations st d h →
+      lead_of g ≡ Some m → lead_of h ≡ Some n → IsFactor n m → n ≢ m → ⊥
   no_factor d g h m n lg lh eg eh i ne = (lg.reduced.minimal m eg).none_inside n (record { inside = i; other = ne }) (lh.reduced.minimal n eh).leading
 
   -- sums over smaller terms, one beside the other
@@ -133,31 +139,41 @@ module _ (p : ℕ) (weights : List ℕ) (relations : List (List Term)) (st : IsS
     abbrev Below : Vd → Type 0
     Below v = IsInSpan Kd (List ℕ) (IsBelow d w) v
 
-    second_below : (u c v : List ℕ) (g : List Term) (h : List Term) → ((t : Term) → Contains h t → IsBelow d w (vec (product u g (c ++ t.word ++ v)))) → Below (vec (by_second u c v g h))
+    second_below : (u c v : List ℕ) (g : List Term) (h : List Term) →
+        ((t : Term) → Contains h t → IsBelow d w (vec (product u g (c ++ t.word ++ v)))) → Below (vec (by_second u c v g h))
     second_below u c v g [] all = same_span Kd (List ℕ) _ (λ y. Kd.zero) _ (λ y. same_residue p _ _ refl) (IsInSpan-zero Kd (List ℕ) _)
     second_below u c v g (t ∷ h) all =
         let f = product u g (c ++ t.word ++ v) in
         same_span Kd (List ℕ) _ (λ y. Kd.add (Kd.mul (vectors.of p st.modulus t.coefficient) (vec f y)) (vec (by_second u c v g h) y)) _
-        (λ y. sym (vector_of-append p st.modulus (scaled t.coefficient f) (by_second u c v g h) y ∙ ap (λ (n : Residue p). Kd.add n (vec (by_second u c v g h) y)) (vector_of-scaled p st.modulus t.coefficient f y)))
-        (IsInSpan-add Kd (List ℕ) _ _ _ (IsInSpan-scaled Kd (List ℕ) _ (vectors.of p st.modulus t.coefficient) (vec f) (IsInSpan-one Kd (List ℕ) _ (vec f) (all t (Contains-first t h)))) (second_below u c v g h (λ s m. all s (Contains-more t h s m))))
+        (λ y. sym (vector_of-append p st.modulus (scaled t.coefficient f) (by_second u c v g h) y
+        ∙ ap (λ (n : Residue p). Kd.add n (vec (by_second u c v g h) y)) (vector_of-scaled p st.modulus t.coefficient f y)))
+        (IsInSpan-add Kd (List ℕ) _ _ _ (IsInSpan-scaled Kd (List ℕ) _ (vectors.of p st.modulus t.coefficient) (vec f)
+        (IsInSpan-one Kd (List ℕ) _ (vec f) (all t (Contains-first t h))))
+        (second_below u c v g h (λ s m. all s (Contains-more t h s m))))
 
-    first_below : (u c v : List ℕ) (g : List Term) (h : List Term) → ((s : Term) → Contains g s → IsBelow d w (vec (product (u ++ s.word ++ c) h v))) → Below (vec (by_first u c v g h))
+    first_below : (u c v : List ℕ) (g : List Term) (h : List Term) →
+        ((s : Term) → Contains g s → IsBelow d w (vec (product (u ++ s.word ++ c) h v))) → Below (vec (by_first u c v g h))
     first_below u c v [] h all = same_span Kd (List ℕ) _ (λ y. Kd.zero) _ (λ y. same_residue p _ _ refl) (IsInSpan-zero Kd (List ℕ) _)
     first_below u c v (s ∷ g) h all =
         let f = product (u ++ s.word ++ c) h v in
         same_span Kd (List ℕ) _ (λ y. Kd.add (Kd.mul (vectors.of p st.modulus s.coefficient) (vec f y)) (vec (by_first u c v g h) y)) _
-        (λ y. sym (vector_of-append p st.modulus (scaled s.coefficient f) (by_first u c v g h) y ∙ ap (λ (n : Residue p). Kd.add n (vec (by_first u c v g h) y)) (vector_of-scaled p st.modulus s.coefficient f y)))
-        (IsInSpan-add Kd (List ℕ) _ _ _ (IsInSpan-scaled Kd (List ℕ) _ (vectors.of p st.modulus s.coefficient) (vec f) (IsInSpan-one Kd (List ℕ) _ (vec f) (all s (Contains-first s g)))) (first_below u c v g h (λ r m. all r (Contains-more s g r m))))
+        (λ y. sym (vector_of-append p st.modulus (scaled s.coefficient f) (by_first u c v g h) y
+        ∙ ap (λ (n : Residue p). Kd.add n (vec (by_first u c v g h) y)) (vector_of-scaled p st.modulus s.coefficient f y)))
+        (IsInSpan-add Kd (List ℕ) _ _ _ (IsInSpan-scaled Kd (List ℕ) _ (vectors.of p st.modulus s.coefficient) (vec f)
+        (IsInSpan-one Kd (List ℕ) _ (vec f) (all s (Contains-first s g))))
+        (first_below u c v g h (λ r m. all r (Contains-more s g r m))))
 
     -- a + x and b + y are one, so a - b is y - x
     moved : (a b x y : Residue p) → Kd.add a x ≡ Kd.add b y → Kd.add y (Kd.mul (Kd.neg Kd.one) x) ≡ Kd.add a (Kd.mul (Kd.neg Kd.one) b)
     moved a b x y e =
-        let minus : (c : Residue p) → Kd.mul (Kd.neg Kd.one) c ≡ Kd.neg c = λ c. Kd.mul_comm (Kd.neg Kd.one) c ∙ mul_neg Kd c Kd.one ∙ ap Kd.neg (Kd.mul_one c) in
+        let minus : (c : Residue p) → Kd.mul (Kd.neg Kd.one) c ≡ Kd.neg c = λ c. Kd.mul_comm (Kd.neg Kd.one) c ∙ mul_neg Kd c Kd.one
+        ∙ ap Kd.neg (Kd.mul_one c) in
         let left : Kd.add (Kd.add b y) (Kd.add (Kd.neg b) (Kd.neg x)) ≡ Kd.add y (Kd.neg x) =
         ap (λ (n : Residue p). Kd.add n (Kd.add (Kd.neg b) (Kd.neg x))) (Kd.add_comm b y) ∙ Kd.add_assoc y b (Kd.add (Kd.neg b) (Kd.neg x))
         ∙ ap (Kd.add y) (sym (Kd.add_assoc b (Kd.neg b) (Kd.neg x)) ∙ ap (λ (n : Residue p). Kd.add n (Kd.neg x)) (Kd.add_neg b) ∙ zero_add Kd (Kd.neg x)) in
         let right : Kd.add (Kd.add a x) (Kd.add (Kd.neg b) (Kd.neg x)) ≡ Kd.add a (Kd.neg b) =
-        Kd.add_assoc a x (Kd.add (Kd.neg b) (Kd.neg x)) ∙ ap (Kd.add a) (add_left_comm Kd x (Kd.neg b) (Kd.neg x) ∙ ap (Kd.add (Kd.neg b)) (Kd.add_neg x) ∙ Kd.add_zero (Kd.neg b)) in
+        Kd.add_assoc a x (Kd.add (Kd.neg b) (Kd.neg x)) ∙ ap (Kd.add a)
+        (add_left_comm Kd x (Kd.neg b) (Kd.neg x) ∙ ap (Kd.add (Kd.neg b)) (Kd.add_neg x) ∙ Kd.add_zero (Kd.neg b)) in
         ap (Kd.add y) (minus x) ∙ sym left ∙ ap (λ (n : Residue p). Kd.add n (Kd.add (Kd.neg b) (Kd.neg x))) (sym e) ∙ right ∙ ap (Kd.add a) (sym (minus b))
 
   one_times : (c : ℕ) (a : Residue p) → c ≡ 1 → Kd.mul (vectors.of p st.modulus c) a ≡ a
@@ -167,7 +183,8 @@ module _ (p : ℕ) (weights : List ℕ) (relations : List (List Term)) (st : IsS
   round_words u s c t v = simp append_assoc refl
 
   -- two factors apart
-  apart_terms : (d : ℕ) (w u c v : List ℕ) (s t : Term) (g h : List Term) → (lg : IsLower p weights relations st d (s ∷ g)) → (lh : IsLower p weights relations st d (t ∷ h))
+  apart_terms : (d : ℕ) (w u c v : List ℕ) (s t : Term) (g h : List Term) → (lg : IsLower p weights relations st d (s ∷ g)) →
+      (lh : IsLower p weights relations st d (t ∷ h))
       → IsOver (length weights) u → IsOver (length weights) c → IsOver (length weights) v → w ≡ u ++ s.word ++ (c ++ t.word ++ v) → degree_of weights w ≡ d
       → IsInSpan Kd (List ℕ) (IsBelow d w) (less (vec (product u (s ∷ g) (c ++ t.word ++ v))) (vec (product (u ++ s.word ++ c) (t ∷ h) v)))
   apart_terms d w u c v s t g h lg lh hu hc hv is deg =
@@ -180,15 +197,20 @@ module _ (p : ℕ) (weights : List ℕ) (relations : List (List Term)) (st : IsS
       let dt = All-head (λ (r : Term). degree_of weights r.word ≡ lh.degree) t h eh.degree in
       let os = All-head (λ (r : Term). IsOver (length weights) r.word) s g eg.letters in
       let ot = All-head (λ (r : Term). IsOver (length weights) r.word) t h eh.letters in
-      let over_mid : (x y z : List ℕ) → IsOver (length weights) x → IsOver (length weights) y → IsOver (length weights) z → IsOver (length weights) (x ++ y ++ z) =
+      let over_mid : (x y z : List ℕ) → IsOver (length weights) x → IsOver (length weights) y → IsOver (length weights) z →
+      IsOver (length weights) (x ++ y ++ z) =
       λ x y z a b e. All-append (λ n. n < length weights) (x ++ y) z (All-append (λ n. n < length weights) x y a b) e in
       let x_below = second_below d w u c v (s ∷ g) h (λ r m.
-      let dr = All-contains (λ (r : Term). degree_of weights r.word ≡ lh.degree) h r (All-tail (λ (r : Term). degree_of weights r.word ≡ lh.degree) t h eh.degree) m in
+      let dr = All-contains (λ (r : Term). degree_of weights r.word ≡ lh.degree) h r
+      (All-tail (λ (r : Term). degree_of weights r.word ≡ lh.degree) t h eh.degree) m in
       let orr = All-contains (λ (r : Term). IsOver (length weights) r.word) h r (All-tail (λ (r : Term). IsOver (length weights) r.word) t h eh.letters) m in
-      let gr = All-contains (λ (r : Term). IsLetterwiseGreater t.word r.word) h r (AllPairs-first (λ (q r : Term). IsLetterwiseGreater q.word r.word) t h eh.form.falling) m in
+      let gr = All-contains (λ (r : Term). IsLetterwiseGreater t.word r.word) h r
+      (AllPairs-first (λ (q r : Term). IsLetterwiseGreater q.word r.word) t h eh.form.falling) m in
       let greater = letterwise-product weights st.are_weights (u ++ s.word ++ c) t.word r.word v (dt ∙ sym dr) gr in
       smaller (u ++ s.word ++ (c ++ r.word ++ v))
-      (subst (λ (z : List ℕ). IsLetterwiseGreater w z) (sym (round_words u s.word c r.word v)) (subst (λ (z : List ℕ). IsLetterwiseGreater z ((u ++ s.word ++ c) ++ r.word ++ v)) (sym (is ∙ round_words u s.word c t.word v)) greater))
+      (subst (λ (z : List ℕ). IsLetterwiseGreater w z) (sym (round_words u s.word c r.word v))
+      (subst (λ (z : List ℕ). IsLetterwiseGreater z ((u ++ s.word ++ c) ++ r.word ++ v)) (sym (is ∙ round_words u s.word c t.word v))
+      greater))
       (record {
         element = s ∷ g;
         lower = lg;
@@ -203,12 +225,15 @@ module _ (p : ℕ) (weights : List ℕ) (relations : List (List Term)) (st : IsS
         is = refl;
       })) in
       let y_below = first_below d w u c v g (t ∷ h) (λ r m.
-      let dr = All-contains (λ (r : Term). degree_of weights r.word ≡ lg.degree) g r (All-tail (λ (r : Term). degree_of weights r.word ≡ lg.degree) s g eg.degree) m in
+      let dr = All-contains (λ (r : Term). degree_of weights r.word ≡ lg.degree) g r
+      (All-tail (λ (r : Term). degree_of weights r.word ≡ lg.degree) s g eg.degree) m in
       let orr = All-contains (λ (r : Term). IsOver (length weights) r.word) g r (All-tail (λ (r : Term). IsOver (length weights) r.word) s g eg.letters) m in
-      let gr = All-contains (λ (r : Term). IsLetterwiseGreater s.word r.word) g r (AllPairs-first (λ (q r : Term). IsLetterwiseGreater q.word r.word) s g eg.form.falling) m in
+      let gr = All-contains (λ (r : Term). IsLetterwiseGreater s.word r.word) g r
+      (AllPairs-first (λ (q r : Term). IsLetterwiseGreater q.word r.word) s g eg.form.falling) m in
       let greater = letterwise-product weights st.are_weights u s.word r.word (c ++ t.word ++ v) (ds ∙ sym dr) gr in
       smaller ((u ++ r.word ++ c) ++ t.word ++ v)
-      (subst (λ (z : List ℕ). IsLetterwiseGreater w z) (round_words u r.word c t.word v) (subst (λ (z : List ℕ). IsLetterwiseGreater z (u ++ r.word ++ (c ++ t.word ++ v))) (sym is) greater))
+      (subst (λ (z : List ℕ). IsLetterwiseGreater w z) (round_words u r.word c t.word v)
+      (subst (λ (z : List ℕ). IsLetterwiseGreater z (u ++ r.word ++ (c ++ t.word ++ v))) (sym is) greater))
       (record {
         element = t ∷ h;
         lower = lh;
@@ -223,19 +248,28 @@ module _ (p : ℕ) (weights : List ℕ) (relations : List (List Term)) (st : IsS
         is = refl;
       })) in
       same_span Kd (List ℕ) _ (λ y. Kd.add (vec (by_first u c v g (t ∷ h)) y) (Kd.mul (Kd.neg Kd.one) (vec (by_second u c v (s ∷ g) h) y))) _
-      (λ y. moved d w (vec (product u (s ∷ g) (c ++ t.word ++ v)) y) (vec (product (u ++ s.word ++ c) (t ∷ h) v) y) (vec (by_second u c v (s ∷ g) h) y) (vec (by_first u c v g (t ∷ h)) y)
+      (λ y. moved d w (vec (product u (s ∷ g) (c ++ t.word ++ v)) y) (vec (product (u ++ s.word ++ c) (t ∷ h) v) y)
+      (vec (by_second u c v (s ∷ g) h) y) (vec (by_first u c v g (t ∷ h)) y)
       (sym (vector_of-append p st.modulus (scaled t.coefficient (product u (s ∷ g) (c ++ t.word ++ v))) (by_second u c v (s ∷ g) h) y
-      ∙ ap (λ (n : Residue p). Kd.add n (vec (by_second u c v (s ∷ g) h) y)) (vector_of-scaled p st.modulus t.coefficient (product u (s ∷ g) (c ++ t.word ++ v)) y ∙ one_times t.coefficient (vec (product u (s ∷ g) (c ++ t.word ++ v)) y) lh.reduced.monic))
-      ∙ same_residue p (vec (by_second u c v (s ∷ g) (t ∷ h)) y) (vec (by_first u c v (s ∷ g) (t ∷ h)) y) (ap (λ (n : ℕ). n % p) (both_ways u c v (s ∷ g) (t ∷ h) y))
+      ∙ ap (λ (n : Residue p). Kd.add n (vec (by_second u c v (s ∷ g) h) y))
+      (vector_of-scaled p st.modulus t.coefficient (product u (s ∷ g) (c ++ t.word ++ v)) y
+      ∙ one_times t.coefficient (vec (product u (s ∷ g) (c ++ t.word ++ v)) y) lh.reduced.monic))
+      ∙ same_residue p (vec (by_second u c v (s ∷ g) (t ∷ h)) y) (vec (by_first u c v (s ∷ g) (t ∷ h)) y)
+      (ap (λ (n : ℕ). n % p) (both_ways u c v (s ∷ g) (t ∷ h) y))
       ∙ vector_of-append p st.modulus (scaled s.coefficient (product (u ++ s.word ++ c) (t ∷ h) v)) (by_first u c v g (t ∷ h)) y
-      ∙ ap (λ (n : Residue p). Kd.add n (vec (by_first u c v g (t ∷ h)) y)) (vector_of-scaled p st.modulus s.coefficient (product (u ++ s.word ++ c) (t ∷ h) v) y ∙ one_times s.coefficient (vec (product (u ++ s.word ++ c) (t ∷ h) v) y) lg.reduced.monic)))
+      ∙ ap (λ (n : Residue p). Kd.add n (vec (by_first u c v g (t ∷ h)) y))
+      (vector_of-scaled p st.modulus s.coefficient (product (u ++ s.word ++ c) (t ∷ h) v) y
+      ∙ one_times s.coefficient (vec (product (u ++ s.word ++ c) (t ∷ h) v) y) lg.reduced.monic)))
       (IsInSpan-add Kd (List ℕ) _ _ _ y_below (IsInSpan-scaled Kd (List ℕ) _ (Kd.neg Kd.one) (vec (by_second u c v (s ∷ g) h)) x_below))
 
   pub lower_word : (d e : ℕ) (x : List ℕ) (f : Vd) → IsLowerProduct p weights relations st d e x f → degree_of weights x ≡ e
-  lower_word d e x f h = ap (degree_of weights) h.word ∙ degree_of-round weights h.left h.lead h.right ∙ ap (λ (n : ℕ). degree_of weights h.left + n + degree_of weights h.right) (lower_degree d h.element h.lead h.lower h.is_lead) ∙ h.degree
+  lower_word d e x f h = ap (degree_of weights) h.word ∙ degree_of-round weights h.left h.lead h.right
+      ∙ ap (λ (n : ℕ). degree_of weights h.left + n + degree_of weights h.right) (lower_degree d h.element h.lead h.lower h.is_lead)
+      ∙ h.degree
 
   -- a product of a lower product is one
-  pub shift_lower : (d e : ℕ) (u v x : List ℕ) (f : Vd) → IsOver (length weights) u → IsOver (length weights) v → degree_of weights u + e + degree_of weights v ≡ d
+  pub shift_lower : (d e : ℕ) (u v x : List ℕ) (f : Vd) → IsOver (length weights) u → IsOver (length weights) v →
+      degree_of weights u + e + degree_of weights v ≡ d
       → IsLowerProduct p weights relations st d e x f → IsLowerProduct p weights relations st d d (u ++ x ++ v) (shifted p st.modulus u v f)
   shift_lower d e u v x f hu hv deg h = record {
     element = h.element;
@@ -248,7 +282,8 @@ module _ (p : ℕ) (weights : List ℕ) (relations : List (List Term)) (st : IsS
     right_over = All-append (λ n. n < length weights) h.right v h.right_over hv;
     word = ap (λ (z : List ℕ). u ++ z ++ v) h.word ∙ simp append_assoc refl;
     degree = omega (arith, deg, h.degree, degree_of-append weights u h.left, degree_of-append weights h.right v);
-    is = ap (shifted p st.modulus u v) h.is ∙ sym (vector_of-product p st.modulus u v (product h.left h.element h.right)) ∙ ap vec (product-product u h.left h.element h.right v);
+    is = ap (shifted p st.modulus u v) h.is ∙ sym (vector_of-product p st.modulus u v (product h.left h.element h.right))
+        ∙ ap vec (product-product u h.left h.element h.right v);
   }
 
   -- two factors that overlap
@@ -324,31 +359,42 @@ module _ (p : ℕ) (weights : List ℕ) (relations : List (List Term)) (st : IsS
     row_difference : (y : List ℕ) → vec (obstruction_row p g b a h) y ≡ less (vec (product [] g b)) (vec (product a h [])) y
     row_difference y =
         let one : 1 % p ≡ 1 = mod-eq_of_lt {n = 1} {m = p} (omega (arith, st.modulus.two_or_more)) in
-        let neg : vectors.of p st.modulus (p - 1) ≡ Kd.neg Kd.one = same_residue p (vectors.of p st.modulus (p - 1)) (Kd.neg Kd.one) (ap (λ (n : ℕ). (p - n) % p) (sym one)) in
+        let neg : vectors.of p st.modulus (p - 1) ≡ Kd.neg Kd.one = same_residue p (vectors.of p st.modulus (p - 1)) (Kd.neg Kd.one)
+        (ap (λ (n : ℕ). (p - n) % p) (sym one)) in
         vector_of-append p st.modulus (product [] g b) (scaled (p - 1) (product a h [])) y
-        ∙ ap (Kd.add (vec (product [] g b) y)) (vector_of-scaled p st.modulus (p - 1) (product a h []) y ∙ ap (λ (n : Residue p). Kd.mul n (vec (product a h []) y)) neg)
+        ∙ ap (Kd.add (vec (product [] g b) y)) (vector_of-scaled p st.modulus (p - 1) (product a h []) y
+        ∙ ap (λ (n : Residue p). Kd.mul n (vec (product a h []) y)) neg)
 
     member_difference : IsMemberVector p st.modulus weights relations st (degree_of weights whole) difference
     unfolding second_product first_product
     member_difference =
         IsInSpan-add Kd (List ℕ) _ (λ y. Kd.mul (Kd.neg Kd.one) (vec (product a h []) y)) (vec (product [] g b))
-        (IsInSpan-scaled Kd (List ℕ) _ (Kd.neg Kd.one) (vec (product a h [])) (span_from_ideal p st.modulus weights relations (degree_of weights whole) (product a h []) (lower_inside p weights relations st d (degree_of weights whole) whole (vec (product a h [])) second_product)))
-        (span_from_ideal p st.modulus weights relations (degree_of weights whole) (product [] g b) (lower_inside p weights relations st d (degree_of weights whole) whole (vec (product [] g b)) first_product))
+        (IsInSpan-scaled Kd (List ℕ) _ (Kd.neg Kd.one) (vec (product a h []))
+        (span_from_ideal p st.modulus weights relations (degree_of weights whole) (product a h [])
+        (lower_inside p weights relations st d (degree_of weights whole) whole (vec (product a h [])) second_product)))
+        (span_from_ideal p st.modulus weights relations (degree_of weights whole) (product [] g b)
+        (lower_inside p weights relations st d (degree_of weights whole) whole (vec (product [] g b)) first_product))
 
     pub obstruction_member : IsMemberVector p st.modulus weights relations st (degree_of weights whole) (vec (obstruction_row p g b a h))
-    obstruction_member = same_span Kd (List ℕ) _ difference _ (λ y. Kd.add_comm (Kd.mul (Kd.neg Kd.one) (vec (product a h []) y)) (vec (product [] g b) y) ∙ sym (row_difference y)) member_difference
+    obstruction_member = same_span Kd (List ℕ) _ difference _ (λ y. Kd.add_comm (Kd.mul (Kd.neg Kd.one) (vec (product a h []) y))
+        (vec (product [] g b) y) ∙ sym (row_difference y)) member_difference
 
     difference_above : (y : List ℕ) → IsLetterwiseGreater y whole → difference y ≡ Kd.zero
     difference_above y gr =
-        ap₂ (λ (m n : Residue p). Kd.add (Kd.mul (Kd.neg Kd.one) m) n) (lower_above p weights relations st d (degree_of weights whole) whole y (vec (product a h [])) second_product gr) (lower_above p weights relations st d (degree_of weights whole) whole y (vec (product [] g b)) first_product gr)
+        ap₂ (λ (m n : Residue p). Kd.add (Kd.mul (Kd.neg Kd.one) m) n)
+        (lower_above p weights relations st d (degree_of weights whole) whole y (vec (product a h [])) second_product gr)
+        (lower_above p weights relations st d (degree_of weights whole) whole y (vec (product [] g b)) first_product gr)
         ∙ Kd.add_zero (Kd.mul (Kd.neg Kd.one) Kd.zero) ∙ mul_zero Kd (Kd.neg Kd.one)
 
     difference_here : difference whole ≡ Kd.zero
     difference_here =
-        ap₂ (λ (m n : Residue p). Kd.add (Kd.mul (Kd.neg Kd.one) m) n) (lower_one p weights relations st d (degree_of weights whole) whole (vec (product a h [])) second_product) (lower_one p weights relations st d (degree_of weights whole) whole (vec (product [] g b)) first_product)
+        ap₂ (λ (m n : Residue p). Kd.add (Kd.mul (Kd.neg Kd.one) m) n)
+        (lower_one p weights relations st d (degree_of weights whole) whole (vec (product a h [])) second_product)
+        (lower_one p weights relations st d (degree_of weights whole) whole (vec (product [] g b)) first_product)
         ∙ ap (λ (n : Residue p). Kd.add n Kd.one) (Kd.mul_one (Kd.neg Kd.one)) ∙ Kd.add_comm (Kd.neg Kd.one) Kd.one ∙ Kd.add_neg Kd.one
 
-    module _ (u v : List ℕ) (hu : IsOver (length weights) u) (hv : IsOver (length weights) v) (deg : degree_of weights u + degree_of weights whole + degree_of weights v ≡ d) where
+    module _ (u v : List ℕ) (hu : IsOver (length weights) u) (hv : IsOver (length weights) v)
+        (deg : degree_of weights u + degree_of weights whole + degree_of weights v ≡ d) where
       abbrev w : List ℕ
       w = u ++ whole ++ v
 
@@ -357,7 +403,8 @@ module _ (p : ℕ) (weights : List ℕ) (relations : List (List Term)) (st : IsS
           shifted-linear p st.modulus u v (Kd.neg Kd.one) (vec (product a h [])) (vec (product [] g b)) y
           ∙ ap₂ (λ (m n : Vd). Kd.add (Kd.mul (Kd.neg Kd.one) (m y)) (n y))
           (sym (vector_of-product p st.modulus u v (product a h [])) ∙ ap vec (product-product u a h [] v))
-          (sym (vector_of-product p st.modulus u v (product [] g b)) ∙ ap vec (product-product u [] g b v ∙ ap (λ (z : List ℕ). product z g (b ++ v)) (append-nil u)))
+          (sym (vector_of-product p st.modulus u v (product [] g b)) ∙ ap vec
+          (product-product u [] g b v ∙ ap (λ (z : List ℕ). product z g (b ++ v)) (append-nil u)))
           ∙ Kd.add_comm (Kd.mul (Kd.neg Kd.one) (vec (product (u ++ a) h v) y)) (vec (product u g (b ++ v)) y)
 
       inner_overlap : degree_of weights whole < d → IsInSpan Kd (List ℕ) (IsBelow d w) (less (vec (product u g (b ++ v))) (vec (product (u ++ a) h v)))
@@ -366,7 +413,8 @@ module _ (p : ℕ) (weights : List ℕ) (relations : List (List Term)) (st : IsS
           let over_whole : IsOver (length weights) whole = All-append (λ n. n < length weights) (a ++ c) b over_lead over_b in
           let at = about (words_of_degree weights e) whole (listed_word weights st.are_weights whole over_whole) in
           let falling = subst (AllPairs IsLetterwiseGreater) at.is (words_of_degree-falling weights st.are_weights e) in
-          let rest = represented_from p weights relations st d e lt at.post (at.pre ++ whole ∷ []) (at.is ∙ sym (append_assoc at.pre (whole ∷ []) at.post)) difference member_difference
+          let rest = represented_from p weights relations st d e lt at.post (at.pre ++ whole ∷ [])
+          (at.is ∙ sym (append_assoc at.pre (whole ∷ []) at.post)) difference member_difference
           (λ y m. elim (Contains-append_cases at.pre (whole ∷ []) y m) [
             | inl k ↦ difference_above y (before_it IsLetterwiseGreater at.pre whole at.post falling y k)
             | inr k ↦ elim (Contains-cases whole [] y k) [
@@ -383,7 +431,8 @@ module _ (p : ℕ) (weights : List ℕ) (relations : List (List Term)) (st : IsS
       outer_overlap : u ≡ [] → v ≡ [] → IsInSpan Kd (List ℕ) (IsBelow d w) (less (vec (product u g (b ++ v))) (vec (product (u ++ a) h v)))
       outer_overlap nu nv =
           let e : degree_of weights whole ≡ d = omega (arith, deg, ap (degree_of weights) nu, ap (degree_of weights) nv) in
-          let first : product [] g b ≡ product u g (b ++ v) = ap₂ (λ (x z : List ℕ). product x g z) (sym nu) (sym (append-nil b) ∙ ap (λ (z : List ℕ). b ++ z) (sym nv)) in
+          let first : product [] g b ≡ product u g (b ++ v) = ap₂ (λ (x z : List ℕ). product x g z) (sym nu)
+          (sym (append-nil b) ∙ ap (λ (z : List ℕ). b ++ z) (sym nv)) in
           let second : product a h [] ≡ product (u ++ a) h v = ap₂ (λ (x z : List ℕ). product (x ++ a) h z) (sym nu) (sym nv) in
           same_span Kd (List ℕ) _ (vec (obstruction_row p g b a h)) _ (λ y. row_difference y ∙ ap₂ (λ (f k : List Term). less (vec f) (vec k) y) first second)
           (IsInSpan-one Kd (List ℕ) _ (vec (obstruction_row p g b a h)) (row (row_of e)))
@@ -397,7 +446,8 @@ module _ (p : ℕ) (weights : List ℕ) (relations : List (List Term)) (st : IsS
           empty_word : (z : List ℕ) → degree_of weights z ≡ 0 → z ≡ []
           empty_word z e = nil_from_length z (omega (arith, e, length-le-degree_of weights st.are_weights z))
 
-  apart_any : (d : ℕ) (w u c v m n : List ℕ) (g h : List Term) → IsLower p weights relations st d g → IsLower p weights relations st d h → lead_of g ≡ Some m → lead_of h ≡ Some n
+  apart_any : (d : ℕ) (w u c v m n : List ℕ) (g h : List Term) → IsLower p weights relations st d g → IsLower p weights relations st d h →
+      lead_of g ≡ Some m → lead_of h ≡ Some n
       → IsOver (length weights) u → IsOver (length weights) c → IsOver (length weights) v → w ≡ u ++ m ++ (c ++ n ++ v) → degree_of weights w ≡ d
       → IsInSpan Kd (List ℕ) (IsBelow d w) (less (vec (product u g (c ++ n ++ v))) (vec (product (u ++ m ++ c) h v)))
   apart_any d w u c v m n [] h lg lh eg eh hu hc hv is deg = cc eg
@@ -409,30 +459,39 @@ module _ (p : ℕ) (weights : List ℕ) (relations : List (List Term)) (st : IsS
       (λ y. ap₂ (λ (x z : List ℕ). less (vec (product u (s ∷ g) (c ++ z ++ v))) (vec (product (u ++ x ++ c) (t ∷ h) v)) y) ms ns)
       (apart_terms d w u c v s t g h lg lh hu hc hv (is ∙ ap₂ (λ (x z : List ℕ). u ++ x ++ (c ++ z ++ v)) (sym ms) (sym ns)) deg)
 
-  -- of two products with one leading word, the one whose lead stands no later, less the other, is a sum of smaller ones and rows
-  pub differ : (d : ℕ) (w : List ℕ) (a b : Vd) (h : IsLowerProduct p weights relations st d d w a) (k : IsLowerProduct p weights relations st d d w b) → length h.left ≤ length k.left
+  -- of two products with one leading word, the one whose lead stands no later, less the other, is a sum of smaller
+  -- ones and rows
+  pub differ : (d : ℕ) (w : List ℕ) (a b : Vd) (h : IsLowerProduct p weights relations st d d w a)
+      (k : IsLowerProduct p weights relations st d d w b) → length h.left ≤ length k.left
       → IsInSpan Kd (List ℕ) (IsBelow d w) (less a b)
   differ d w a b h k le =
-      same_span Kd (List ℕ) _ (less (vec (product h.left h.element h.right)) (vec (product k.left k.element k.right))) _ (λ y. ap₂ (λ (f g : Vd). less f g y) (sym h.is) (sym k.is))
-      (by_case (meet h.left h.lead h.right k.left k.lead k.right (sym (append_assoc h.left h.lead h.right) ∙ sym h.word ∙ k.word ∙ append_assoc k.left k.lead k.right) le))
+      same_span Kd (List ℕ) _ (less (vec (product h.left h.element h.right)) (vec (product k.left k.element k.right))) _
+      (λ y. ap₂ (λ (f g : Vd). less f g y) (sym h.is) (sym k.is))
+      (by_case (meet h.left h.lead h.right k.left k.lead k.right (sym (append_assoc h.left h.lead h.right) ∙ sym h.word ∙ k.word
+      ∙ append_assoc k.left k.lead k.right) le))
     where
-      same_products : h.lead ≡ k.lead → k.left ≡ h.left → k.right ≡ h.right → IsInSpan Kd (List ℕ) (IsBelow d w) (less (vec (product h.left h.element h.right)) (vec (product k.left k.element k.right)))
+      same_products : h.lead ≡ k.lead → k.left ≡ h.left → k.right ≡ h.right →
+          IsInSpan Kd (List ℕ) (IsBelow d w) (less (vec (product h.left h.element h.right)) (vec (product k.left k.element k.right)))
       same_products lead left right =
           let dh = lower_degree d h.element h.lead h.lower h.is_lead in
           let dk = lower_degree d k.element k.lead k.lower k.is_lead in
           let one : h.element ≡ k.element = reduced_one h.lower.degree h.element k.element h.lead h.lower.reduced
-          (subst (λ (n : ℕ). IsReduced p weights relations n k.element) (sym dk ∙ ap (degree_of weights) (sym lead) ∙ dh) k.lower.reduced) h.is_lead (k.is_lead ∙ ap Some (sym lead)) in
+          (subst (λ (n : ℕ). IsReduced p weights relations n k.element) (sym dk ∙ ap (degree_of weights) (sym lead) ∙ dh) k.lower.reduced)
+          h.is_lead (k.is_lead ∙ ap Some (sym lead)) in
           let same : product h.left h.element h.right ≡ product k.left k.element k.right =
           ap (λ (f : List Term). product h.left f h.right) one ∙ ap₂ (λ (x z : List ℕ). product x k.element z) (sym left) (sym right) in
-          same_span Kd (List ℕ) _ (λ y. Kd.zero) _ (λ y. sym (ap (λ (f : List Term). less (vec f) (vec (product k.left k.element k.right)) y) same ∙ less_itself (vec (product k.left k.element k.right)) y)) (IsInSpan-zero Kd (List ℕ) _)
+          same_span Kd (List ℕ) _ (λ y. Kd.zero) _ (λ y. sym (ap (λ (f : List Term). less (vec f) (vec (product k.left k.element k.right))
+          y) same ∙ less_itself (vec (product k.left k.element k.right)) y)) (IsInSpan-zero Kd (List ℕ) _)
 
-      by_case : IsMet h.left h.lead h.right k.left k.lead k.right → IsInSpan Kd (List ℕ) (IsBelow d w) (less (vec (product h.left h.element h.right)) (vec (product k.left k.element k.right)))
+      by_case : IsMet h.left h.lead h.right k.left k.lead k.right →
+          IsInSpan Kd (List ℕ) (IsBelow d w) (less (vec (product h.left h.element h.right)) (vec (product k.left k.element k.right)))
       by_case (apart c left right) =
           let over = subst (IsOver (length weights)) right h.right_over in
           let over_c = All-front (λ n. n < length weights) c k.lead (All-front (λ n. n < length weights) (c ++ k.lead) k.right over) in
           same_span Kd (List ℕ) _ (less (vec (product h.left h.element (c ++ k.lead ++ k.right))) (vec (product (h.left ++ h.lead ++ c) k.element k.right))) _
           (λ y. ap₂ (λ (x z : List ℕ). less (vec (product h.left h.element z)) (vec (product x k.element k.right)) y) (sym left) (sym right))
-          (apart_any d w h.left c k.right h.lead k.lead h.element k.element h.lower k.lower h.is_lead k.is_lead h.left_over over_c k.right_over (h.word ∙ ap (λ (z : List ℕ). h.left ++ h.lead ++ z) right) (lower_word d d w a h))
+          (apart_any d w h.left c k.right h.lead k.lead h.element k.element h.lower k.lower h.is_lead k.is_lead h.left_over over_c
+          k.right_over (h.word ∙ ap (λ (z : List ℕ). h.left ++ h.lead ++ z) right) (lower_word d d w a h))
       by_case (inside s t lead left right) = elim (cases_Bool (bytes_eq k.lead h.lead)) [
         | inl is ↦
             let e = (bytes_eq-Decides k.lead h.lead).0 is in
@@ -440,7 +499,9 @@ module _ (p : ℕ) (weights : List ℕ) (relations : List (List Term)) (st : IsS
             let none_s : s ≡ [] = nil_from_length s (omega (arith, sizes, length-append s k.lead, ap length e)) in
             let none_t : t ≡ [] = nil_from_length t (omega (arith, sizes, length-append s k.lead, ap length e)) in
             same_products (sym e) (left ∙ ap (λ (z : List ℕ). h.left ++ z) none_s ∙ append-nil h.left) (right ∙ ap (λ (z : List ℕ). z ++ h.right) none_t)
-        | inr other ↦ absurd (no_factor d h.element k.element h.lead k.lead h.lower k.lower h.is_lead k.is_lead (record { before = s; after = t; joined = lead }) (λ e. (let q : bytes_eq k.lead h.lead ≡ true = (bytes_eq-Decides k.lead h.lead).1 e in cc)))
+        | inr other ↦ absurd (no_factor d h.element k.element h.lead k.lead h.lower k.lower h.is_lead k.is_lead
+            (record { before = s; after = t; joined = lead }) (λ e. (let q : bytes_eq k.lead h.lead ≡ true =
+            (bytes_eq-Decides k.lead h.lead).1 e in cc)))
       ]
       by_case (starts b some left lead right) =
           absurd (no_factor d k.element h.element k.lead h.lead k.lower h.lower k.is_lead h.is_lead (record { before = []; after = b; joined = lead })
@@ -448,7 +509,9 @@ module _ (p : ℕ) (weights : List ℕ) (relations : List (List Term)) (st : IsS
       by_case (overlap x c z nx nc nz left lead_h lead_k right) =
           let word : w ≡ h.left ++ (x ++ c ++ z) ++ k.right = h.word ∙ ap₂ (λ (m r : List ℕ). h.left ++ m ++ r) lead_h right ∙ simp append_assoc refl in
           let deg = sym (degree_of-round weights h.left (x ++ c ++ z) k.right) ∙ ap (degree_of weights) (sym word) ∙ lower_word d d w a h in
-          subst (λ (q : List ℕ). IsInSpan Kd (List ℕ) (IsBelow d q) (less (vec (product h.left h.element h.right)) (vec (product k.left k.element k.right)))) (sym word)
+          subst (λ (q : List ℕ). IsInSpan Kd (List ℕ) (IsBelow d q) (less (vec (product h.left h.element h.right))
+          (vec (product k.left k.element k.right)))) (sym word)
           (same_span Kd (List ℕ) _ (less (vec (product h.left h.element (z ++ k.right))) (vec (product (h.left ++ x) k.element k.right))) _
           (λ y. ap₂ (λ (q r : List ℕ). less (vec (product h.left h.element r)) (vec (product q k.element k.right)) y) (sym left) (sym right))
-          (overlapping d h.element k.element h.lower k.lower x c z (h.is_lead ∙ ap Some lead_h) (k.is_lead ∙ ap Some lead_k) nx nc nz h.left k.right h.left_over k.right_over deg))
+          (overlapping d h.element k.element h.lower k.lower x c z (h.is_lead ∙ ap Some lead_h) (k.is_lead ∙ ap Some lead_k) nx nc nz h.left
+          k.right h.left_over k.right_over deg))

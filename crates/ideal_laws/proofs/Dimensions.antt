@@ -1,5 +1,6 @@
 -- Exactly one number is the dimension of a degree: that of its leading words.
-use Rattle.std.proofs.Common.{ap₂, ◌≡◌, ◌≢◌, ◌⊎◌, ◌+◌, ◌<◌, ◌==◌, ℕ, suc, true, false, List, [], ◌∷◌, map, length, get_or, refl, sym, ap, ◌∙◌, inl, inr, arith, All, AllPairs, subst}
+use Rattle.std.proofs.Common.{ap₂, ◌≡◌, ◌≢◌, ◌⊎◌, ◌+◌, ◌<◌, ◌==◌, ℕ, suc, true, false, List, [], ◌∷◌, map, length, get_or, refl, sym, ap, ◌∙◌, inl}
+use Rattle.std.proofs.Common.{inr, arith, All, AllPairs, subst}
 use Rattle.std.specs.List.{Contains}
 use Rattle.std.proofs.Math.Nat.{mod-eq_of_lt, zero-mod}
 use Rattle.std.proofs.lemmas.Bool.{cases_lt}
@@ -25,7 +26,8 @@ use Rattle.linear_algebra.proofs.ModField.{same_residue}
 use Rattle.ideal_laws.specs.Ideal.{IsInIdeal, IsLeadingWord}
 use Rattle.ideal_laws.specs.Dimension.{AreFactors, IsDimension, IsIndependent, combination}
 use Rattle.ideal_laws.specs.Laws.{HasDimension, HasOneDimension, IsSetting}
-use Rattle.ideal_laws.proofs.Leads.{element_from, element_inside, found, had_from_rows, is_leading, leading_listed, leading_words, listed_leading, IsMemberVector, member_off, row_member, rows, vector_of_element}
+use Rattle.ideal_laws.proofs.Leads.{element_from, element_inside, found, had_from_rows, is_leading, leading_listed, leading_words, listed_leading}
+use Rattle.ideal_laws.proofs.Leads.{IsMemberVector, member_off, row_member, rows, vector_of_element}
 use Rattle.ideal_laws.proofs.OneBasis.{lead_in_columns, leads_falling}
 use Rattle.ideal_laws.proofs.Search.{AllPairs-kept, in_kept, kept, kept_if, kept-says, same_lists}
 use Rattle.ideal_laws.proofs.Vectors.{same_vectors, span_from_ideal, vector_of-append, vector_of-scaled}
@@ -57,7 +59,8 @@ module _ (p : ℕ) (fm : IsFieldModulus p) where
   mix-zero [] es y h = refl
   mix-zero (c ∷ cs) [] y h = refl
   mix-zero (c ∷ cs) (e ∷ es) y h =
-      ap (λ (n : Residue p). K.add (K.mul (of c) n) (mix cs es y)) (h e (Contains-first e es)) ∙ times_nothing (of c) _ ∙ mix-zero cs es y (λ d m. h d (Contains-more e es d m))
+      ap (λ (n : Residue p). K.add (K.mul (of c) n) (mix cs es y)) (h e (Contains-first e es)) ∙ times_nothing (of c) _
+      ∙ mix-zero cs es y (λ d m. h d (Contains-more e es d m))
 
   all_zero_at : (x : List ℕ) (es : List (List ℕ × V)) → AreZeroAt K (List ℕ) x es → (e : List ℕ × V) → Contains es e → e.1 x ≡ K.zero
   all_zero_at x es z e m = at es z m
@@ -81,7 +84,8 @@ module _ (p : ℕ) (fm : IsFieldModulus p) where
   rows_independent xs es (lead x ys v es' one z zl r) [] n small h = absurd (omega (arith, n))
   rows_independent xs es (lead x ys v es' one z zl r) (c ∷ cs) n small h =
       let here : of c ≡ K.zero =
-      sym (ap₂ K.add (ap (K.mul (of c)) one ∙ K.mul_one (of c)) (mix-zero cs es' x (all_zero_at x es' z)) ∙ K.add_zero (of c)) ∙ h (x, v) (Contains-first (x, v) es') in
+      sym (ap₂ K.add (ap (K.mul (of c)) one ∙ K.mul_one (of c)) (mix-zero cs es' x (all_zero_at x es' z)) ∙ K.add_zero (of c))
+      ∙ h (x, v) (Contains-first (x, v) es') in
       All-cons (λ c. c ≡ 0) c cs (zero_number c (All-head (λ c. c < p) c cs small) here)
       (rows_independent ys es' r cs (omega (arith, n)) (All-tail (λ c. c < p) c cs small) (λ e m.
       sym (ap (λ (n : Residue p). K.add (K.mul n (v e.0)) (mix cs es' e.0)) here ∙ nothing_times (v e.0) _) ∙ h e (Contains-more (x, v) es' e m)))
@@ -92,7 +96,8 @@ module _ (p : ℕ) (fm : IsFieldModulus p) where
   readings-zero : (bs : List (Residue p)) (es : List (List ℕ × V)) (v : V) → IsZeroAtLeads K (List ℕ) v es → sum_zip K V bs (map reading es) v ≡ K.zero
   readings-zero [] es v z = refl
   readings-zero (a ∷ bs) [] v z = refl
-  readings-zero (a ∷ bs) (e ∷ es) v z = ap (λ (n : Residue p). K.add (K.mul a n) (sum_zip K V bs (map reading es) v)) z.0 ∙ times_nothing a _ ∙ readings-zero bs es v z.1
+  readings-zero (a ∷ bs) (e ∷ es) v z = ap (λ (n : Residue p). K.add (K.mul a n) (sum_zip K V bs (map reading es) v)) z.0
+      ∙ times_nothing a _ ∙ readings-zero bs es v z.1
 
   zero_is_zero : (a : Residue p) → K.is_zero a ≡ false → a ≡ K.zero → ⊥
   zero_is_zero a f e = let t : K.is_zero a ≡ true = ap K.is_zero e ∙ K.zero_test in cc
@@ -105,14 +110,17 @@ module _ (p : ℕ) (fm : IsFieldModulus p) where
   readings_independent xs es (skip x ys es' z r) bs n h some = readings_independent ys es r bs n h some
   readings_independent xs es (lead x ys v es' one z zl r) [] n h some = some
   readings_independent xs es (lead x ys v es' one z zl r) (a ∷ bs) n h some =
-      let here : a ≡ K.zero = sym (ap₂ K.add (ap (K.mul a) one ∙ K.mul_one a) (readings-zero bs es' v zl) ∙ K.add_zero a) ∙ h (x, v) (Contains-first (x, v) es') in
+      let here : a ≡ K.zero = sym (ap₂ K.add (ap (K.mul a) one ∙ K.mul_one a) (readings-zero bs es' v zl) ∙ K.add_zero a)
+      ∙ h (x, v) (Contains-first (x, v) es') in
       elim some [
         | inl f ↦ zero_is_zero a f here
         | inr later ↦ readings_independent ys es' r bs (omega (arith, n)) (λ e m.
-            sym (ap (λ (n : Residue p). K.add (K.mul n (e.1 x)) (sum_zip K V bs (map reading es') e.1)) here ∙ nothing_times (e.1 x) _) ∙ h e (Contains-more (x, v) es' e m)) later
+            sym (ap (λ (n : Residue p). K.add (K.mul n (e.1 x)) (sum_zip K V bs (map reading es') e.1)) here ∙ nothing_times (e.1 x) _)
+            ∙ h e (Contains-more (x, v) es' e m)) later
       ]
 
-  readings-same : (bs : List (Residue p)) (es : List (List ℕ × V)) (u v : V) → ((y : List ℕ) → u y ≡ v y) → sum_zip K V bs (map reading es) u ≡ sum_zip K V bs (map reading es) v
+  readings-same : (bs : List (Residue p)) (es : List (List ℕ × V)) (u v : V) → ((y : List ℕ) → u y ≡ v y) →
+      sum_zip K V bs (map reading es) u ≡ sum_zip K V bs (map reading es) v
   readings-same [] es u v h = refl
   readings-same (a ∷ bs) [] u v h = refl
   readings-same (a ∷ bs) (e ∷ es) u v h = λ i. K.add (K.mul a (h e.0 i)) (readings-same bs es u v h i)
@@ -121,12 +129,14 @@ module _ (p : ℕ) (fm : IsFieldModulus p) where
   swapped a b c d = K.add_assoc a b (K.add c d) ∙ ap (K.add a) (add_left_comm K b c d) ∙ sym (K.add_assoc a c (K.add b d))
 
   readings-linear : (bs : List (Residue p)) (es : List (List ℕ × V)) (c : Residue p) (u v : V)
-      → sum_zip K V bs (map reading es) (λ y. K.add (K.mul c (u y)) (v y)) ≡ K.add (K.mul c (sum_zip K V bs (map reading es) u)) (sum_zip K V bs (map reading es) v)
+      → sum_zip K V bs (map reading es) (λ y. K.add (K.mul c (u y)) (v y))
+      ≡ K.add (K.mul c (sum_zip K V bs (map reading es) u)) (sum_zip K V bs (map reading es) v)
   readings-linear [] es c u v = sym (times_nothing c K.zero)
   readings-linear (a ∷ bs) [] c u v = sym (times_nothing c K.zero)
   readings-linear (a ∷ bs) (e ∷ es) c u v =
       let first : K.mul a (K.add (K.mul c (u e.0)) (v e.0)) ≡ K.add (K.mul c (K.mul a (u e.0))) (K.mul a (v e.0)) =
-      K.mul_add a (K.mul c (u e.0)) (v e.0) ∙ ap (λ (n : Residue p). K.add n (K.mul a (v e.0))) (sym (K.mul_assoc a c (u e.0)) ∙ ap (λ (n : Residue p). K.mul n (u e.0)) (K.mul_comm a c) ∙ K.mul_assoc c a (u e.0)) in
+      K.mul_add a (K.mul c (u e.0)) (v e.0) ∙ ap (λ (n : Residue p). K.add n (K.mul a (v e.0)))
+      (sym (K.mul_assoc a c (u e.0)) ∙ ap (λ (n : Residue p). K.mul n (u e.0)) (K.mul_comm a c) ∙ K.mul_assoc c a (u e.0)) in
       let su = sum_zip K V bs (map reading es) u in
       let sv = sum_zip K V bs (map reading es) v in
       ap₂ K.add first (readings-linear bs es c u v) ∙ swapped (K.mul c (K.mul a (u e.0))) (K.mul a (v e.0)) (K.mul c su) sv
@@ -134,10 +144,13 @@ module _ (p : ℕ) (fm : IsFieldModulus p) where
 
   -- the vector of a combination
   combination-first : (c : ℕ) (cs : List ℕ) (f : List Term) (fs : List (List Term)) (y : List ℕ)
-      → vectors.vector_of p fm (combination (c ∷ cs) (f ∷ fs)) y ≡ K.add (K.mul (of c) (vectors.vector_of p fm f y)) (vectors.vector_of p fm (combination cs fs) y)
-  combination-first c cs f fs y = vector_of-append p fm (scaled c f) (combination cs fs) y ∙ ap (λ (n : Residue p). K.add n (vectors.vector_of p fm (combination cs fs) y)) (vector_of-scaled p fm c f y)
+      → vectors.vector_of p fm (combination (c ∷ cs) (f ∷ fs)) y ≡ K.add (K.mul (of c) (vectors.vector_of p fm f y))
+      (vectors.vector_of p fm (combination cs fs) y)
+  combination-first c cs f fs y = vector_of-append p fm (scaled c f) (combination cs fs) y
+      ∙ ap (λ (n : Residue p). K.add n (vectors.vector_of p fm (combination cs fs) y)) (vector_of-scaled p fm c f y)
 
-  readings-combination : (bs : List (Residue p)) (es : List (List ℕ × V)) (cs : List ℕ) (fs : List (List Term)) → IsZeroOn K V (map (vectors.vector_of p fm) fs) (sum_zip K V bs (map reading es))
+  readings-combination : (bs : List (Residue p)) (es : List (List ℕ × V)) (cs : List ℕ) (fs : List (List Term)) →
+      IsZeroOn K V (map (vectors.vector_of p fm) fs) (sum_zip K V bs (map reading es))
       → sum_zip K V bs (map reading es) (vectors.vector_of p fm (combination cs fs)) ≡ K.zero
   readings-combination bs es [] fs z = readings-same bs es _ (λ y. K.zero) (λ y. same_residue p _ _ refl) ∙ readings-zero bs es (λ y. K.zero) (zeros es)
     where
@@ -150,7 +163,8 @@ module _ (p : ℕ) (fm : IsFieldModulus p) where
       zeros [] = tt
       zeros (e ∷ es) = (refl, zeros es)
   readings-combination bs es (c ∷ cs) (f ∷ fs) z =
-      readings-same bs es _ _ (combination-first c cs f fs) ∙ readings-linear bs es (of c) (vectors.vector_of p fm f) (vectors.vector_of p fm (combination cs fs))
+      readings-same bs es _ _ (combination-first c cs f fs) ∙ readings-linear bs es (of c) (vectors.vector_of p fm f)
+      (vectors.vector_of p fm (combination cs fs))
       ∙ ap₂ (λ (m n : Residue p). K.add (K.mul (of c) m) n) z.0 (readings-combination bs es cs fs z.1) ∙ times_nothing (of c) K.zero
 
 module _ (p : ℕ) (weights : List ℕ) (relations : List (List Term)) (st : IsSetting p weights relations) (d : ℕ) where
@@ -178,12 +192,14 @@ module _ (p : ℕ) (weights : List ℕ) (relations : List (List Term)) (st : IsS
   reduced : IsReduced Kd (List ℕ) columns es
   reduced = (found p fmd weights relations st d).1.reduced
 
-  vector_of_combination : (cs : List ℕ) (fs : List (List ℕ × Vd)) → ((e : List ℕ × Vd) → Contains fs e → Contains es e) → (y : List ℕ) → vectors.vector_of p fmd (combination cs (map element_of fs)) y ≡ mix p fmd cs fs y
+  vector_of_combination : (cs : List ℕ) (fs : List (List ℕ × Vd)) → ((e : List ℕ × Vd) → Contains fs e → Contains es e) → (y : List ℕ) →
+      vectors.vector_of p fmd (combination cs (map element_of fs)) y ≡ mix p fmd cs fs y
   vector_of_combination [] fs h y = same_residue p _ _ refl
   vector_of_combination (c ∷ cs) [] h y = same_residue p _ _ refl
   vector_of_combination (c ∷ cs) (e ∷ fs) h y =
       combination-first p fmd c cs (element_of e) (map element_of fs) y
-      ∙ ap₂ (λ (m n : Residue p). Kd.add (Kd.mul (vectors.of p fmd c) m) n) (vector_of_element p fmd weights relations st d e.1 (row_member p fmd weights relations st d e (h e (Contains-first e fs))) y)
+      ∙ ap₂ (λ (m n : Residue p). Kd.add (Kd.mul (vectors.of p fmd c) m) n)
+      (vector_of_element p fmd weights relations st d e.1 (row_member p fmd weights relations st d e (h e (Contains-first e fs))) y)
       (vector_of_combination cs fs (λ g m. h g (Contains-more e fs g m)) y)
 
   independent : IsIndependent p members
@@ -197,7 +213,8 @@ module _ (p : ℕ) (weights : List ℕ) (relations : List (List Term)) (st : IsS
 
   mix-factors : (v : Vd) (fs : List (List ℕ × Vd)) (y : List ℕ) → mix p fmd (factors_of v fs) fs y ≡ sum_of Kd (List ℕ) (from_leads Kd (List ℕ) fs v) y
   mix-factors v [] y = refl
-  mix-factors v (e ∷ fs) y = ap₂ (λ (m n : Residue p). Kd.add (Kd.mul m (e.1 y)) n) (same_residue p (vectors.of p fmd (v e.0).0) (v e.0) (mod-eq_of_lt (v e.0).1)) (mix-factors v fs y)
+  mix-factors v (e ∷ fs) y = ap₂ (λ (m n : Residue p). Kd.add (Kd.mul m (e.1 y)) n)
+      (same_residue p (vectors.of p fmd (v e.0).0) (v e.0) (mod-eq_of_lt (v e.0).1)) (mix-factors v fs y)
 
   same_at : (xs : List (List ℕ)) (u v : Vd) → AreSameAt Kd (List ℕ) xs u v → (w : List ℕ) → Contains xs w → u w ≡ v w
   same_at [] u v s w m = absurd (Contains-none w m)
@@ -221,7 +238,8 @@ module _ (p : ℕ) (weights : List ℕ) (relations : List (List Term)) (st : IsS
           count = length-map es (λ (e : List ℕ × Vd). (v e.0).0) ∙ sym (length-map es element_of);
           residues = All-map (λ c. c < p) (λ (e : List ℕ × Vd). (v e.0).0) es (λ k e within. (v (get_or es k e).0).1);
         },
-        λ w. ap (λ (n : Residue p). n.0) (mixed v (span_from_ideal p fmd weights relations d f i) w ∙ sym (vector_of_combination (factors_of v es) es (λ g n. n) w)),
+        λ w. ap (λ (n : Residue p). n.0) (mixed v (span_from_ideal p fmd weights relations d f i) w
+            ∙ sym (vector_of_combination (factors_of v es) es (λ g n. n) w)),
       )
 
   pub has_dimension : IsDimension p weights relations d (length (leading_words p fmd weights relations st d))
@@ -236,35 +254,43 @@ module _ (p : ℕ) (weights : List ℕ) (relations : List (List Term)) (st : IsS
   }
 
   -- sums of multiples of members are members
-  sum_member : (cs : List (Residue p)) (fs : List (List Term)) → All (IsInIdeal p weights relations d) fs → IsMemberVector p fmd weights relations st d (sum_zip Kd (List ℕ) cs (map (vectors.vector_of p fmd) fs))
+  sum_member : (cs : List (Residue p)) (fs : List (List Term)) → All (IsInIdeal p weights relations d) fs →
+      IsMemberVector p fmd weights relations st d (sum_zip Kd (List ℕ) cs (map (vectors.vector_of p fmd) fs))
   sum_member [] fs h = IsInSpan-zero Kd (List ℕ) _
   sum_member (c ∷ cs) [] h = IsInSpan-zero Kd (List ℕ) _
   sum_member (c ∷ cs) (f ∷ fs) h =
-      IsInSpan-add Kd (List ℕ) _ _ _ (IsInSpan-scaled Kd (List ℕ) _ c (vectors.vector_of p fmd f) (span_from_ideal p fmd weights relations d f (All-head (IsInIdeal p weights relations d) f fs h)))
+      IsInSpan-add Kd (List ℕ) _ _ _ (IsInSpan-scaled Kd (List ℕ) _ c (vectors.vector_of p fmd f)
+      (span_from_ideal p fmd weights relations d f (All-head (IsInIdeal p weights relations d) f fs h)))
       (sum_member cs fs (All-tail (IsInIdeal p weights relations d) f fs h))
 
   abbrev numbers : List (Residue p) → List ℕ
   numbers cs = map (λ (c : Residue p). c.0) cs
 
-  vector_of_numbers : (cs : List (Residue p)) (fs : List (List Term)) (y : List ℕ) → vectors.vector_of p fmd (combination (numbers cs) fs) y ≡ sum_zip Kd (List ℕ) cs (map (vectors.vector_of p fmd) fs) y
+  vector_of_numbers : (cs : List (Residue p)) (fs : List (List Term)) (y : List ℕ) →
+      vectors.vector_of p fmd (combination (numbers cs) fs) y ≡ sum_zip Kd (List ℕ) cs (map (vectors.vector_of p fmd) fs) y
   vector_of_numbers [] fs y = same_residue p _ _ refl
   vector_of_numbers (c ∷ cs) [] y = same_residue p _ _ refl
   vector_of_numbers (c ∷ cs) (f ∷ fs) y =
-      combination-first p fmd c.0 (numbers cs) f fs y ∙ ap₂ (λ (m n : Residue p). Kd.add (Kd.mul m (vectors.vector_of p fmd f y)) n) (same_residue p (vectors.of p fmd c.0) c (mod-eq_of_lt c.1)) (vector_of_numbers cs fs y)
+      combination-first p fmd c.0 (numbers cs) f fs y ∙ ap₂ (λ (m n : Residue p). Kd.add (Kd.mul m (vectors.vector_of p fmd f y)) n)
+      (same_residue p (vectors.of p fmd c.0) c (mod-eq_of_lt c.1)) (vector_of_numbers cs fs y)
 
   all_zero : (cs : List (Residue p)) → HasNonzero Kd (List ℕ) cs → All (λ c. c ≡ 0) (numbers cs) → ⊥
   all_zero [] some h = some
   all_zero (c ∷ cs) (inl f) h = let t : (c.0 == 0) ≡ true = ap (λ (n : ℕ). n == 0) (All-head (λ c. c ≡ 0) c.0 (numbers cs) h) in cc
   all_zero (c ∷ cs) (inr later) h = all_zero cs later (All-tail (λ c. c ≡ 0) c.0 (numbers cs) h)
 
-  zero_leads : (v : Vd) (fs : List (List ℕ × Vd)) → IsZeroOn Kd (List ℕ) (map (λ (e : List ℕ × Vd). e.0) fs) v → (y : List ℕ) → sum_of Kd (List ℕ) (from_leads Kd (List ℕ) fs v) y ≡ Kd.zero
+  zero_leads : (v : Vd) (fs : List (List ℕ × Vd)) → IsZeroOn Kd (List ℕ) (map (λ (e : List ℕ × Vd). e.0) fs) v → (y : List ℕ) →
+      sum_of Kd (List ℕ) (from_leads Kd (List ℕ) fs v) y ≡ Kd.zero
   zero_leads v [] z y = refl
-  zero_leads v (e ∷ fs) z y = ap (λ (n : Residue p). Kd.add (Kd.mul n (e.1 y)) (sum_of Kd (List ℕ) (from_leads Kd (List ℕ) fs v) y)) z.0 ∙ nothing_times p fmd (e.1 y) _ ∙ zero_leads v fs z.1 y
+  zero_leads v (e ∷ fs) z y = ap (λ (n : Residue p). Kd.add (Kd.mul n (e.1 y)) (sum_of Kd (List ℕ) (from_leads Kd (List ℕ) fs v) y)) z.0
+      ∙ nothing_times p fmd (e.1 y) _ ∙ zero_leads v fs z.1 y
 
   -- no more independent members than leading words
-  at_most : (fs : List (List Term)) → All (IsInIdeal p weights relations d) fs → IsIndependent p fs → length (leading_words p fmd weights relations st d) < length fs → ⊥
+  at_most : (fs : List (List Term)) → All (IsInIdeal p weights relations d) fs → IsIndependent p fs →
+      length (leading_words p fmd weights relations st d) < length fs → ⊥
   at_most fs inside ind more =
-      let dep = dependent Kd (List ℕ) (leading_words p fmd weights relations st d) (map (vectors.vector_of p fmd) fs) (omega (arith, more, length-map fs (vectors.vector_of p fmd))) in
+      let dep = dependent Kd (List ℕ) (leading_words p fmd weights relations st d) (map (vectors.vector_of p fmd) fs)
+      (omega (arith, more, length-map fs (vectors.vector_of p fmd))) in
       let v = sum_zip Kd (List ℕ) dep.factors (map (vectors.vector_of p fmd) fs) in
       let s = sum_member dep.factors fs inside in
       let zero : (w : List ℕ) → v w ≡ Kd.zero = λ w. elim (listed columns w) [
@@ -272,19 +298,32 @@ module _ (p : ℕ) (weights : List ℕ) (relations : List (List Term)) (st : IsS
         | inr off ↦ member_off p fmd weights relations st d v s w off
       ] in
       all_zero dep.factors dep.other (ind (numbers dep.factors)
-      (record { count = length-map dep.factors (λ (c : Residue p). c.0) ∙ dep.count ∙ length-map fs (vectors.vector_of p fmd); residues = All-map (λ c. c < p) (λ (c : Residue p). c.0) dep.factors (λ k c within. (get_or dep.factors k c).1) })
+      (record {
+        count = length-map dep.factors (λ (c : Residue p). c.0) ∙ dep.count ∙ length-map fs (vectors.vector_of p fmd);
+        residues =
+            All-map (λ c. c < p) (λ (c : Residue p). c.0) dep.factors (λ k c within. (get_or dep.factors k c).1);
+      })
       (λ w. ap (λ (n : Residue p). n.0) (vector_of_numbers dep.factors fs w ∙ zero w)))
 
   -- no fewer members span than there are leading words
-  at_least : (fs : List (List Term)) → ((f : List Term) → IsInIdeal p weights relations d f → (cs : List ℕ) × AreFactors p cs fs × IsSame p f (combination cs fs))
+  at_least : (fs : List (List Term)) → ((f : List Term) → IsInIdeal p weights relations d f →
+      (cs : List ℕ) × AreFactors p cs fs × IsSame p f (combination cs fs))
       → length fs < length (leading_words p fmd weights relations st d) → ⊥
   at_least fs span fewer =
-      let dep = dependent Kd Vd (map (vectors.vector_of p fmd) fs) (map (reading p fmd) es) (omega (arith, fewer, length-map fs (vectors.vector_of p fmd), length-map es (reading p fmd), length-map es (λ (e : List ℕ × Vd). e.0))) in
+      let dep = dependent Kd Vd (map (vectors.vector_of p fmd) fs) (map (reading p fmd) es)
+      (omega (
+        arith,
+        fewer,
+        length-map fs (vectors.vector_of p fmd),
+        length-map es (reading p fmd),
+        length-map es (λ (e : List ℕ × Vd). e.0),
+      )) in
       readings_independent p fmd columns es reduced dep.factors (dep.count ∙ length-map es (reading p fmd)) (λ e m.
       let f = element_of e in
       let member = row_member p fmd weights relations st d e m in
       let c = span f (element_inside p fmd weights relations st d e.1 member) in
-      readings-same p fmd dep.factors es e.1 (vectors.vector_of p fmd (combination c.0 fs)) (λ y. sym (vector_of_element p fmd weights relations st d e.1 member y) ∙ same_vectors p fmd f (combination c.0 fs) c.2 y)
+      readings-same p fmd dep.factors es e.1 (vectors.vector_of p fmd (combination c.0 fs))
+      (λ y. sym (vector_of_element p fmd weights relations st d e.1 member y) ∙ same_vectors p fmd f (combination c.0 fs) c.2 y)
       ∙ readings-combination p fmd dep.factors es c.0 fs dep.sum) dep.other
 
   pub only_dimension : (k : ℕ) → IsDimension p weights relations d k → k ≡ length (leading_words p fmd weights relations st d)
@@ -317,7 +356,8 @@ module _ (p : ℕ) (weights : List ℕ) (relations : List (List Term)) (st : IsS
   count_both (x ∷ xs) = by_answer (decide x) (count_both xs)
     where
       by_answer : (a : IsLead x ⊎ IsNoLead x) → length (kept IsLead decide xs) + length (others xs) ≡ length xs
-          → length (kept_if IsLead decide x a (kept IsLead decide xs)) + length (kept_if IsNoLead (λ w. turned w (decide w)) x (turned x a) (others xs)) ≡ suc (length xs)
+          → length (kept_if IsLead decide x a (kept IsLead decide xs)) + length
+          (kept_if IsNoLead (λ w. turned w (decide w)) x (turned x a) (others xs)) ≡ suc (length xs)
       by_answer (inl l) e = omega (arith, e)
       by_answer (inr n) e = omega (arith, e)
 
@@ -327,13 +367,15 @@ module _ (p : ℕ) (weights : List ℕ) (relations : List (List Term)) (st : IsS
       subst (Contains columns) c.2 (lead_in_columns p fmd columns es reduced c.0 c.1)
 
   falling_leads : AllPairs IsLetterwiseGreater (leading_words p fmd weights relations st d)
-  falling_leads = AllPairs-map (λ (e : List ℕ × Vd). e.0) (λ (c e : List ℕ × Vd). IsLetterwiseGreater c.0 e.0) IsLetterwiseGreater (λ c e g. g) es (leads_falling p fmd columns es reduced (words_of_degree-falling weights st.are_weights d))
+  falling_leads = AllPairs-map (λ (e : List ℕ × Vd). e.0) (λ (c e : List ℕ × Vd). IsLetterwiseGreater c.0 e.0) IsLetterwiseGreater
+      (λ c e g. g) es (leads_falling p fmd columns es reduced (words_of_degree-falling weights st.are_weights d))
 
   falling-apart : (xs : List (List ℕ)) → AllPairs IsLetterwiseGreater xs → AllPairs (λ v w. v ≢ w) xs
   falling-apart xs h i j x below within = letterwise-apart _ _ (h i j x below within)
 
   kept_leads : leading_words p fmd weights relations st d ≡ kept IsLead decide columns
-  kept_leads = same_lists IsLetterwiseGreater (λ w g. letterwise-apart w w g refl) letterwise-trans _ _ falling_leads (AllPairs-kept IsLead decide IsLetterwiseGreater columns (words_of_degree-falling weights st.are_weights d))
+  kept_leads = same_lists IsLetterwiseGreater (λ w g. letterwise-apart w w g refl) letterwise-trans _ _ falling_leads
+      (AllPairs-kept IsLead decide IsLetterwiseGreater columns (words_of_degree-falling weights st.are_weights d))
       (λ w m. let l = listed_leading p fmd weights relations st d w m in in_kept IsLead decide columns w (lead_column w l) l)
       (λ w m. leading_listed p fmd weights relations st d w (kept-says IsLead decide columns w m).1)
 

@@ -1,5 +1,6 @@
 -- A word is a leading word exactly where some factor of it is minimal.
-use Rattle.std.proofs.Common.{ap₂, ◌≡◌, ◌≢◌, ◌⊎◌, ◌<◌, ◌≤◌, ℕ, zero, suc, true, false, List, [], ◌∷◌, ◌++◌, map, length, take, drop, refl, sym, ap, ◌∙◌, inl, inr, arith, All, subst, bytes_eq, length-append, append-nil, Some}
+use Rattle.std.proofs.Common.{ap₂, ◌≡◌, ◌≢◌, ◌⊎◌, ◌<◌, ◌≤◌, ℕ, zero, suc, true, false, List, [], ◌∷◌, ◌++◌, map, length, take, drop, refl, sym, ap}
+use Rattle.std.proofs.Common.{◌∙◌, inl, inr, arith, All, subst, bytes_eq, length-append, append-nil, Some}
 use Rattle.std.specs.List.{Contains, flat_map, range_with_len}
 use Rattle.std.proofs.lemmas.Bool.{cases_Bool, cases_lt}
 use Rattle.std.proofs.lemmas.List.{append_assoc, nil_from_length, take-append-drop}
@@ -49,11 +50,13 @@ pub factor_listed : (v w : List ℕ) → IsFactor v w → Contains (factors w) v
 factor_listed v w i =
     let sizes = ap length i.joined ∙ length-append (i.before ++ v) i.after in
     let is : take (length v) (drop (length i.before) w) ≡ v =
-    ap (λ (r : List ℕ). take (length v) (drop (length i.before) r)) (i.joined ∙ append_assoc i.before v i.after) ∙ ap (take (length v)) (after_prefix i.before (v ++ i.after)) ∙ before_suffix v i.after in
+    ap (λ (r : List ℕ). take (length v) (drop (length i.before) r)) (i.joined ∙ append_assoc i.before v i.after)
+    ∙ ap (take (length v)) (after_prefix i.before (v ++ i.after)) ∙ before_suffix v i.after in
     Contains-flat_map (factors_from w) (range_with_len 0 (suc (length w))) (length i.before) v
     (Contains-range 0 (suc (length w)) (length i.before) (omega arith) (omega (arith, sizes, length-append i.before v)))
     (subst (Contains (factors_from w (length i.before))) is
-    (Contains-map (λ n. take n (drop (length i.before) w)) (range_with_len 0 (suc (length w))) (length v) (Contains-range 0 (suc (length w)) (length v) (omega arith) (omega (arith, sizes, length-append i.before v)))))
+    (Contains-map (λ n. take n (drop (length i.before) w)) (range_with_len 0 (suc (length w))) (length v)
+    (Contains-range 0 (suc (length w)) (length v) (omega arith) (omega (arith, sizes, length-append i.before v)))))
 
 pub listed_factor : (v w : List ℕ) → Contains (factors w) v → IsFactor v w
 listed_factor v w h =
@@ -121,7 +124,8 @@ module _ (p : ℕ) (weights : List ℕ) (relations : List (List Term)) (st : IsS
     ]
   ]
 
-  minimal_inside : (n : ℕ) (w : List ℕ) → length w ≤ n → IsLeadingWord p weights relations (degree_of weights w) w → (v : List ℕ) × IsFactor v w × IsMinimal p weights relations v
+  minimal_inside : (n : ℕ) (w : List ℕ) → length w ≤ n → IsLeadingWord p weights relations (degree_of weights w) w →
+      (v : List ℕ) × IsFactor v w × IsMinimal p weights relations v
   minimal_inside zero w le l = elim (minimal_or w l) [
     | minimal m ↦ (w, factor_itself w, m)
     | inside v proper k ↦ absurd (omega (arith, le, shorter v w proper))
@@ -133,7 +137,8 @@ module _ (p : ℕ) (weights : List ℕ) (relations : List (List Term)) (st : IsS
         (r.0, factor_trans r.0 v w r.1 proper.inside, r.2)
   ]
 
-  leading_round : (w v : List ℕ) → IsOver (length weights) w → IsFactor v w → IsLeadingWord p weights relations (degree_of weights v) v → IsLeadingWord p weights relations (degree_of weights w) w
+  leading_round : (w v : List ℕ) → IsOver (length weights) w → IsFactor v w → IsLeadingWord p weights relations (degree_of weights v) v →
+      IsLeadingWord p weights relations (degree_of weights w) w
   leading_round w v over i l =
       let whole = subst (IsOver (length weights)) i.joined over in
       let front = All-front (λ x. x < length weights) i.before v (All-front (λ x. x < length weights) (i.before ++ v) i.after whole) in
@@ -141,9 +146,13 @@ module _ (p : ℕ) (weights : List ℕ) (relations : List (List Term)) (st : IsS
       let degree = sym (ap (degree_of weights) i.joined ∙ degree_of-round weights i.before v i.after) in
       record {
         member = product i.before l.member i.after;
-        inside = subst (λ (n : ℕ). IsInIdeal p weights relations n (product i.before l.member i.after)) degree (inside_product p weights st.are_weights relations (degree_of weights v) i.before l.member i.after front back l.inside);
+        inside = subst (λ (n : ℕ). IsInIdeal p weights relations n (product i.before l.member i.after)) degree
+            (inside_product p weights st.are_weights relations (degree_of weights v) i.before l.member i.after front back l.inside);
         lead = lead-product i.before l.member i.after v l.lead ∙ ap Some (sym i.joined);
       }
 
 pub factor_law : IsFactorLaw
-factor_law p weights relations st w over = (minimal_inside p weights relations st (length w) w (omega arith), λ h. leading_round p weights relations st w h.0 over h.1 h.2.leading)
+factor_law p weights relations st w over = (
+  minimal_inside p weights relations st (length w) w (omega arith),
+  λ h. leading_round p weights relations st w h.0 over h.1 h.2.leading,
+)

@@ -1,5 +1,6 @@
 -- A basis with the elements of one degree more.
-use Rattle.std.proofs.Common.{ap₂, ◌≡◌, ◌≢◌, ◌+◌, ◌<◌, ◌≤◌, ◌==◌, ℕ, Bool, true, false, cond, List, [], ◌∷◌, ◌++◌, length, length-append, append-nil, min, get_or, set, refl, sym, ap, ◌∙◌, inl, inr, arith, eq-eqb, All, AllPairs, subst}
+use Rattle.std.proofs.Common.{ap₂, ◌≡◌, ◌≢◌, ◌+◌, ◌<◌, ◌≤◌, ◌==◌, ℕ, Bool, true, false, cond, List, [], ◌∷◌, ◌++◌, length, length-append, append-nil}
+use Rattle.std.proofs.Common.{min, get_or, set, refl, sym, ap, ◌∙◌, inl, inr, arith, eq-eqb, All, AllPairs, subst}
 use Rattle.std.specs.List.{filter, slice_range}
 use Rattle.std.proofs.lemmas.Bool.{cases_lt}
 use Rattle.std.proofs.lemmas.List.{get_or-set_other, get_or-set_same, length-set}
@@ -30,7 +31,8 @@ of_degree-append weights d ([] ∷ fs) gs = of_degree-append weights d fs gs
 of_degree-append weights d ((t ∷ f) ∷ fs) gs = by_test (degree_of weights t.word == d) (of_degree-append weights d fs gs)
   where
     by_test : (b : Bool) → of_degree weights d (fs ++ gs) ≡ of_degree weights d fs ++ of_degree weights d gs
-        → cond b ((t ∷ f) ∷ of_degree weights d (fs ++ gs)) (of_degree weights d (fs ++ gs)) ≡ cond b ((t ∷ f) ∷ of_degree weights d fs) (of_degree weights d fs) ++ of_degree weights d gs
+        → cond b ((t ∷ f) ∷ of_degree weights d (fs ++ gs)) (of_degree weights d (fs ++ gs))
+        ≡ cond b ((t ∷ f) ∷ of_degree weights d fs) (of_degree weights d fs) ++ of_degree weights d gs
     by_test true e = ap (λ (hs : List (List Term)). (t ∷ f) ∷ hs) e
     by_test false e = e
 
@@ -38,7 +40,8 @@ pub of_degree-none : (weights : List ℕ) (d : ℕ) (fs : List (List Term)) → 
 of_degree-none weights d [] h = refl
 of_degree-none weights d ([] ∷ fs) h = of_degree-none weights d fs (All-tail (λ f. lead_degree weights f ≢ d) [] fs h)
 of_degree-none weights d ((t ∷ f) ∷ fs) h =
-    ap (λ (b : Bool). cond b ((t ∷ f) ∷ of_degree weights d fs) (of_degree weights d fs)) (not_eqb (degree_of weights t.word) d (All-head (λ f. lead_degree weights f ≢ d) (t ∷ f) fs h))
+    ap (λ (b : Bool). cond b ((t ∷ f) ∷ of_degree weights d fs) (of_degree weights d fs))
+    (not_eqb (degree_of weights t.word) d (All-head (λ f. lead_degree weights f ≢ d) (t ∷ f) fs h))
     ∙ of_degree-none weights d fs (All-tail (λ f. lead_degree weights f ≢ d) (t ∷ f) fs h)
 
 pub of_degree-all : (weights : List ℕ) (d : ℕ) (fs : List (List Term)) → All IsMonic fs → All (HasDegree weights d) fs → of_degree weights d fs ≡ fs
@@ -51,9 +54,11 @@ of_degree-all weights d ((t ∷ f) ∷ fs) m h =
 
 -- the elements of a degree stand together
 pub degree_together : (basis : Elements) → IsKept basis → (d : ℕ)
-    → slice_range basis.elements (count_below basis.weights d basis.elements) (count_upto basis.weights d basis.elements) ≡ of_degree basis.weights d basis.elements
+    → slice_range basis.elements (count_below basis.weights d basis.elements) (count_upto basis.weights d basis.elements)
+    ≡ of_degree basis.weights d basis.elements
 degree_together basis h d =
-    let rising : AllPairs (λ f g. lead_degree basis.weights f ≤ lead_degree basis.weights g) basis.elements = λ i j f below within. no_later _ _ (h.ordered i j f below within) in
+    let rising : AllPairs (λ f g. lead_degree basis.weights f ≤ lead_degree basis.weights g) basis.elements =
+    λ i j f below within. no_later _ _ (h.ordered i j f below within) in
     with_key (lead_degree basis.weights) d basis.elements rising
     ∙ sym (of_degree-filter basis.weights d basis.elements (All-weaker (IsKeptElement basis.weights basis.done) IsMonic (λ f k. k.monic) basis.elements h.each))
   where
@@ -62,7 +67,8 @@ degree_together basis h d =
     no_later f g (inr equal) = omega (arith, equal.0)
 
 -- what is stored at the last done degree holds of all later ones
-pub end_stored : (basis : Elements) (ends : List ℕ) → IsStored basis ends → (d m : ℕ) → m ≡ min d basis.done → get_or ends m 0 ≡ count_upto basis.weights d basis.elements
+pub end_stored : (basis : Elements) (ends : List ℕ) → IsStored basis ends → (d m : ℕ) → m ≡ min d basis.done →
+    get_or ends m 0 ≡ count_upto basis.weights d basis.elements
 end_stored basis ends h d m e = elim (cases_lt basis.done d) [
   | inl past ↦
       let is : m ≡ basis.done = omega (arith, e, past) in
@@ -103,7 +109,9 @@ module _ (basis : Elements) (added : List (List Term)) (next : AreNext basis add
   kept_grown : IsKept basis → basis.done < 64 → IsKept (grown basis added)
   kept_grown h room =
       let each = All-append (IsKeptElement basis.weights (basis.done + 1)) basis.elements added
-      (All-weaker (IsKeptElement basis.weights basis.done) (IsKeptElement basis.weights (basis.done + 1)) (λ f k. record { monic = k.monic; letters = k.letters; degree = k.degree; from = k.from; upto = omega (arith, k.upto) }) basis.elements h.each)
+      (All-weaker (IsKeptElement basis.weights basis.done) (IsKeptElement basis.weights (basis.done + 1))
+      (λ f k. record { monic = k.monic; letters = k.letters; degree = k.degree; from = k.from; upto = omega (arith, k.upto) })
+      basis.elements h.each)
       kept_next in
       record {
         some = h.some;
@@ -113,7 +121,11 @@ module _ (basis : Elements) (added : List (List Term)) (next : AreNext basis add
         each = each;
         ordered = AllPairs-append (StandsBefore basis.weights) basis.elements added h.ordered
             (λ i j f below within. inr (leads_next i f (omega (arith, below, within)) ∙ sym (leads_next j f within), next.falling i j f below within))
-            (λ f m k g within. inl (omega (arith, (All-contains (IsKeptElement basis.weights basis.done) basis.elements f h.each m).upto, leads_next k g within)));
+            (λ f m k g within. inl (omega (
+              arith,
+              (All-contains (IsKeptElement basis.weights basis.done) basis.elements f h.each m).upto,
+              leads_next k g within,
+            )));
         few = omega (arith, h.few, next.few, length-append basis.elements added);
       }
 
@@ -124,14 +136,16 @@ module _ (basis : Elements) (added : List (List Term)) (next : AreNext basis add
         let is : d ≡ basis.done + 1 = omega (arith, last, le) in
         let whole = upto-all (lead_degree basis.weights) d (basis.elements ++ added) (All-append (λ f. lead_degree basis.weights f ≤ d) basis.elements added
         (λ k f within. omega (arith, (h.kept.each k f within).upto, last)) (λ k f within. omega (arith, leads_next k f within, is))) in
-        ap (λ (n : ℕ). get_or (set ends (basis.done + 1) (length (basis.elements ++ added))) n 0) is ∙ get_or-set_same ends (basis.done + 1) (length (basis.elements ++ added)) 0 (omega (arith, h.size, room)) ∙ sym whole
+        ap (λ (n : ℕ). get_or (set ends (basis.done + 1) (length (basis.elements ++ added))) n 0) is
+        ∙ get_or-set_same ends (basis.done + 1) (length (basis.elements ++ added)) 0 (omega (arith, h.size, room)) ∙ sym whole
     | inr before ↦
         let none = upto-none (lead_degree basis.weights) d added (λ k f within. omega (arith, leads_next k f within, before)) in
         get_or-set_other ends (basis.done + 1) d (length (basis.elements ++ added)) 0 (λ e. omega (arith, e, before)) ∙ h.counted d before
         ∙ omega (arith, upto-append (lead_degree basis.weights) d basis.elements added, none)
   ]
 
-  pub stored_grown : (ends : List ℕ) → IsStored basis ends → basis.done < 64 → IsStored (grown basis added) (set ends (basis.done + 1) (length (basis.elements ++ added)))
+  pub stored_grown : (ends : List ℕ) → IsStored basis ends → basis.done < 64 →
+      IsStored (grown basis added) (set ends (basis.done + 1) (length (basis.elements ++ added)))
   stored_grown ends h room = record {
     kept = kept_grown h.kept room;
     size = length-set {A = ℕ} ends (basis.done + 1) (length (basis.elements ++ added)) ∙ h.size;
@@ -139,19 +153,22 @@ module _ (basis : Elements) (added : List (List Term)) (next : AreNext basis add
   }
 
   -- a basis that is reduced in each degree stays so with the reduced basis of the next one
-  pub reduced_grown : (p : ℕ) (relations : List (List Term)) → IsKept basis → IsReducedUpto p relations basis → IsReducedBasis p basis.weights relations (basis.done + 1) added → IsReducedUpto p relations (grown basis added)
+  pub reduced_grown : (p : ℕ) (relations : List (List Term)) → IsKept basis → IsReducedUpto p relations basis →
+      IsReducedBasis p basis.weights relations (basis.done + 1) added → IsReducedUpto p relations (grown basis added)
   reduced_grown p relations h old new d from le = elim (cases_lt basis.done d) [
     | inl last ↦
         let is : d ≡ basis.done + 1 = omega (arith, last, le) in
         let here : of_degree basis.weights d (basis.elements ++ added) ≡ added =
         of_degree-append basis.weights d basis.elements added
-        ∙ ap₂ (λ (fs gs : List (List Term)). fs ++ gs) (of_degree-none basis.weights d basis.elements (λ k f within e. omega (arith, (h.each k f within).upto, e, last)))
+        ∙ ap₂ (λ (fs gs : List (List Term)). fs ++ gs) (of_degree-none basis.weights d basis.elements
+        (λ k f within e. omega (arith, (h.each k f within).upto, e, last)))
         (ap (λ (n : ℕ). of_degree basis.weights n added) is ∙ of_degree-all basis.weights (basis.done + 1) added next.monic next.degree) in
         subst (IsReducedBasis p basis.weights relations d) (sym here) (subst (λ (n : ℕ). IsReducedBasis p basis.weights relations n added) (sym is) new)
     | inr before ↦
         let here : of_degree basis.weights d (basis.elements ++ added) ≡ of_degree basis.weights d basis.elements =
         of_degree-append basis.weights d basis.elements added
-        ∙ ap (λ (gs : List (List Term)). of_degree basis.weights d basis.elements ++ gs) (of_degree-none basis.weights d added (λ k f within e. omega (arith, leads_next k f within, e, before)))
+        ∙ ap (λ (gs : List (List Term)). of_degree basis.weights d basis.elements ++ gs)
+        (of_degree-none basis.weights d added (λ k f within e. omega (arith, leads_next k f within, e, before)))
         ∙ append-nil (of_degree basis.weights d basis.elements) in
         subst (IsReducedBasis p basis.weights relations d) (sym here) (old d from before)
   ]
@@ -168,7 +185,8 @@ next_from_reduced p relations basis added few h = record {
 }
 
 -- no degree is done
-pub stored_none : (weights ends : List ℕ) → 0 < length weights → length weights ≤ 64 → AreWeights weights → length ends ≡ 65 → get_or ends 0 0 ≡ 0 → IsStored (record { weights = weights; done = 0; elements = [] }) ends
+pub stored_none : (weights ends : List ℕ) → 0 < length weights → length weights ≤ 64 → AreWeights weights → length ends ≡ 65 →
+    get_or ends 0 0 ≡ 0 → IsStored (record { weights = weights; done = 0; elements = [] }) ends
 stored_none weights ends one few are size none = record {
   kept = record {
     some = one;
@@ -184,8 +202,10 @@ stored_none weights ends one few are size none = record {
 }
 
 -- the same of a basis that has grown so
-pub reduced_upto_grown : (p : ℕ) (relations : List (List Term)) (old new : Elements) (added : List (List Term)) → IsKept old → IsReducedUpto p relations old → length added ≤ 16777216
-    → IsReducedBasis p old.weights relations (old.done + 1) added → new.weights ≡ old.weights → new.done ≡ old.done + 1 → new.elements ≡ old.elements ++ added → IsReducedUpto p relations new
+pub reduced_upto_grown : (p : ℕ) (relations : List (List Term)) (old new : Elements) (added : List (List Term)) → IsKept old →
+    IsReducedUpto p relations old → length added ≤ 16777216
+    → IsReducedBasis p old.weights relations (old.done + 1) added → new.weights ≡ old.weights → new.done ≡ old.done + 1 →
+    new.elements ≡ old.elements ++ added → IsReducedUpto p relations new
 reduced_upto_grown p relations old new added kept upto few h w d e =
     let is : grown old added ≡ new = λ i. record { weights = sym w i; done = sym d i; elements = sym e i } in
     subst (IsReducedUpto p relations) is (reduced_grown old added (next_from_reduced p relations old added few h) p relations kept upto h)

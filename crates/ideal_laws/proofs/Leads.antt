@@ -1,5 +1,7 @@
--- The leading words of a degree are the leading columns of a reduced basis of its products, so a word is one of them or not.
-use Rattle.std.proofs.Common.{◌≡◌, ◌⊎◌, ◌%◌, ◌<◌, ◌==◌, ℕ, Bool, true, false, cond, List, [], ◌∷◌, map, length, get_or, sym, ap, ◌∙◌, inl, inr, subst, Some, arith}
+-- The leading words of a degree are the leading columns of a reduced basis of its products, so a word is one of them
+-- or not.
+use Rattle.std.proofs.Common.{◌≡◌, ◌⊎◌, ◌%◌, ◌<◌, ◌==◌, ℕ, Bool, true, false, cond, List, [], ◌∷◌, map, length, get_or, sym, ap, ◌∙◌, inl, inr, subst}
+use Rattle.std.proofs.Common.{Some, arith}
 use Rattle.std.specs.List.{Contains}
 use Rattle.std.proofs.Math.Nat.{mod-eq_of_lt, mod-mod, zero-mod}
 use Rattle.std.proofs.lemmas.Bool.{cases_Bool, eqb-true}
@@ -53,7 +55,8 @@ module _ (p : ℕ) (fm : IsFieldModulus p) where
 
   -- a column at which the vector is 0 gives no term
   pub skipped : (x : List ℕ) (xs : List (List ℕ)) (v : V) → v x ≡ K.zero → from_words (x ∷ xs) (entries v) ≡ from_words xs (entries v)
-  skipped x xs v e = ap (λ (b : Bool). cond b (from_words xs (entries v)) (record { word = x; coefficient = (v x).0 } ∷ from_words xs (entries v))) (zero_entry v x e)
+  skipped x xs v e = ap (λ (b : Bool). cond b (from_words xs (entries v))
+      (record { word = x; coefficient = (v x).0 } ∷ from_words xs (entries v))) (zero_entry v x e)
 
   zero_at_member : (x : List ℕ) (es : List (List ℕ × V)) (e : List ℕ × V) → AreZeroAt K (List ℕ) x es → Contains es e → e.1 x ≡ K.zero
   zero_at_member x [] e z m = absurd (Contains-none e m)
@@ -63,12 +66,14 @@ module _ (p : ℕ) (fm : IsFieldModulus p) where
   ]
 
   -- the leading word of a row is its leading column
-  pub lead_of_row : (xs : List (List ℕ)) (es : List (List ℕ × V)) → IsReduced K (List ℕ) xs es → (e : List ℕ × V) → Contains es e → lead_of (from_words xs (entries e.1)) ≡ Some e.0
+  pub lead_of_row : (xs : List (List ℕ)) (es : List (List ℕ × V)) → IsReduced K (List ℕ) xs es → (e : List ℕ × V) → Contains es e →
+      lead_of (from_words xs (entries e.1)) ≡ Some e.0
   lead_of_row xs es done e m = absurd (Contains-none e m)
   lead_of_row xs es (skip x ys es' z r) e m = ap lead_of (skipped x ys e.1 (zero_at_member x es e z m)) ∙ lead_of_row ys es r e m
   lead_of_row xs es (lead x ys v es' one z zl r) e m = elim (Contains-cases (x, v) es' e m) [
     | inl is ↦ subst (λ (d : List ℕ × V). lead_of (from_words (x ∷ ys) (entries d.1)) ≡ Some d.0) is
-        (ap (λ (b : Bool). lead_of (cond b (from_words ys (entries v)) (record { word = x; coefficient = (v x).0 } ∷ from_words ys (entries v)))) (one_entry v x one))
+        (ap (λ (b : Bool). lead_of (cond b (from_words ys (entries v))
+        (record { word = x; coefficient = (v x).0 } ∷ from_words ys (entries v)))) (one_entry v x one))
     | inr n ↦ ap lead_of (skipped x ys e.1 (zero_at_member x es' e z n)) ∙ lead_of_row ys es' r e n
   ]
 
@@ -80,7 +85,8 @@ module _ (p : ℕ) (fm : IsFieldModulus p) where
   some_same a b e = cc e
 
   -- a vector that is had from the rows has its leading word among their leading columns
-  pub lead_among : (xs : List (List ℕ)) (es : List (List ℕ × V)) → IsReduced K (List ℕ) xs es → (v : V) → AreSameAt K (List ℕ) xs v (sum_of K (List ℕ) (from_leads K (List ℕ) es v))
+  pub lead_among : (xs : List (List ℕ)) (es : List (List ℕ × V)) → IsReduced K (List ℕ) xs es → (v : V) →
+      AreSameAt K (List ℕ) xs v (sum_of K (List ℕ) (from_leads K (List ℕ) es v))
       → (w : List ℕ) → lead_of (from_words xs (entries v)) ≡ Some w → Contains (map (λ (e : List ℕ × V). e.0) es) w
   lead_among xs es done v s w e = cc e
   lead_among xs es (skip x ys es' z r) v s w e =
@@ -106,7 +112,8 @@ module _ (p : ℕ) (fm : IsFieldModulus p) where
     | inr n ↦ inr (one_of_listed fs f n)
   ]
 
-  listed_one_of : (fs : List (List Term)) (v : V) → IsOneOf K (List ℕ) (map (vectors.vector_of p fm) fs) v → (f : List Term) × Contains fs f × (v ≡ vectors.vector_of p fm f)
+  listed_one_of : (fs : List (List Term)) (v : V) → IsOneOf K (List ℕ) (map (vectors.vector_of p fm) fs) v →
+      (f : List Term) × Contains fs f × (v ≡ vectors.vector_of p fm f)
   listed_one_of [] v h = absurd h
   listed_one_of (g ∷ fs) v (inl e) = (g, Contains-first g fs, e)
   listed_one_of (g ∷ fs) v (inr h) = let r = listed_one_of fs v h in (r.0, Contains-more g fs r.0 r.1, r.2)
@@ -132,7 +139,8 @@ module _ (p : ℕ) (fm : IsFieldModulus p) where
 
     product_vector_listed : (v : V) → IsProductVector p fm weights relations d v → IsOneOf K (List ℕ) vectors_of_degree v
     product_vector_listed v h =
-        subst (IsOneOf K (List ℕ) vectors_of_degree) (sym h.is) (one_of_listed (products weights relations d) _ (product_listed weights st.are_weights p relations st.are_relations d h.multiple h.is_multiple))
+        subst (IsOneOf K (List ℕ) vectors_of_degree) (sym h.is) (one_of_listed (products weights relations d) _
+        (product_listed weights st.are_weights p relations st.are_relations d h.multiple h.is_multiple))
 
     listed_product_vector : (v : V) → IsOneOf K (List ℕ) vectors_of_degree v → IsProductVector p fm weights relations d v
     listed_product_vector v h =
@@ -153,7 +161,8 @@ module _ (p : ℕ) (fm : IsFieldModulus p) where
         let r = All-contains (IsRelation p weights) relations m.relation st.are_relations i.among in
         let letters = UsesLetters-product (length weights) m.left m.relation m.right i.left_over i.right_over r.letters in
         let f = product m.left m.relation m.right in
-        let none : total_at f w ≡ 0 = total_at-absent f w (λ k t within e. off (subst (Contains columns) e (in_columns (get_or f k t).word (letters k t within) (i.degree k t within)))) in
+        let none : total_at f w ≡ 0 = total_at-absent f w (λ k t within e. off
+        (subst (Contains columns) e (in_columns (get_or f k t).word (letters k t within) (i.degree k t within)))) in
         ap (λ (u : V). u w) h.is ∙ same_residue p _ _ (ap (λ (n : ℕ). n % p) none)
 
     pub member_off : (v : V) → IsMemberVector v → (w : List ℕ) → (Contains columns w → ⊥) → v w ≡ K.zero
@@ -190,7 +199,8 @@ module _ (p : ℕ) (fm : IsFieldModulus p) where
         same_polynomials p f (element_from v) i.element.form e.form i.element.residues e.residues
         (λ w. sym (ap (λ (n : ℕ). n % p) (total_of_element v (span_from_ideal p fm weights relations d f i) w) ∙ mod-mod (total_at f w) p))
 
-    row_inside : (gs : List V) (es : List (List ℕ × V)) → AreInSpan K (List ℕ) gs es → (e : List ℕ × V) → Contains es e → IsInSpan K (List ℕ) (IsOneOf K (List ℕ) gs) e.1
+    row_inside : (gs : List V) (es : List (List ℕ × V)) → AreInSpan K (List ℕ) gs es → (e : List ℕ × V) → Contains es e →
+        IsInSpan K (List ℕ) (IsOneOf K (List ℕ) gs) e.1
     row_inside gs [] h e m = absurd (Contains-none e m)
     row_inside gs (c ∷ es) h e m = elim (Contains-cases c es e m) [
       | inl is ↦ subst (λ (r : List ℕ × V). IsInSpan K (List ℕ) (IsOneOf K (List ℕ) gs) r.1) is h.0
@@ -206,7 +216,8 @@ module _ (p : ℕ) (fm : IsFieldModulus p) where
     pub leading_listed : (w : List ℕ) → IsLeadingWord p weights relations d w → Contains leading_words w
     leading_listed w l =
         let v = vectors.vector_of p fm l.member in
-        lead_among columns rows found.1.reduced v (had_from_rows v (span_from_ideal p fm weights relations d l.member l.inside)) w (ap lead_of (sym (member_is l.member l.inside)) ∙ l.lead)
+        lead_among columns rows found.1.reduced v (had_from_rows v (span_from_ideal p fm weights relations d l.member l.inside)) w
+        (ap lead_of (sym (member_is l.member l.inside)) ∙ l.lead)
 
     pub row_leads : (e : List ℕ × V) → Contains rows e → lead_of (element_from e.1) ≡ Some e.0
     row_leads e m = lead_of_row columns rows found.1.reduced e m

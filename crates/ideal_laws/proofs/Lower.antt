@@ -1,5 +1,7 @@
--- A basis lists the reduced elements of the degrees that are done, and none of its leading words is a factor of another.
-use Rattle.std.proofs.Common.{◌≡◌, ◌≢◌, ◌+◌, ◌%◌, ◌==◌, ◌<◌, ℕ, zero, suc, Bool, true, false, cond, List, [], ◌∷◌, ◌++◌, get_or, refl, sym, ap, ◌∙◌, inl, inr, arith, eq-eqb, All, subst, Some, bytes_eq}
+-- A basis lists the reduced elements of the degrees that are done, and none of its leading words is a factor of
+-- another.
+use Rattle.std.proofs.Common.{◌≡◌, ◌≢◌, ◌+◌, ◌%◌, ◌==◌, ◌<◌, ℕ, zero, suc, Bool, true, false, cond, List, [], ◌∷◌, ◌++◌, get_or, refl, sym, ap, ◌∙◌}
+use Rattle.std.proofs.Common.{inl, inr, arith, eq-eqb, All, subst, Some, bytes_eq}
 use Rattle.std.specs.List.{Contains, flat_map, slice_get}
 use Rattle.std.proofs.Math.Nat.{mod-eq_of_lt, zero-mod}
 use Rattle.std.proofs.lemmas.Bool.{cases_Bool, cases_lt}
@@ -23,7 +25,8 @@ use Rattle.ideal_laws.specs.Laws.{IsRelation, IsSetting}
 use Rattle.ideal_laws.specs.Overlaps.{AreLower, ListsFactorFree, ListsLower}
 use Rattle.ideal_laws.proofs.OneBasis.{monic-led, monic_total, some_same}
 
-of_degree-has : (weights : List ℕ) (d : ℕ) (fs : List (List Term)) (g : List Term) → Contains fs g → IsMonic g → lead_degree weights g ≡ d → Contains (of_degree weights d fs) g
+of_degree-has : (weights : List ℕ) (d : ℕ) (fs : List (List Term)) (g : List Term) → Contains fs g → IsMonic g → lead_degree weights g ≡ d →
+    Contains (of_degree weights d fs) g
 of_degree-has weights d [] g m monic e = absurd (Contains-none g m)
 of_degree-has weights d ([] ∷ fs) g m monic e = elim (Contains-cases [] fs g m) [
   | inl is ↦ absurd (subst IsMonic (sym is) monic)
@@ -32,7 +35,8 @@ of_degree-has weights d ([] ∷ fs) g m monic e = elim (Contains-cases [] fs g m
 of_degree-has weights d ((t ∷ f) ∷ fs) g m monic e = elim (Contains-cases (t ∷ f) fs g m) [
   | inl is ↦
       let here : (degree_of weights t.word == d) ≡ true = eq-eqb (degree_of weights t.word) d (ap (lead_degree weights) is ∙ e) in
-      subst (λ (b : Bool). Contains (cond b ((t ∷ f) ∷ of_degree weights d fs) (of_degree weights d fs)) g) (sym here) (subst (Contains ((t ∷ f) ∷ of_degree weights d fs)) is (Contains-first (t ∷ f) (of_degree weights d fs)))
+      subst (λ (b : Bool). Contains (cond b ((t ∷ f) ∷ of_degree weights d fs) (of_degree weights d fs)) g) (sym here)
+      (subst (Contains ((t ∷ f) ∷ of_degree weights d fs)) is (Contains-first (t ∷ f) (of_degree weights d fs)))
   | inr n ↦ by_test (degree_of weights t.word == d) (of_degree-has weights d fs g n monic e)
 ]
   where
@@ -45,7 +49,8 @@ of_degree-says weights d [] g m = absurd (Contains-none g m)
 of_degree-says weights d ([] ∷ fs) g m = Contains-more [] fs g (of_degree-says weights d fs g m)
 of_degree-says weights d ((t ∷ f) ∷ fs) g m = by_test (degree_of weights t.word == d) m (λ n. of_degree-says weights d fs g n)
   where
-    by_test : (b : Bool) → Contains (cond b ((t ∷ f) ∷ of_degree weights d fs) (of_degree weights d fs)) g → (Contains (of_degree weights d fs) g → Contains fs g) → Contains ((t ∷ f) ∷ fs) g
+    by_test : (b : Bool) → Contains (cond b ((t ∷ f) ∷ of_degree weights d fs) (of_degree weights d fs)) g →
+        (Contains (of_degree weights d fs) g → Contains fs g) → Contains ((t ∷ f) ∷ fs) g
     by_test true n rest = elim (Contains-cases (t ∷ f) (of_degree weights d fs) g n) [
       | inl is ↦ subst (Contains ((t ∷ f) ∷ fs)) is (Contains-first (t ∷ f) fs)
       | inr k ↦ Contains-more (t ∷ f) fs g (rest k)
@@ -53,7 +58,8 @@ of_degree-says weights d ((t ∷ f) ∷ fs) g m = by_test (degree_of weights t.w
     by_test false n rest = Contains-more (t ∷ f) fs g (rest n)
 
 -- a product of a relation has a degree of 1 or more
-pub positive_product : (weights : List ℕ) → AreWeights weights → (u : List ℕ) (r : List Term) (v : List ℕ) → r ≢ [] → All (λ t. t.word ≢ []) r → HasDegree weights 0 (product u r v) → ⊥
+pub positive_product : (weights : List ℕ) → AreWeights weights → (u : List ℕ) (r : List Term) (v : List ℕ) → r ≢ [] →
+    All (λ t. t.word ≢ []) r → HasDegree weights 0 (product u r v) → ⊥
 positive_product weights aw u [] v other words h = other refl
 positive_product weights aw u (t ∷ r) v other words h =
     omega (
@@ -89,7 +95,8 @@ strict weights g h w lg lh (inl lower) = omega (arith, lower, lead_degree-led we
 strict weights g h w lg lh (inr equal) =
     letterwise-apart equal.1.of_f equal.1.of_g equal.1.greater (some_same equal.1.of_f equal.1.of_g (sym equal.1.leads_f ∙ lg ∙ sym lh ∙ equal.1.leads_g))
 
-module _ (p : ℕ) (relations : List (List Term)) (below : Elements) (st : IsSetting p below.weights relations) (kept : IsKept below) (upto : IsReducedUpto p relations below) where
+module _ (p : ℕ) (relations : List (List Term)) (below : Elements) (st : IsSetting p below.weights relations) (kept : IsKept below)
+    (upto : IsReducedUpto p relations below) where
   listed : (g : List Term) → Contains below.elements g → (e : ℕ) × (e < below.done + 1) × IsReduced p below.weights relations e g
   listed g m =
       let k = All-contains (IsKeptElement below.weights below.done) below.elements g kept.each m in
@@ -106,7 +113,8 @@ module _ (p : ℕ) (relations : List (List Term)) (below : Elements) (st : IsSet
   in_list : (i : ℕ) (g : List Term) → slice_get below.elements i ≡ Some g → Contains below.elements g
   in_list i g e = (i, slice_get_within below.elements i g e, get_or_from_slice_get below.elements i g g e)
 
-  not_before : (i j : ℕ) (g h : List Term) (w : List ℕ) → slice_get below.elements i ≡ Some g → slice_get below.elements j ≡ Some h → lead_of g ≡ Some w → lead_of h ≡ Some w → i < j → ⊥
+  not_before : (i j : ℕ) (g h : List Term) (w : List ℕ) → slice_get below.elements i ≡ Some g → slice_get below.elements j ≡ Some h →
+      lead_of g ≡ Some w → lead_of h ≡ Some w → i < j → ⊥
   not_before i j g h w eg eh lg lh lt =
       let order = kept.ordered i j [] lt (slice_get_within below.elements j h eh) in
       strict below.weights g h w lg lh

@@ -1,5 +1,6 @@
 -- Two factors of one word: apart, one inside the other, or overlapping.
-use Rattle.std.proofs.Common.{ap₂, ◌≡◌, ◌≢◌, ◌+◌, ◌*◌, ◌<◌, ◌≤◌, ℕ, Bool, true, false, cond, List, [], ◌∷◌, ◌++◌, length, refl, sym, ap, ◌∙◌, inl, inr, arith, bytes_eq, length-append, append-nil}
+use Rattle.std.proofs.Common.{ap₂, ◌≡◌, ◌≢◌, ◌+◌, ◌*◌, ◌<◌, ◌≤◌, ℕ, Bool, true, false, cond, List, [], ◌∷◌, ◌++◌, length, refl, sym, ap, ◌∙◌, inl}
+use Rattle.std.proofs.Common.{inr, arith, bytes_eq, length-append, append-nil}
 use Rattle.std.specs.List.{flat_map}
 use Rattle.std.proofs.Math.Nat.{mul_comm}
 use Rattle.std.proofs.lemmas.Bool.{cases_lt}
@@ -80,12 +81,15 @@ module _ (u c v : List ℕ) where
   round_words : (s t : List ℕ) → u ++ s ++ (c ++ t ++ v) ≡ (u ++ s ++ c) ++ t ++ v
   round_words s t = simp append_assoc refl
 
-  one_first : (s : Term) (g h : List Term) (w : List ℕ) → total_at (by_second (s ∷ g) h) w ≡ total_at (scaled s.coefficient (product (u ++ s.word ++ c) h v)) w + total_at (by_second g h) w
+  one_first : (s : Term) (g h : List Term) (w : List ℕ) → total_at (by_second (s ∷ g) h) w
+      ≡ total_at (scaled s.coefficient (product (u ++ s.word ++ c) h v)) w + total_at (by_second g h) w
   one_first s g [] w = refl
   one_first s g (t ∷ h) w =
       let word = round_words s.word t.word in
-      let same : cond (bytes_eq (u ++ s.word ++ (c ++ t.word ++ v)) w) (t.coefficient * s.coefficient) 0 ≡ cond (bytes_eq ((u ++ s.word ++ c) ++ t.word ++ v) w) (s.coefficient * t.coefficient) 0 =
-      ap (λ (x : List ℕ). cond (bytes_eq x w) (t.coefficient * s.coefficient) 0) word ∙ hit-swap (bytes_eq ((u ++ s.word ++ c) ++ t.word ++ v) w) t.coefficient s.coefficient in
+      let same : cond (bytes_eq (u ++ s.word ++ (c ++ t.word ++ v)) w) (t.coefficient * s.coefficient) 0
+      ≡ cond (bytes_eq ((u ++ s.word ++ c) ++ t.word ++ v) w) (s.coefficient * t.coefficient) 0 =
+      ap (λ (x : List ℕ). cond (bytes_eq x w) (t.coefficient * s.coefficient) 0) word
+      ∙ hit-swap (bytes_eq ((u ++ s.word ++ c) ++ t.word ++ v) w) t.coefficient s.coefficient in
       let left = total_at-append (scaled t.coefficient (product u (s ∷ g) (c ++ t.word ++ v))) (by_second (s ∷ g) h) w in
       let right = total_at-append (scaled t.coefficient (product u g (c ++ t.word ++ v))) (by_second g h) w in
       omega (arith, left, right, same, one_first s g h w)

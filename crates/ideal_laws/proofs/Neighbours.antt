@@ -1,5 +1,7 @@
--- A degree of 1 or more is spanned by its neighbours: letters before and behind members of lower degrees, and relations.
-use Rattle.std.proofs.Common.{ap₂, ◌≡◌, ◌≢◌, ◌+◌, ◌-◌, ◌%◌, ◌<◌, ◌≤◌, ℕ, zero, suc, List, [], ◌∷◌, ◌++◌, map, length, get_or, refl, sym, ap, ◌∙◌, arith, subst, append-nil}
+-- A degree of 1 or more is spanned by its neighbours: letters before and behind members of lower degrees, and
+-- relations.
+use Rattle.std.proofs.Common.{ap₂, ◌≡◌, ◌≢◌, ◌+◌, ◌-◌, ◌%◌, ◌<◌, ◌≤◌, ℕ, zero, suc, List, [], ◌∷◌, ◌++◌, map, length, get_or, refl, sym, ap, ◌∙◌}
+use Rattle.std.proofs.Common.{arith, subst, append-nil}
 use Rattle.std.specs.List.{Contains, flat_map}
 use Rattle.std.proofs.Math.Nat.{one-mul}
 use Rattle.std.proofs.lemmas.List.Elements.{All-cons, All-contains, All-head, All-map, All-nil, All-tail, All-weaker}
@@ -54,38 +56,65 @@ module _ (p : ℕ) (weights : List ℕ) (relations : List (List Term)) (st : IsS
           degree = h.degree;
         };
         multiples = one ∷ [];
-        each = All-cons (IsMultiple p weights relations d) one [] (record { residue = omega (arith, fm.two_or_more); left_over = h.left_over; right_over = h.right_over; among = h.among; degree = h.degree }) (All-nil (IsMultiple p weights relations d));
-        sum = λ w. ap (λ (n : ℕ). n % p) (sym (ap (λ (g : List Term). total_at g w) (append-nil (scaled 1 f)) ∙ total_at-scaled 1 f w ∙ one-mul (total_at f w)));
+        each = All-cons (IsMultiple p weights relations d) one [] (record {
+          residue = omega (arith, fm.two_or_more);
+          left_over = h.left_over;
+          right_over = h.right_over;
+          among = h.among;
+          degree = h.degree;
+        }) (All-nil (IsMultiple p weights relations d));
+        sum = λ w. ap (λ (n : ℕ). n % p) (sym (ap (λ (g : List Term). total_at g w) (append-nil (scaled 1 f)) ∙ total_at-scaled 1 f w
+            ∙ one-mul (total_at f w)));
       }
 
   -- a word put before or behind a letter less
   module _ (d : ℕ) where
-    first_letter : (x : ℕ) (u : List ℕ) (r : List Term) (v : List ℕ) → r ≢ [] → Contains relations r → IsOver (length weights) (x ∷ u) → IsOver (length weights) v
+    first_letter : (x : ℕ) (u : List ℕ) (r : List Term) (v : List ℕ) → r ≢ [] → Contains relations r → IsOver (length weights) (x ∷ u) →
+        IsOver (length weights) v
         → HasDegree weights d (product (x ∷ u) r v) → IsNeighbour p weights relations d (product (x ∷ u) r v)
     first_letter x u r v ne among hu hv h =
         let is : product (x ∷ []) (product u r v) [] ≡ product (x ∷ u) r v = product-product (x ∷ []) u r v [] ∙ ap (product (x ∷ u) r) (append-nil v) in
-        let inner : HasDegree weights (d - weight_of weights x) (product u r v) = All-map (λ t. degree_of weights t.word ≡ d - weight_of weights x) (λ t. record { word = u ++ t.word ++ v; coefficient = t.coefficient }) r
-        (λ k t within. omega (arith, sym (degree_of-round weights (x ∷ u) (get_or r k t).word v) ∙ shown r k t within h, degree_of-round weights u (get_or r k t).word v)) in
+        let inner : HasDegree weights (d - weight_of weights x) (product u r v) =
+        All-map (λ t. degree_of weights t.word ≡ d - weight_of weights x)
+        (λ t. record { word = u ++ t.word ++ v; coefficient = t.coefficient }) r
+        (λ k t within. omega (
+          arith,
+          sym (degree_of-round weights (x ∷ u) (get_or r k t).word v) ∙ shown r k t within h,
+          degree_of-round weights u (get_or r k t).word v,
+        )) in
         let small : weight_of weights x ≤ d = some_degree r ne h in
         subst (IsNeighbour p weights relations d) is
         (before x (product u r v) (All-head (λ y. y < length weights) x u hu) small
         (product_inside (d - weight_of weights x) (record { factor = 0; left = u; relation = r; right = v })
-        (record { residue = omega (arith, fm.two_or_more); left_over = All-tail (λ y. y < length weights) x u hu; right_over = hv; among = among; degree = inner })))
+        (record {
+          residue = omega (arith, fm.two_or_more);
+          left_over = All-tail (λ y. y < length weights) x u hu;
+          right_over = hv;
+          among = among;
+          degree = inner;
+        })))
       where
-        shown : (r : List Term) (k : ℕ) (t : Term) → k < length r → HasDegree weights d (product (x ∷ u) r v) → degree_of weights ((x ∷ u) ++ (get_or r k t).word ++ v) ≡ d
+        shown : (r : List Term) (k : ℕ) (t : Term) → k < length r → HasDegree weights d (product (x ∷ u) r v) →
+            degree_of weights ((x ∷ u) ++ (get_or r k t).word ++ v) ≡ d
         shown [] k t within h = absurd (omega (arith, within))
         shown (s ∷ r) zero t within h = All-head (λ t. degree_of weights t.word ≡ d) _ (product (x ∷ u) r v) h
         shown (s ∷ r) (suc k) t within h = shown r k t (omega (arith, within)) (All-tail (λ t. degree_of weights t.word ≡ d) _ (product (x ∷ u) r v) h)
 
         some_degree : (r : List Term) → r ≢ [] → HasDegree weights d (product (x ∷ u) r v) → weight_of weights x ≤ d
         some_degree [] ne h = absurd (ne refl)
-        some_degree (s ∷ r) ne h = omega (arith, sym (degree_of-round weights (x ∷ u) s.word v) ∙ All-head (λ t. degree_of weights t.word ≡ d) _ (product (x ∷ u) r v) h)
+        some_degree (s ∷ r) ne h = omega (
+          arith,
+          sym (degree_of-round weights (x ∷ u) s.word v)
+              ∙ All-head (λ t. degree_of weights t.word ≡ d) _ (product (x ∷ u) r v) h,
+        )
 
     last_letter : (front : List ℕ) (x : ℕ) (r : List Term) → r ≢ [] → Contains relations r → IsOver (length weights) front → x < length weights
         → HasDegree weights d (product [] r (front ++ x ∷ [])) → IsNeighbour p weights relations d (product [] r (front ++ x ∷ []))
     last_letter front x r ne among hf hx h =
         let is : product [] (product [] r front) (x ∷ []) ≡ product [] r (front ++ x ∷ []) = product-product [] [] r front (x ∷ []) in
-        let inner : HasDegree weights (d - weight_of weights x) (product [] r front) = All-map (λ t. degree_of weights t.word ≡ d - weight_of weights x) (λ t. record { word = [] ++ t.word ++ front; coefficient = t.coefficient }) r
+        let inner : HasDegree weights (d - weight_of weights x) (product [] r front) =
+        All-map (λ t. degree_of weights t.word ≡ d - weight_of weights x)
+        (λ t. record { word = [] ++ t.word ++ front; coefficient = t.coefficient }) r
         (λ k t within. omega (arith, sym (ended_degree (get_or r k t).word) ∙ shown r k t within h)) in
         let small : weight_of weights x ≤ d = some_degree r ne h in
         subst (IsNeighbour p weights relations d) is
@@ -94,12 +123,19 @@ module _ (p : ℕ) (weights : List ℕ) (relations : List (List Term)) (st : IsS
         (record { residue = omega (arith, fm.two_or_more); left_over = All-nil (λ y. y < length weights); right_over = hf; among = among; degree = inner })))
       where
         ended_degree : (w : List ℕ) → degree_of weights ([] ++ w ++ (front ++ x ∷ [])) ≡ degree_of weights ([] ++ w ++ front) + weight_of weights x
-        ended_degree w = omega (arith, degree_of-round weights [] w (front ++ x ∷ []), degree_of-round weights [] w front, degree_of-round weights [] front (x ∷ []))
+        ended_degree w = omega (
+          arith,
+          degree_of-round weights [] w (front ++ x ∷ []),
+          degree_of-round weights [] w front,
+          degree_of-round weights [] front (x ∷ []),
+        )
 
-        shown : (r : List Term) (k : ℕ) (t : Term) → k < length r → HasDegree weights d (product [] r (front ++ x ∷ [])) → degree_of weights ([] ++ (get_or r k t).word ++ (front ++ x ∷ [])) ≡ d
+        shown : (r : List Term) (k : ℕ) (t : Term) → k < length r → HasDegree weights d (product [] r (front ++ x ∷ [])) →
+            degree_of weights ([] ++ (get_or r k t).word ++ (front ++ x ∷ [])) ≡ d
         shown [] k t within h = absurd (omega (arith, within))
         shown (s ∷ r) zero t within h = All-head (λ t. degree_of weights t.word ≡ d) _ (product [] r (front ++ x ∷ [])) h
-        shown (s ∷ r) (suc k) t within h = shown r k t (omega (arith, within)) (All-tail (λ t. degree_of weights t.word ≡ d) _ (product [] r (front ++ x ∷ [])) h)
+        shown (s ∷ r) (suc k) t within h = shown r k t (omega (arith, within))
+            (All-tail (λ t. degree_of weights t.word ≡ d) _ (product [] r (front ++ x ∷ [])) h)
 
         some_degree : (r : List Term) → r ≢ [] → HasDegree weights d (product [] r (front ++ x ∷ [])) → weight_of weights x ≤ d
         some_degree [] ne h = absurd (ne refl)
@@ -108,16 +144,19 @@ module _ (p : ℕ) (weights : List ℕ) (relations : List (List Term)) (st : IsS
     pub product_neighbour : (u : List ℕ) (r : List Term) (v : List ℕ) → r ≢ [] → Contains relations r → IsOver (length weights) u → IsOver (length weights) v
         → HasDegree weights d (product u r v) → IsNeighbour p weights relations d (product u r v)
     product_neighbour (x ∷ u) r v ne among hu hv h = first_letter x u r v ne among hu hv h
-    product_neighbour [] r [] ne among hu hv h = subst (IsNeighbour p weights relations d) (sym (product-alone r)) (relation r among (subst (HasDegree weights d) (product-alone r) h))
+    product_neighbour [] r [] ne among hu hv h = subst (IsNeighbour p weights relations d) (sym (product-alone r))
+        (relation r among (subst (HasDegree weights d) (product-alone r) h))
     product_neighbour [] r (y ∷ v) ne among hu hv h =
         let e = ended (y ∷ v) (λ is. cc is) in
         let over = subst (IsOver (length weights)) e.is hv in
         subst (λ (w : List ℕ). IsNeighbour p weights relations d (product [] r w)) (sym e.is)
-        (last_letter e.front e.last r ne among (front_over e.front e.last over) (last_over e.front e.last over) (subst (λ (w : List ℕ). HasDegree weights d (product [] r w)) e.is h))
+        (last_letter e.front e.last r ne among (front_over e.front e.last over) (last_over e.front e.last over)
+        (subst (λ (w : List ℕ). HasDegree weights d (product [] r w)) e.is h))
       where
         front_over : (f : List ℕ) (x : ℕ) → IsOver (length weights) (f ++ x ∷ []) → IsOver (length weights) f
         front_over [] x h = All-nil (λ y. y < length weights)
-        front_over (a ∷ f) x h = All-cons (λ y. y < length weights) a f (All-head (λ y. y < length weights) a _ h) (front_over f x (All-tail (λ y. y < length weights) a _ h))
+        front_over (a ∷ f) x h = All-cons (λ y. y < length weights) a f (All-head (λ y. y < length weights) a _ h)
+            (front_over f x (All-tail (λ y. y < length weights) a _ h))
 
         last_over : (f : List ℕ) (x : ℕ) → IsOver (length weights) (f ++ x ∷ []) → x < length weights
         last_over [] x h = All-head (λ y. y < length weights) x [] h
@@ -134,8 +173,11 @@ module _ (p : ℕ) (weights : List ℕ) (relations : List (List Term)) (st : IsS
     spanned f i = record {
       parts = map part_of i.multiples;
       each = All-map (λ c. (c.factor < p) × IsNeighbour p weights relations d c.element) part_of i.multiples (λ k m within.
-          let h = i.each k m within in
-          (h.residue, product_neighbour _ _ _ (All-contains (IsRelation p weights) relations _ st.are_relations h.among).other h.among h.left_over h.right_over h.degree));
+          let h = i.each k m within in (
+            h.residue,
+            product_neighbour _ _ _ (All-contains (IsRelation p weights) relations _ st.are_relations h.among).other h.among
+                h.left_over h.right_over h.degree,
+          ));
       sum = λ w. i.sum w ∙ ap (λ (g : List Term). total_at g w % p) (same_parts i.multiples);
     }
 
@@ -143,14 +185,22 @@ module _ (p : ℕ) (weights : List ℕ) (relations : List (List Term)) (st : IsS
     pub neighbour_inside : (g : List Term) → IsNeighbour p weights relations d g → IsInIdeal p weights relations d g
     neighbour_inside g (before x f lt le i) =
         subst (λ (n : ℕ). IsInIdeal p weights relations n (product (x ∷ []) f [])) (omega (arith, le))
-        (inside_product p weights st.are_weights relations (d - weight_of weights x) (x ∷ []) f [] (All-cons (λ y. y < length weights) x [] lt (All-nil (λ y. y < length weights))) (All-nil (λ y. y < length weights)) i)
+        (inside_product p weights st.are_weights relations (d - weight_of weights x) (x ∷ []) f []
+        (All-cons (λ y. y < length weights) x [] lt (All-nil (λ y. y < length weights))) (All-nil (λ y. y < length weights)) i)
     neighbour_inside g (behind x f lt le i) =
         subst (λ (n : ℕ). IsInIdeal p weights relations n (product [] f (x ∷ []))) (omega (arith, le))
-        (inside_product p weights st.are_weights relations (d - weight_of weights x) [] f (x ∷ []) (All-nil (λ y. y < length weights)) (All-cons (λ y. y < length weights) x [] lt (All-nil (λ y. y < length weights))) i)
+        (inside_product p weights st.are_weights relations (d - weight_of weights x) [] f (x ∷ []) (All-nil (λ y. y < length weights))
+        (All-cons (λ y. y < length weights) x [] lt (All-nil (λ y. y < length weights))) i)
     neighbour_inside g (relation r among h) =
         subst (IsInIdeal p weights relations d) (product-alone r)
         (product_inside d (record { factor = 0; left = []; relation = r; right = [] })
-        (record { residue = omega (arith, fm.two_or_more); left_over = All-nil (λ y. y < length weights); right_over = All-nil (λ y. y < length weights); among = among; degree = subst (HasDegree weights d) (sym (product-alone r)) h }))
+        (record {
+          residue = omega (arith, fm.two_or_more);
+          left_over = All-nil (λ y. y < length weights);
+          right_over = All-nil (λ y. y < length weights);
+          among = among;
+          degree = subst (HasDegree weights d) (sym (product-alone r)) h;
+        }))
 
     abbrev V : Type 0
     V = List ℕ → Residue p
@@ -176,10 +226,17 @@ module _ (p : ℕ) (weights : List ℕ) (relations : List (List Term)) (st : IsS
         } in
         ideal_from_span p fm weights relations d f e
         (IsInSpan-trans K (List ℕ) IsMember (IsProductVector p fm weights relations d)
-        (λ v m. subst (IsInSpan K (List ℕ) (IsProductVector p fm weights relations d)) (sym m.2) (span_from_ideal p fm weights relations d m.0 m.1)) (vectors.vector_of p fm f) members)
+        (λ v m. subst (IsInSpan K (List ℕ) (IsProductVector p fm weights relations d)) (sym m.2)
+        (span_from_ideal p fm weights relations d m.0 m.1)) (vectors.vector_of p fm f) members)
 
     from_neighbours : (f : List Term) → IsElement p weights d f → IsSpanned p (IsNeighbour p weights relations d) f → IsInIdeal p weights relations d f
-    from_neighbours f e s = inside_from_members f e (record { parts = s.parts; each = All-weaker (λ c. (c.factor < p) × IsNeighbour p weights relations d c.element) (λ c. (c.factor < p) × IsInIdeal p weights relations d c.element) (λ c h. (h.0, neighbour_inside c.element h.1)) s.parts s.each; sum = s.sum })
+    from_neighbours f e s = inside_from_members f e (record {
+      parts = s.parts;
+      each =
+          All-weaker (λ c. (c.factor < p) × IsNeighbour p weights relations d c.element)
+          (λ c. (c.factor < p) × IsInIdeal p weights relations d c.element) (λ c h. (h.0, neighbour_inside c.element h.1)) s.parts s.each;
+      sum = s.sum;
+    })
 
 pub neighbour_span : IsNeighbourSpan
 neighbour_span p weights relations st d pos f e = (spanned p weights relations st d f, from_neighbours p weights relations st d f e)

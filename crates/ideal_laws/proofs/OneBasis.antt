@@ -1,5 +1,7 @@
--- Each degree has exactly one reduced basis: the rows of a reduced basis of its products whose leading words are minimal.
-use Rattle.std.proofs.Common.{◌≡◌, ◌≢◌, ◌⊎◌, ◌+◌, ◌%◌, ◌==◌, ℕ, Bool, true, cond, List, [], ◌∷◌, map, refl, sym, ap, ◌∙◌, inl, inr, arith, All, AllPairs, subst, bytes_eq, Some}
+-- Each degree has exactly one reduced basis: the rows of a reduced basis of its products whose leading words are
+-- minimal.
+use Rattle.std.proofs.Common.{◌≡◌, ◌≢◌, ◌⊎◌, ◌+◌, ◌%◌, ◌==◌, ℕ, Bool, true, cond, List, [], ◌∷◌, map, refl, sym, ap, ◌∙◌, inl, inr, arith, All}
+use Rattle.std.proofs.Common.{AllPairs, subst, bytes_eq, Some}
 use Rattle.std.specs.List.{Contains}
 use Rattle.std.proofs.Math.Nat.{mod-eq_of_lt, zero-mod}
 use Rattle.std.proofs.lemmas.Bool.{cases_Bool}
@@ -9,7 +11,8 @@ use Rattle.std.proofs.lemmas.Slice.Eq.{bytes_eq-Decides}
 use Rattle.words.specs.Words.{degree_of, words_of_degree}
 use Rattle.words.specs.Order.{IsLetterwiseGreater}
 use Rattle.words.proofs.Degrees.{words_of_degree-falling}
-use Rattle.words.proofs.Members.{AllPairs-first, AllPairs-nil, AllPairs-rest, All-from_members, Contains-cases, Contains-first, Contains-map, Contains-map_cases, Contains-more, Contains-none}
+use Rattle.words.proofs.Members.{AllPairs-first, AllPairs-nil, AllPairs-rest, All-from_members, Contains-cases, Contains-first, Contains-map}
+use Rattle.words.proofs.Members.{Contains-map_cases, Contains-more, Contains-none}
 use Rattle.field_table.specs.Residues.{IsFieldModulus}
 use Rattle.free_poly.specs.declared.term.Term.{Term}
 use Rattle.free_poly.specs.Poly.{IsMonic, IsPolynomial, lead_of}
@@ -26,7 +29,8 @@ use Rattle.ideal_laws.specs.Ideal.{IsLeadingWord, IsMinimal}
 use Rattle.ideal_laws.specs.Basis.{HasGreaterLead, IsReduced as IsReducedElement, IsReducedBasis, below_lead}
 use Rattle.ideal_laws.specs.Laws.{HasOneBasis, IsSetting}
 use Rattle.ideal_laws.proofs.Factors.{is_minimal}
-use Rattle.ideal_laws.proofs.Leads.{element_form, element_from, element_inside, entries, found, had_from_rows, leading_listed, listed_leading, member_is, row_leads, row_member, rows}
+use Rattle.ideal_laws.proofs.Leads.{element_form, element_from, element_inside, entries, found, had_from_rows, leading_listed, listed_leading}
+use Rattle.ideal_laws.proofs.Leads.{member_is, row_leads, row_member, rows}
 use Rattle.ideal_laws.proofs.Search.{AllPairs-kept, in_kept, kept, kept-says, same_lists}
 use Rattle.ideal_laws.proofs.Vectors.{span_from_ideal}
 use Rattle.ideal_laws.proofs.Vectors as vectors
@@ -44,7 +48,8 @@ greater_trans f g h a b = record {
   of_g = b.of_g;
   leads_f = a.leads_f;
   leads_g = b.leads_g;
-  greater = letterwise-trans a.of_f a.of_g b.of_g a.greater (subst (λ (w : List ℕ). IsLetterwiseGreater w b.of_g) (some_same b.of_f a.of_g (sym b.leads_f ∙ a.leads_g)) b.greater);
+  greater = letterwise-trans a.of_f a.of_g b.of_g a.greater (subst (λ (w : List ℕ). IsLetterwiseGreater w b.of_g)
+      (some_same b.of_f a.of_g (sym b.leads_f ∙ a.leads_g)) b.greater);
 }
 
 -- a polynomial other than 0 begins with its leading word
@@ -58,21 +63,26 @@ pub led : (f : List Term) (w : List ℕ) → lead_of f ≡ Some w → IsLed f w
 led [] w e = cc e
 led (t ∷ f) w e = record { first = t; rest = f; is = refl; word = cc e }
 
-below-all : (P : Term → Type 0) (f : List Term) (w : List ℕ) → lead_of f ≡ Some w → IsPolynomial f → ((t : Term) → Contains f t → IsLetterwiseGreater w t.word → P t) → All P (below_lead f)
+below-all : (P : Term → Type 0) (f : List Term) (w : List ℕ) → lead_of f ≡ Some w → IsPolynomial f →
+    ((t : Term) → Contains f t → IsLetterwiseGreater w t.word → P t) → All P (below_lead f)
 below-all P [] w e h q = cc e
 below-all P (t ∷ f) w e h q =
     let is : t.word ≡ w = cc e in
-    All-from_members P f (λ s m. q s (Contains-more t f s m) (subst (λ (x : List ℕ). IsLetterwiseGreater x s.word) is (All-contains (λ s. IsLetterwiseGreater t.word s.word) f s (AllPairs-first (λ s t. IsLetterwiseGreater s.word t.word) t f h.falling) m)))
+    All-from_members P f (λ s m. q s (Contains-more t f s m) (subst (λ (x : List ℕ). IsLetterwiseGreater x s.word) is
+    (All-contains (λ s. IsLetterwiseGreater t.word s.word) f s (AllPairs-first (λ s t. IsLetterwiseGreater s.word t.word) t f h.falling)
+    m)))
 
 -- what stands at the leading word of a monic polynomial, and at a word that is none of the others
 pub monic_total : (f : List Term) (w : List ℕ) → lead_of f ≡ Some w → IsPolynomial f → IsMonic f → total_at f w ≡ 1
 monic_total [] w e h m = absurd m
 monic_total (t ∷ f) w e h m =
     let is : t.word ≡ w = cc e in
-    let none : total_at f w ≡ 0 = total_at-absent f w (λ k s within same. letterwise-apart _ _ (AllPairs-first (λ s t. IsLetterwiseGreater s.word t.word) t f h.falling k s within) (is ∙ sym same)) in
+    let none : total_at f w ≡ 0 = total_at-absent f w (λ k s within same. letterwise-apart _ _
+    (AllPairs-first (λ s t. IsLetterwiseGreater s.word t.word) t f h.falling k s within) (is ∙ sym same)) in
     ap (λ (b : Bool). cond b t.coefficient 0 + total_at f w) (here t.word w is) ∙ omega (arith, m, none)
 
-other_total : (f : List Term) (w : List ℕ) (L : List ℕ → Type 0) → lead_of f ≡ Some w → All (λ t. L t.word → ⊥) (below_lead f) → (x : List ℕ) → L x → x ≢ w → total_at f x ≡ 0
+other_total : (f : List Term) (w : List ℕ) (L : List ℕ → Type 0) → lead_of f ≡ Some w → All (λ t. L t.word → ⊥) (below_lead f) →
+    (x : List ℕ) → L x → x ≢ w → total_at f x ≡ 0
 other_total [] w L e h x l ne = refl
 other_total (t ∷ f) w L e h x l ne =
     let is : t.word ≡ w = cc e in
@@ -115,7 +125,8 @@ module _ (p : ℕ) (fm : IsFieldModulus p) where
     | inr n ↦ row_one ys es' r e n
   ]
 
-  pub row_zero : (xs : List (List ℕ)) (es : List (List ℕ × V)) → IsReduced K (List ℕ) xs es → (e d : List ℕ × V) → Contains es e → Contains es d → d.0 ≢ e.0 → e.1 d.0 ≡ K.zero
+  pub row_zero : (xs : List (List ℕ)) (es : List (List ℕ × V)) → IsReduced K (List ℕ) xs es → (e d : List ℕ × V) → Contains es e →
+      Contains es d → d.0 ≢ e.0 → e.1 d.0 ≡ K.zero
   row_zero xs es done e d m n ne = absurd (Contains-none e m)
   row_zero xs es (skip x ys es' z r) e d m n ne = row_zero ys es r e d m n ne
   row_zero xs es (lead x ys v es' one z zl r) e d m n ne = elim (Contains-cases (x, v) es' e m) [
@@ -137,33 +148,42 @@ module _ (p : ℕ) (fm : IsFieldModulus p) where
     | inr n ↦ Contains-more x ys e.0 (lead_in_columns ys es' r e n)
   ]
 
-  pub leads_falling : (xs : List (List ℕ)) (es : List (List ℕ × V)) → IsReduced K (List ℕ) xs es → AllPairs IsLetterwiseGreater xs → AllPairs (λ (d e : List ℕ × V). IsLetterwiseGreater d.0 e.0) es
+  pub leads_falling : (xs : List (List ℕ)) (es : List (List ℕ × V)) → IsReduced K (List ℕ) xs es → AllPairs IsLetterwiseGreater xs →
+      AllPairs (λ (d e : List ℕ × V). IsLetterwiseGreater d.0 e.0) es
   leads_falling xs es done h = AllPairs-nil (λ (d e : List ℕ × V). IsLetterwiseGreater d.0 e.0)
   leads_falling xs es (skip x ys es' z r) h = leads_falling ys es r (AllPairs-rest IsLetterwiseGreater x ys h)
   leads_falling xs es (lead x ys v es' one z zl r) h =
       AllPairs-cons (λ (d e : List ℕ × V). IsLetterwiseGreater d.0 e.0) (x, v) es'
-      (All-from_members (λ (e : List ℕ × V). IsLetterwiseGreater x e.0) es' (λ e m. All-contains (IsLetterwiseGreater x) ys e.0 (AllPairs-first IsLetterwiseGreater x ys h) (lead_in_columns ys es' r e m)))
+      (All-from_members (λ (e : List ℕ × V). IsLetterwiseGreater x e.0) es'
+      (λ e m. All-contains (IsLetterwiseGreater x) ys e.0 (AllPairs-first IsLetterwiseGreater x ys h) (lead_in_columns ys es' r e m)))
       (leads_falling ys es' r (AllPairs-rest IsLetterwiseGreater x ys h))
 
-  from_leads-same : (es : List (List ℕ × V)) (u v : V) → ((e : List ℕ × V) → Contains es e → u e.0 ≡ v e.0) → (y : List ℕ) → sum_of K (List ℕ) (from_leads K (List ℕ) es u) y ≡ sum_of K (List ℕ) (from_leads K (List ℕ) es v) y
+  from_leads-same : (es : List (List ℕ × V)) (u v : V) → ((e : List ℕ × V) → Contains es e → u e.0 ≡ v e.0) → (y : List ℕ) →
+      sum_of K (List ℕ) (from_leads K (List ℕ) es u) y ≡ sum_of K (List ℕ) (from_leads K (List ℕ) es v) y
   from_leads-same [] u v h y = refl
   from_leads-same (e ∷ es) u v h y =
       λ i. K.add (K.mul (h e (Contains-first e es) i) (e.1 y)) (from_leads-same es u v (λ d m. h d (Contains-more e es d m)) y i)
 
-  from_words-same : (xs : List (List ℕ)) (u v s : V) → AreSameAt K (List ℕ) xs u s → AreSameAt K (List ℕ) xs v s → from_words xs (entries p fm u) ≡ from_words xs (entries p fm v)
+  from_words-same : (xs : List (List ℕ)) (u v s : V) → AreSameAt K (List ℕ) xs u s → AreSameAt K (List ℕ) xs v s →
+      from_words xs (entries p fm u) ≡ from_words xs (entries p fm v)
   from_words-same [] u v s a b = refl
   from_words-same (x ∷ xs) u v s a b =
-      λ i. cond (((a.0 ∙ sym b.0) i).0 == 0) (from_words-same xs u v s a.1 b.1 i) (record { word = x; coefficient = ((a.0 ∙ sym b.0) i).0 } ∷ from_words-same xs u v s a.1 b.1 i)
+      λ i. cond (((a.0 ∙ sym b.0) i).0 == 0) (from_words-same xs u v s a.1 b.1 i)
+      (record { word = x; coefficient = ((a.0 ∙ sym b.0) i).0 } ∷ from_words-same xs u v s a.1 b.1 i)
 
   pub same_after : (xs : List (List ℕ)) (u v w : V) → AreSameAt K (List ℕ) xs u v → ((y : List ℕ) → v y ≡ w y) → AreSameAt K (List ℕ) xs u w
   same_after [] u v w s e = tt
   same_after (x ∷ xs) u v w s e = (s.0 ∙ e x, same_after xs u v w s.1 e)
 
-  from_words-monic : (xs : List (List ℕ)) (v : V) (w : List ℕ) → lead_of (from_words xs (entries p fm v)) ≡ Some w → v w ≡ K.one → IsMonic (from_words xs (entries p fm v))
+  from_words-monic : (xs : List (List ℕ)) (v : V) (w : List ℕ) → lead_of (from_words xs (entries p fm v)) ≡ Some w → v w ≡ K.one →
+      IsMonic (from_words xs (entries p fm v))
   from_words-monic xs v w e one =
       let l = led (from_words xs (entries p fm v)) w e in
-      let c = All-head (λ (t : Term). t.coefficient ≡ (v t.word).0) l.first l.rest (subst (All (λ (t : Term). t.coefficient ≡ (v t.word).0)) l.is (from_words-all (λ t. t.coefficient ≡ (v t.word).0) xs (entries p fm v) (λ x m ne. refl))) in
-      subst IsMonic (sym l.is) (c ∙ ap (λ (x : List ℕ). (v x).0) l.word ∙ ap (λ (n : Residue p). n.0) one ∙ mod-eq_of_lt {n = 1} {m = p} (omega (arith, fm.two_or_more)))
+      let c = All-head (λ (t : Term). t.coefficient ≡ (v t.word).0) l.first l.rest
+      (subst (All (λ (t : Term). t.coefficient ≡ (v t.word).0)) l.is
+      (from_words-all (λ t. t.coefficient ≡ (v t.word).0) xs (entries p fm v) (λ x m ne. refl))) in
+      subst IsMonic (sym l.is) (c ∙ ap (λ (x : List ℕ). (v x).0) l.word ∙ ap (λ (n : Residue p). n.0) one
+      ∙ mod-eq_of_lt {n = 1} {m = p} (omega (arith, fm.two_or_more)))
 
 module _ (p : ℕ) (weights : List ℕ) (relations : List (List Term)) (st : IsSetting p weights relations) (d : ℕ) where
   abbrev fm : IsFieldModulus p
@@ -199,7 +219,9 @@ module _ (p : ℕ) (weights : List ℕ) (relations : List (List Term)) (st : IsS
         others = below-all (λ t. IsLeadingWord p weights relations d t.word → ⊥) (element_of e) e.0 leads form.form (λ t n greater l.
             let there = Contains-map_cases (λ (c : List ℕ × RowVector). c.0) es t.word (leading_listed p fm weights relations st d t.word l) in
             let zero = row_zero p fm _ _ r e there.0 m there.1 (λ same. letterwise-apart e.0 t.word greater (sym same ∙ there.2)) in
-            let c = All-contains (λ (s : Term). (s.coefficient ≡ (e.1 s.word).0) × (s.coefficient ≢ 0)) (element_of e) t (from_words-all (λ s. (s.coefficient ≡ (e.1 s.word).0) × (s.coefficient ≢ 0)) (words_of_degree weights d) (entries p fm e.1) (λ x k ne. (refl, ne))) n in
+            let c = All-contains (λ (s : Term). (s.coefficient ≡ (e.1 s.word).0) × (s.coefficient ≢ 0)) (element_of e) t
+            (from_words-all (λ s. (s.coefficient ≡ (e.1 s.word).0) × (s.coefficient ≢ 0)) (words_of_degree weights d) (entries p fm e.1)
+            (λ x k ne. (refl, ne))) n in
             c.1 (c.0 ∙ ap (λ (x : List ℕ). (e.1 x).0) (sym there.2) ∙ ap (λ (n : Residue p). n.0) zero ∙ zero-mod p));
       }
 
@@ -209,7 +231,8 @@ module _ (p : ℕ) (weights : List ℕ) (relations : List (List Term)) (st : IsS
   reduced_row f h =
       let r = (found p fm weights relations st d).1.reduced in
       let w = monic-led f h.monic in
-      let there = Contains-map_cases (λ (c : List ℕ × RowVector). c.0) es w.0 (leading_listed p fm weights relations st d w.0 (record { member = f; inside = h.inside; lead = w.1 })) in
+      let there = Contains-map_cases (λ (c : List ℕ × RowVector). c.0) es w.0
+      (leading_listed p fm weights relations st d w.0 (record { member = f; inside = h.inside; lead = w.1 })) in
       let e = there.0 in
       let v = vectors.vector_of p fm f in
       let same : (c : List ℕ × RowVector) → Contains es c → v c.0 ≡ e.1 c.0 = λ c m. elim (cases_Bool (bytes_eq c.0 w.0)) [
@@ -219,14 +242,17 @@ module _ (p : ℕ) (weights : List ℕ) (relations : List (List Term)) (st : IsS
             ∙ sym (ap e.1 (at ∙ sym there.2) ∙ row_one p fm _ _ r e there.1)
         | inr other ↦
             let ne : c.0 ≢ w.0 = λ at. (let t : bytes_eq c.0 w.0 ≡ true = here c.0 w.0 at in cc) in
-            same_residue p _ _ (ap (λ (n : ℕ). n % p) (other_total f w.0 (IsLeadingWord p weights relations d) w.1 h.others c.0 (listed_leading p fm weights relations st d c.0 (Contains-map (λ (b : List ℕ × RowVector). b.0) es c m)) ne))
+            same_residue p _ _ (ap (λ (n : ℕ). n % p) (other_total f w.0 (IsLeadingWord p weights relations d) w.1 h.others c.0
+            (listed_leading p fm weights relations st d c.0 (Contains-map (λ (b : List ℕ × RowVector). b.0) es c m)) ne))
             ∙ sym (row_zero p fm _ _ r e c there.1 m (λ at. ne (at ∙ there.2)))
       ] in
       let had_f = had_from_rows p fm weights relations st d v (span_from_ideal p fm weights relations d f h.inside) in
       let had_e = had_from_rows p fm weights relations st d e.1 (row_member p fm weights relations st d e there.1) in
       let is : f ≡ element_of e = member_is p fm weights relations st d f h.inside
-      ∙ from_words-same p fm (words_of_degree weights d) v e.1 _ (same_after p fm (words_of_degree weights d) v _ _ had_f (from_leads-same p fm es v e.1 same)) had_e in
-      subst (Contains basis) (sym is) (Contains-map element_of (kept IsMinimalRow minimal_row es) e (in_kept IsMinimalRow minimal_row es e there.1 (subst (IsMinimal p weights relations) (sym there.2) (h.minimal w.0 w.1))))
+      ∙ from_words-same p fm (words_of_degree weights d) v e.1 _ (same_after p fm (words_of_degree weights d) v _ _ had_f
+      (from_leads-same p fm es v e.1 same)) had_e in
+      subst (Contains basis) (sym is) (Contains-map element_of (kept IsMinimalRow minimal_row es) e
+      (in_kept IsMinimalRow minimal_row es e there.1 (subst (IsMinimal p weights relations) (sym there.2) (h.minimal w.0 w.1))))
 
   pub is_basis : IsReducedBasis p weights relations d basis
   unfolding basis
@@ -238,10 +264,12 @@ module _ (p : ℕ) (weights : List ℕ) (relations : List (List Term)) (st : IsS
       reduced_row f,
     );
     falling = falling_rows (kept IsMinimalRow minimal_row es) (λ e m. (kept-says IsMinimalRow minimal_row es e m).0)
-        (AllPairs-kept IsMinimalRow minimal_row (λ (c e : List ℕ × RowVector). IsLetterwiseGreater c.0 e.0) es (leads_falling p fm _ _ (found p fm weights relations st d).1.reduced (words_of_degree-falling weights st.are_weights d)));
+        (AllPairs-kept IsMinimalRow minimal_row (λ (c e : List ℕ × RowVector). IsLetterwiseGreater c.0 e.0) es
+        (leads_falling p fm _ _ (found p fm weights relations st d).1.reduced (words_of_degree-falling weights st.are_weights d)));
   }
     where
-      falling_rows : (cs : List (List ℕ × RowVector)) → ((e : List ℕ × RowVector) → Contains cs e → Contains es e) → AllPairs (λ (c e : List ℕ × RowVector). IsLetterwiseGreater c.0 e.0) cs → AllPairs HasGreaterLead (map element_of cs)
+      falling_rows : (cs : List (List ℕ × RowVector)) → ((e : List ℕ × RowVector) → Contains cs e → Contains es e) →
+          AllPairs (λ (c e : List ℕ × RowVector). IsLetterwiseGreater c.0 e.0) cs → AllPairs HasGreaterLead (map element_of cs)
       falling_rows [] h f = AllPairs-nil HasGreaterLead
       falling_rows (c ∷ cs) h f =
           AllPairs-cons HasGreaterLead (element_of c) (map element_of cs)
@@ -252,7 +280,8 @@ module _ (p : ℕ) (weights : List ℕ) (relations : List (List Term)) (st : IsS
             of_g = e.0.0;
             leads_f = row_leads p fm weights relations st d c (h c (Contains-first c cs));
             leads_g = row_leads p fm weights relations st d e.0 (h e.0 (Contains-more c cs e.0 e.1));
-            greater = All-contains (λ (b : List ℕ × RowVector). IsLetterwiseGreater c.0 b.0) cs e.0 (AllPairs-first (λ (c e : List ℕ × RowVector). IsLetterwiseGreater c.0 e.0) c cs f) e.1;
+            greater = All-contains (λ (b : List ℕ × RowVector). IsLetterwiseGreater c.0 b.0) cs e.0
+                (AllPairs-first (λ (c e : List ℕ × RowVector). IsLetterwiseGreater c.0 e.0) c cs f) e.1;
           })))
           (falling_rows cs (λ e m. h e (Contains-more c cs e m)) (AllPairs-rest (λ (c e : List ℕ × RowVector). IsLetterwiseGreater c.0 e.0) c cs f))
 
@@ -261,15 +290,18 @@ pub minimal_led : (p : ℕ) (weights : List ℕ) (relations : List (List Term)) 
     → (f : List Term) × IsReducedElement p weights relations (degree_of weights w) f × (lead_of f ≡ Some w)
 minimal_led p weights relations st w h =
     let d = degree_of weights w in
-    let c = Contains-map_cases (λ (e : List ℕ × (List ℕ → Residue p)). e.0) (rows p st.modulus weights relations st d) w (leading_listed p st.modulus weights relations st d w h.leading) in (
+    let c = Contains-map_cases (λ (e : List ℕ × (List ℕ → Residue p)). e.0) (rows p st.modulus weights relations st d) w
+    (leading_listed p st.modulus weights relations st d w h.leading) in (
       element_from p st.modulus weights relations st d c.0.1,
       row_reduced p weights relations st d c.0 c.1 (subst (IsMinimal p weights relations) (sym c.2) h),
       row_leads p st.modulus weights relations st d c.0 c.1 ∙ ap Some c.2,
     )
 
-pub bases_are_one : (p : ℕ) (weights : List ℕ) (relations : List (List Term)) (d : ℕ) (fs gs : List (List Term)) → IsReducedBasis p weights relations d fs → IsReducedBasis p weights relations d gs → fs ≡ gs
+pub bases_are_one : (p : ℕ) (weights : List ℕ) (relations : List (List Term)) (d : ℕ) (fs gs : List (List Term)) →
+    IsReducedBasis p weights relations d fs → IsReducedBasis p weights relations d gs → fs ≡ gs
 bases_are_one p weights relations d fs gs a b =
-    same_lists HasGreaterLead greater_strict greater_trans fs gs a.falling b.falling (λ f m. (b.exactly f).1 ((a.exactly f).0 m)) (λ f m. (a.exactly f).1 ((b.exactly f).0 m))
+    same_lists HasGreaterLead greater_strict greater_trans fs gs a.falling b.falling (λ f m. (b.exactly f).1 ((a.exactly f).0 m))
+    (λ f m. (a.exactly f).1 ((b.exactly f).0 m))
 
 pub has_one_basis : HasOneBasis
 has_one_basis p weights relations st d = record {

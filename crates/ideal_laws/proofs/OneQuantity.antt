@@ -1,5 +1,6 @@
 -- Each quantity of a degree is one number.
-use Rattle.std.proofs.Common.{ap₂, ◌≡◌, ◌+◌, ◌*◌, ◌%◌, ◌≤◌, ℕ, List, AllPairs, [], ◌∷◌, ◌++◌, length, take, drop, refl, sym, ap, ◌∙◌, inl, inr, arith, subst, Option, Some, None}
+use Rattle.std.proofs.Common.{ap₂, ◌≡◌, ◌+◌, ◌*◌, ◌%◌, ◌≤◌, ℕ, List, AllPairs, [], ◌∷◌, ◌++◌, length, take, drop, refl, sym, ap, ◌∙◌, inl, inr, arith}
+use Rattle.std.proofs.Common.{subst, Option, Some, None}
 use Rattle.std.specs.List.{AllZip, Contains, slice_get}
 use Rattle.std.proofs.lemmas.Bool.{cases_lt}
 use Rattle.std.proofs.lemmas.List.{take-append-drop, take-take}
@@ -22,7 +23,8 @@ use Rattle.ideal_laws.proofs.Search.{same_lists}
 greater_itself : (w : List ℕ) → IsLetterwiseGreater w w → ⊥
 greater_itself w g = letterwise-apart w w g refl
 
-words_same : (xs ys : List (List ℕ)) (P : List ℕ → Type 0) → ((w : List ℕ) → Contains xs w → P w) → ((w : List ℕ) → P w → Contains xs w) → ((w : List ℕ) → Contains ys w → P w) → ((w : List ℕ) → P w → Contains ys w)
+words_same : (xs ys : List (List ℕ)) (P : List ℕ → Type 0) → ((w : List ℕ) → Contains xs w → P w) → ((w : List ℕ) → P w → Contains xs w) →
+    ((w : List ℕ) → Contains ys w → P w) → ((w : List ℕ) → P w → Contains ys w)
     → AllPairs IsLetterwiseGreater xs → AllPairs IsLetterwiseGreater ys → xs ≡ ys
 words_same xs ys P a b c d h k = same_lists IsLetterwiseGreater greater_itself letterwise-trans xs ys h k (λ w m. d w (a w m)) (λ w m. b w (c w m))
 
@@ -44,12 +46,14 @@ first_of : (v w r : List ℕ) → take (length v) r ≡ v → take (length w) r 
 first_of v w r e f le = record {
   before = [];
   after = drop (length v) w;
-  joined = sym (ap (λ (x : List ℕ). x ++ drop (length v) w) (sym (ap (take (length v)) (sym f) ∙ take-take (length v) (length w) r le ∙ e)) ∙ take-append-drop (length v) w);
+  joined = sym (ap (λ (x : List ℕ). x ++ drop (length v) w) (sym (ap (take (length v)) (sym f) ∙ take-take (length v) (length w) r le ∙ e))
+      ∙ take-append-drop (length v) w);
 }
 
 module _ (p : ℕ) (weights : List ℕ) (relations G : List (List Term)) (d : ℕ) where
   overlaps_one : (os qs : List Overlap) → AreObstructions weights G d os → AreObstructions weights G d qs → os ≡ qs
-  overlaps_one os qs a b = same_lists OverlapsBefore before_itself before_trans os qs a.ordered b.ordered (λ o m. (b.exactly o).1 ((a.exactly o).0 m)) (λ o m. (a.exactly o).1 ((b.exactly o).0 m))
+  overlaps_one os qs a b = same_lists OverlapsBefore before_itself before_trans os qs a.ordered b.ordered
+      (λ o m. (b.exactly o).1 ((a.exactly o).0 m)) (λ o m. (a.exactly o).1 ((b.exactly o).0 m))
 
   row_one : (o : Overlap) (f g : List Term) → IsRowOf p weights G d o f → IsRowOf p weights G d o g → f ≡ g
   row_one o f g a b =
@@ -64,19 +68,23 @@ module _ (p : ℕ) (weights : List ℕ) (relations G : List (List Term)) (d : �
   overlap_rows_one [] (f ∷ fs) gs a b = absurd a
   overlap_rows_one (o ∷ os) [] gs a b = absurd a
   overlap_rows_one (o ∷ os) (f ∷ fs) [] a b = absurd b
-  overlap_rows_one (o ∷ os) (f ∷ fs) (g ∷ gs) a b = ap₂ (λ (h : List Term) (hs : List (List Term)). h ∷ hs) (row_one o f g a.0 b.0) (overlap_rows_one os fs gs a.1 b.1)
+  overlap_rows_one (o ∷ os) (f ∷ fs) (g ∷ gs) a b = ap₂ (λ (h : List Term) (hs : List (List Term)). h ∷ hs) (row_one o f g a.0 b.0)
+      (overlap_rows_one os fs gs a.1 b.1)
 
   rows_one : (fs gs : List (List Term)) → AreRows p weights relations G d fs → AreRows p weights relations G d gs → fs ≡ gs
   rows_one fs gs a b =
       let same = overlaps_one b.overlaps a.overlaps b.are_obstructions a.are_obstructions in
       let each = subst (λ (os : List Overlap). AllZip (IsRowOf p weights G d) os b.overlap_rows) same b.each in
-      a.joined ∙ ap (λ (hs : List (List Term)). of_degree weights d relations ++ hs) (overlap_rows_one a.overlaps a.overlap_rows b.overlap_rows a.each each) ∙ sym b.joined
+      a.joined ∙ ap (λ (hs : List (List Term)). of_degree weights d relations ++ hs)
+      (overlap_rows_one a.overlaps a.overlap_rows b.overlap_rows a.each each) ∙ sym b.joined
 
 module _ (G : List (List Term)) (free : IsFactorFree G) where
   columns_one : (words xs ys : List (List ℕ)) → AreColumns G words xs → AreColumns G words ys → xs ≡ ys
-  columns_one words xs ys a b = words_same xs ys _ (λ w. (a.exactly w).0) (λ w. (a.exactly w).1) (λ w. (b.exactly w).0) (λ w. (b.exactly w).1) a.falling b.falling
+  columns_one words xs ys a b = words_same xs ys _ (λ w. (a.exactly w).0) (λ w. (a.exactly w).1) (λ w. (b.exactly w).0)
+      (λ w. (b.exactly w).1) a.falling b.falling
 
-  element_one : (g h : List Term) (v w r : List ℕ) → Contains G g → Contains G h → lead_of g ≡ Some v → lead_of h ≡ Some w → take (length v) r ≡ v → take (length w) r ≡ w → g ≡ h
+  element_one : (g h : List Term) (v w r : List ℕ) → Contains G g → Contains G h → lead_of g ≡ Some v → lead_of h ≡ Some w →
+      take (length v) r ≡ v → take (length w) r ≡ w → g ≡ h
   element_one g h v w r m n lg lh ev ew =
       let at_g = slice_get-get_or G m.0 g m.1 ∙ ap Some m.2 in
       let at_h = slice_get-get_or G n.0 h n.1 ∙ ap Some n.2 in
@@ -100,7 +108,8 @@ module _ (G : List (List Term)) (free : IsFactorFree G) where
   reducers_one [] (r ∷ rs) ss a b = absurd a
   reducers_one (w ∷ ws) [] ss a b = absurd a
   reducers_one (w ∷ ws) (r ∷ rs) [] a b = absurd b
-  reducers_one (w ∷ ws) (r ∷ rs) (s ∷ ss) a b = ap₂ (λ (o : Option (List Term)) (os : List (Option (List Term))). o ∷ os) (option_one r s a.0 b.0) (reducers_one ws rs ss a.1 b.1)
+  reducers_one (w ∷ ws) (r ∷ rs) (s ∷ ss) a b = ap₂ (λ (o : Option (List Term)) (os : List (Option (List Term))). o ∷ os)
+      (option_one r s a.0 b.0) (reducers_one ws rs ss a.1 b.1)
     where
       option_one : (r s : Option (List Term)) → HasReducer G w r → HasReducer G w s → r ≡ s
       option_one None None h k = refl
@@ -108,7 +117,8 @@ module _ (G : List (List Term)) (free : IsFactorFree G) where
       option_one (Some f) None h k = absurd (k h.element h.lead h.at h.among h.is_lead h.here)
       option_one (Some f) (Some g) h k = ap Some (reducer_one w f g h k)
 
-  closed_one : (p : ℕ) (weights : List ℕ) (relations : List (List Term)) (d : ℕ) (fs gs : List (List Term)) (xs ys : List (List ℕ)) (rs ss : List (Option (List Term)))
+  closed_one : (p : ℕ) (weights : List ℕ) (relations : List (List Term)) (d : ℕ) (fs gs : List (List Term)) (xs ys : List (List ℕ))
+      (rs ss : List (Option (List Term)))
       → AreClosed p weights relations G d fs xs rs → AreClosed p weights relations G d gs ys ss → (fs ≡ gs) × (rs ≡ ss)
   closed_one p weights relations d fs gs xs ys rs ss a b =
       let rows = rows_one p weights relations G d fs gs a.are_rows b.are_rows in
@@ -118,10 +128,12 @@ module _ (G : List (List Term)) (free : IsFactorFree G) where
 pub one_quantity : HasOneQuantity
 one_quantity p weights relations st d below h PlainWords q r a b = a ∙ sym b
 one_quantity p weights relations st d below h Rows q r a b =
-    a.2 ∙ ap (λ (os : List Overlap). length (of_degree weights d relations) + length os) (overlaps_one p weights relations below.elements d a.0 b.0 a.1 b.1) ∙ sym b.2
+    a.2 ∙ ap (λ (os : List Overlap). length (of_degree weights d relations) + length os)
+    (overlaps_one p weights relations below.elements d a.0 b.0 a.1 b.1) ∙ sym b.2
 one_quantity p weights relations st d below h Columns q r a b =
     let rows = rows_one p weights relations below.elements d a.0 b.0 a.2 b.2 in
-    let columns = columns_one below.elements (lists_factor_free p weights relations st d below h) (words_of b.0) a.1 b.1 (subst (λ (hs : List (List Term)). AreColumns below.elements (words_of hs) a.1) rows a.3) b.3 in
+    let columns = columns_one below.elements (lists_factor_free p weights relations st d below h) (words_of b.0) a.1 b.1
+    (subst (λ (hs : List (List Term)). AreColumns below.elements (words_of hs) a.1) rows a.3) b.3 in
     a.4 ∙ ap length columns ∙ sym b.4
 one_quantity p weights relations st d below h Entries q r a b =
     let e = closed_one below.elements (lists_factor_free p weights relations st d below h) p weights relations d a.0 b.0 a.1 b.1 a.2 b.2 a.3 b.3 in
@@ -134,4 +146,5 @@ one_quantity p weights relations st d below h Terms q r a b =
 one_quantity p weights relations st d below h NormalWords q r a b =
     let basis = bases_are_one p weights relations d a.0 b.0 a.2 b.2 in
     let own = subst (λ (fs : List (List Term)). AreNormalWords weights (below.elements ++ fs) d a.1) basis a.3 in
-    a.4 ∙ ap length (words_same a.1 b.1 _ (λ w. (own.exactly w).0) (λ w. (own.exactly w).1) (λ w. (b.3.exactly w).0) (λ w. (b.3.exactly w).1) own.falling b.3.falling) ∙ sym b.4
+    a.4 ∙ ap length (words_same a.1 b.1 _ (λ w. (own.exactly w).0) (λ w. (own.exactly w).1) (λ w. (b.3.exactly w).0)
+    (λ w. (b.3.exactly w).1) own.falling b.3.falling) ∙ sym b.4

@@ -1,5 +1,6 @@
 -- The span of reducers, relations and obstruction rows, over the list of the reduced elements of lower degrees.
-use Rattle.std.proofs.Common.{ap₂, ◌≡◌, ◌+◌, ◌<◌, ℕ, zero, suc, List, [], ◌∷◌, ◌++◌, map, length, take, drop, refl, sym, ap, ◌∙◌, arith, All, subst, Some, length-append}
+use Rattle.std.proofs.Common.{ap₂, ◌≡◌, ◌+◌, ◌<◌, ℕ, zero, suc, List, [], ◌∷◌, ◌++◌, map, length, take, drop, refl, sym, ap, ◌∙◌, arith, All, subst}
+use Rattle.std.proofs.Common.{Some, length-append}
 use Rattle.std.specs.List.{Contains, flat_map, slice_get}
 use Rattle.std.proofs.Math.Nat.{mod-eq_of_lt, suc-add}
 use Rattle.std.proofs.lemmas.List.{append_assoc, length-take-le, take-append-drop}
@@ -45,7 +46,8 @@ before_suffix : (x v : List ℕ) → take (length x) (x ++ v) ≡ x
 before_suffix [] v = refl
 before_suffix (a ∷ x) v = ap (λ (r : List ℕ). a ∷ r) (before_suffix x v)
 
-module _ (p : ℕ) (weights : List ℕ) (relations : List (List Term)) (st : IsSetting p weights relations) (d : ℕ) (G : List (List Term)) (lower : AreLower p weights relations d G) where
+module _ (p : ℕ) (weights : List ℕ) (relations : List (List Term)) (st : IsSetting p weights relations) (d : ℕ) (G : List (List Term))
+    (lower : AreLower p weights relations d G) where
   abbrev K : Field
   K = vectors.K p st.modulus
 
@@ -74,13 +76,15 @@ module _ (p : ℕ) (weights : List ℕ) (relations : List (List Term)) (st : IsS
     pub place : length product_of.left ≡ k
     pub inside : IsInIdeal p weights relations d (product (take k w) g (drop (k + length m) w))
 
-  occurring : (w : List ℕ) → IsOver (length weights) w → degree_of weights w ≡ d → (g : List Term) (m : List ℕ) (k : ℕ) → Contains G g → lead_of g ≡ Some m → OccursAt m w k → HasProduct w g m k
+  occurring : (w : List ℕ) → IsOver (length weights) w → degree_of weights w ≡ d → (g : List Term) (m : List ℕ) (k : ℕ) → Contains G g →
+      lead_of g ≡ Some m → OccursAt m w k → HasProduct w g m k
   occurring w over deg g m k among e o =
       let u = take k w in
       let v = drop (k + length m) w in
       let l = lower_of g among in
       let joined : w ≡ u ++ m ++ v =
-      sym (append_assoc u m v ∙ ap (λ (r : List ℕ). u ++ r) (ap₂ (λ (x z : List ℕ). x ++ z) (sym o.same) (sym (drop_twice k (length m) w)) ∙ take-append-drop (length m) (drop k w)) ∙ take-append-drop k w) in
+      sym (append_assoc u m v ∙ ap (λ (r : List ℕ). u ++ r) (ap₂ (λ (x z : List ℕ). x ++ z) (sym o.same) (sym (drop_twice k (length m) w))
+      ∙ take-append-drop (length m) (drop k w)) ∙ take-append-drop k w) in
       let h : Lower w (vec (product u g v)) = record {
         element = g;
         lower = l;
@@ -91,10 +95,16 @@ module _ (p : ℕ) (weights : List ℕ) (relations : List (List Term)) (st : IsS
         left_over = All-take (λ n. n < length weights) k w over;
         right_over = All-drop (λ n. n < length weights) (k + length m) w over;
         word = joined;
-        degree = ap (λ (n : ℕ). degree_of weights u + n + degree_of weights v) (sym (lower_degree p weights relations st d g m l e)) ∙ sym (degree_of-round weights u m v) ∙ ap (degree_of weights) (sym joined) ∙ deg;
+        degree = ap (λ (n : ℕ). degree_of weights u + n + degree_of weights v) (sym (lower_degree p weights relations st d g m l e))
+            ∙ sym (degree_of-round weights u m v) ∙ ap (degree_of weights) (sym joined) ∙ deg;
         is = refl;
       } in
-      record { vector = vec (product u g v); product_of = h; place = length-take-le k w (omega (arith, o.within)); inside = lower_inside p weights relations st d d w (vec (product u g v)) h }
+      record {
+        vector = vec (product u g v);
+        product_of = h;
+        place = length-take-le k w (omega (arith, o.within));
+        inside = lower_inside p weights relations st d d w (vec (product u g v)) h;
+      }
 
   -- the vector of a generator
   record IsVectorOf (v : V) : Type 0 where
@@ -107,8 +117,11 @@ module _ (p : ℕ) (weights : List ℕ) (relations : List (List Term)) (st : IsS
       let whole : w ≡ h.left ++ (h.lead ++ h.right) = h.word ∙ append_assoc h.left h.lead h.right in
       let sizes = ap length h.word ∙ length-append (h.left ++ h.lead) h.right in
       let front : take (length h.left) w ≡ h.left = ap (take (length h.left)) whole ∙ before_suffix h.left (h.lead ++ h.right) in
-      let back : drop (length h.left + length h.lead) w ≡ h.right = ap₂ (λ (n : ℕ) (r : List ℕ). drop n r) (sym (length-append h.left h.lead)) h.word ∙ after_prefix (h.left ++ h.lead) h.right in
-      let here : take (length h.lead) (drop (length h.left) w) ≡ h.lead = ap (λ (r : List ℕ). take (length h.lead) (drop (length h.left) r)) whole ∙ ap (take (length h.lead)) (after_prefix h.left (h.lead ++ h.right)) ∙ before_suffix h.lead h.right in
+      let back : drop (length h.left + length h.lead) w ≡ h.right =
+      ap₂ (λ (n : ℕ) (r : List ℕ). drop n r) (sym (length-append h.left h.lead)) h.word ∙ after_prefix (h.left ++ h.lead) h.right in
+      let here : take (length h.lead) (drop (length h.left) w) ≡ h.lead =
+      ap (λ (r : List ℕ). take (length h.lead) (drop (length h.left) r)) whole
+      ∙ ap (take (length h.lead)) (after_prefix h.left (h.lead ++ h.right)) ∙ before_suffix h.lead h.right in
       let over = lower_over p weights relations st d w v h in
       let deg = lower_word p weights relations st d d w v h in
       record {
@@ -151,11 +164,15 @@ module _ (p : ℕ) (weights : List ℕ) (relations : List (List Term)) (st : IsS
 
   generator_member : (g : List Term) → Gen g → IsMemberVector p st.modulus weights relations st d (vec g)
   generator_member g (reducer w f over deg r) =
-      span_from_ideal p st.modulus weights relations d g (subst (IsInIdeal p weights relations d) (sym r.is) (occurring w over deg r.element r.lead r.at r.among r.is_lead r.here).inside)
-  generator_member g (of_relation r among h) = span_from_ideal p st.modulus weights relations d r (neighbour_inside p weights relations st d r (relation r among h))
+      span_from_ideal p st.modulus weights relations d g (subst (IsInIdeal p weights relations d) (sym r.is)
+      (occurring w over deg r.element r.lead r.at r.among r.is_lead r.here).inside)
+  generator_member g (of_relation r among h) = span_from_ideal p st.modulus weights relations d r
+      (neighbour_inside p weights relations st d r (relation r among h))
   generator_member g (obstruction left right a c b o) =
       subst (λ (n : ℕ). IsMemberVector p st.modulus weights relations st n (vec (obstruction_row p o.first b a o.second))) o.degree
-      (obstruction_member p weights relations st d o.first o.second (lower_of o.first (in_list left o.first o.at_left)) (lower_of o.second (in_list right o.second o.at_right)) a c b o.first_lead o.second_lead o.some_before o.some_shared o.some_behind)
+      (obstruction_member p weights relations st d o.first o.second (lower_of o.first (in_list left o.first o.at_left))
+      (lower_of o.second (in_list right o.second o.at_right)) a c b o.first_lead o.second_lead o.some_before o.some_shared
+      o.some_behind)
 
   -- the parts that vectors stand for
   record HasParts (cs : List (Residue p × V)) : Type 0 where
@@ -173,7 +190,8 @@ module _ (p : ℕ) (weights : List ℕ) (relations : List (List Term)) (st : IsS
         parts = part ∷ r.parts;
         each = All-cons (λ (c : Part). (c.factor < p) × Gen c.element) part r.parts (c.0.1, h.generator) r.each;
         sum = λ w. ap₂ K.add (ap₂ K.mul (same_residue p c.0 (vectors.of p st.modulus c.0.0) (sym (mod-eq_of_lt c.0.1))) (ap (λ (v : V). v w) h.is)) (r.sum w)
-            ∙ sym (vector_of-append p st.modulus (part_terms part) (flat_map part_terms r.parts) w ∙ ap (λ (n : Residue p). K.add n (vec (flat_map part_terms r.parts) w)) (vector_of-scaled p st.modulus c.0.0 h.element w));
+            ∙ sym (vector_of-append p st.modulus (part_terms part) (flat_map part_terms r.parts) w
+            ∙ ap (λ (n : Residue p). K.add n (vec (flat_map part_terms r.parts) w)) (vector_of-scaled p st.modulus c.0.0 h.element w));
       }
 
   spanned_by : (f : List Term) → IsInIdeal p weights relations d f → IsSpanned p Gen f
@@ -189,7 +207,8 @@ module _ (p : ℕ) (weights : List ℕ) (relations : List (List Term)) (st : IsS
       (λ v h. subst (IsMemberVector p st.modulus weights relations st d) (sym h.2) (generator_member h.0 h.1)) (vec f)
       (record {
         parts = map (vector_part p weights relations st d) s.parts;
-        each = All-map (λ c. (g : List Term) × Gen g × (c.1 ≡ vec g)) (vector_part p weights relations st d) s.parts (λ k c within. (_, (s.each k c within).1, refl));
+        each = All-map (λ c. (g : List Term) × Gen g × (c.1 ≡ vec g)) (vector_part p weights relations st d) s.parts
+            (λ k c within. (_, (s.each k c within).1, refl));
         sum = λ w. same_vectors p st.modulus f _ s.sum w ∙ vector_of-parts p weights relations st d s.parts w;
       }))
 

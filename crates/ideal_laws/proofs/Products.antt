@@ -1,5 +1,6 @@
 -- A finite list of the products of a degree.
-use Rattle.std.proofs.Common.{◌≡◌, ◌≢◌, ◌<◌, ◌≤◌, ◌==◌, ◌&&◌, ℕ, suc, Bool, true, false, cond, List, [], ◌∷◌, length, refl, sym, ◌∙◌, inl, inr, arith, All, subst, eq-eqb}
+use Rattle.std.proofs.Common.{◌≡◌, ◌≢◌, ◌<◌, ◌≤◌, ◌==◌, ◌&&◌, ℕ, suc, Bool, true, false, cond, List, [], ◌∷◌, length, refl, sym, ◌∙◌, inl, inr, arith}
+use Rattle.std.proofs.Common.{All, subst, eq-eqb}
 use Rattle.std.specs.List.{Contains, flat_map, range_with_len}
 use Rattle.std.proofs.lemmas.Bool.{cases_Bool, eqb-true}
 use Rattle.std.proofs.lemmas.List.Elements.{All-cons, All-contains, All-head, All-nil, All-tail}
@@ -47,25 +48,31 @@ products weights relations d = flat_map (λ r. flat_map (λ u. flat_map (product
 
 module _ (weights : List ℕ) (aw : AreWeights weights) where
   in_words_upto : (d : ℕ) (w : List ℕ) → IsOver (length weights) w → degree_of weights w ≤ d → Contains (words_upto weights d) w
-  in_words_upto d w over le = Contains-flat_map (words_of_degree weights) (range_with_len 0 (suc d)) (degree_of weights w) w (Contains-range 0 (suc d) _ (omega arith) (omega (arith, le))) (listed_word weights aw w over)
+  in_words_upto d w over le = Contains-flat_map (words_of_degree weights) (range_with_len 0 (suc d)) (degree_of weights w) w
+      (Contains-range 0 (suc d) _ (omega arith) (omega (arith, le))) (listed_word weights aw w over)
 
   words_upto-over : (d : ℕ) (w : List ℕ) → Contains (words_upto weights d) w → IsOver (length weights) w
-  words_upto-over d w h = let r = Contains-flat_map_cases (words_of_degree weights) (range_with_len 0 (suc d)) w h in (words_of_degree-says weights aw r.0 w r.2).0
+  words_upto-over d w h = let r = Contains-flat_map_cases (words_of_degree weights) (range_with_len 0 (suc d)) w h in
+      (words_of_degree-says weights aw r.0 w r.2).0
 
   -- each product of the degree is in the list
-  pub product_listed : (p : ℕ) (relations : List (List Term)) → All (IsRelation p weights) relations → (d : ℕ) (m : Multiple) → IsMultiple p weights relations d m
+  pub product_listed : (p : ℕ) (relations : List (List Term)) → All (IsRelation p weights) relations → (d : ℕ) (m : Multiple) →
+      IsMultiple p weights relations d m
       → Contains (products weights relations d) (product m.left m.relation m.right)
   product_listed p relations rels d m h =
       let sizes = degree_round m.relation (All-contains (IsRelation p weights) relations m.relation rels h.among).other h.degree in
       Contains-flat_map (λ r. flat_map (λ u. flat_map (product_if weights d r u) (words_upto weights d)) (words_upto weights d)) relations m.relation _ h.among
-      (Contains-flat_map (λ u. flat_map (product_if weights d m.relation u) (words_upto weights d)) (words_upto weights d) m.left _ (in_words_upto d m.left h.left_over sizes.0)
+      (Contains-flat_map (λ u. flat_map (product_if weights d m.relation u) (words_upto weights d)) (words_upto weights d) m.left _
+      (in_words_upto d m.left h.left_over sizes.0)
       (Contains-flat_map (product_if weights d m.relation m.left) (words_upto weights d) m.right _ (in_words_upto d m.right h.right_over sizes.1)
       (rw (has_degree-is weights d (product m.left m.relation m.right) h.degree) (Contains-first (product m.left m.relation m.right) []))))
     where
-      degree_round : (f : List Term) → f ≢ [] → HasDegree weights d (product m.left f m.right) → (degree_of weights m.left ≤ d) × (degree_of weights m.right ≤ d)
+      degree_round : (f : List Term) → f ≢ [] → HasDegree weights d (product m.left f m.right) →
+          (degree_of weights m.left ≤ d) × (degree_of weights m.right ≤ d)
       degree_round [] ne hd = absurd (ne refl)
       degree_round (t ∷ f) ne hd =
-          let e = sym (degree_of-round weights m.left t.word m.right) ∙ All-head (λ s. degree_of weights s.word ≡ d) _ (product m.left f m.right) hd in (omega (arith, e), omega (arith, e))
+          let e = sym (degree_of-round weights m.left t.word m.right)
+          ∙ All-head (λ s. degree_of weights s.word ≡ d) _ (product m.left f m.right) hd in (omega (arith, e), omega (arith, e))
 
   -- a member of the list with the words round its relation
   pub record IsProduct (p : ℕ) (relations : List (List Term)) (d : ℕ) (g : List Term) : Type 0 where
@@ -74,7 +81,8 @@ module _ (weights : List ℕ) (aw : AreWeights weights) where
     pub is : g ≡ product multiple.left multiple.relation multiple.right
 
   -- the list has products of the degree alone
-  pub listed_product : (p : ℕ) → 0 < p → (relations : List (List Term)) (d : ℕ) (g : List Term) → Contains (products weights relations d) g → IsProduct p relations d g
+  pub listed_product : (p : ℕ) → 0 < p → (relations : List (List Term)) (d : ℕ) (g : List Term) → Contains (products weights relations d) g
+      → IsProduct p relations d g
   listed_product p pos relations d g h =
       let r = Contains-flat_map_cases (λ r. flat_map (λ u. flat_map (product_if weights d r u) (words_upto weights d)) (words_upto weights d)) relations g h in
       let u = Contains-flat_map_cases (λ u. flat_map (product_if weights d r.0 u) (words_upto weights d)) (words_upto weights d) g r.2 in
@@ -85,7 +93,13 @@ module _ (weights : List ℕ) (aw : AreWeights weights) where
           | inr none ↦ absurd (Contains-none g none)
           | inl e ↦ record {
             multiple = record { factor = 0; left = u.0; relation = r.0; right = v.0 };
-            is_multiple = record { residue = pos; left_over = words_upto-over d u.0 u.1; right_over = words_upto-over d v.0 v.1; among = r.1; degree = has_degree-says weights d (product u.0 r.0 v.0) is };
+            is_multiple = record {
+              residue = pos;
+              left_over = words_upto-over d u.0 u.1;
+              right_over = words_upto-over d v.0 v.1;
+              among = r.1;
+              degree = has_degree-says weights d (product u.0 r.0 v.0) is;
+            };
             is = sym e;
           }
         ]

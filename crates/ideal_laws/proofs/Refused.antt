@@ -7,14 +7,16 @@ use Rattle.ideal_laws.specs.Engine.{Elements, IsReducedUpto}
 use Rattle.ideal_laws.specs.Kept.{IsBelow, IsKept}
 use Rattle.ideal_laws.specs.Quantities.{IsFirstPassing, IsFirstRefused, IsQuantity, NonePasses, NonePassesUpto}
 
-module _ (p : ℕ) (weights : List ℕ) (relations : List (List Term)) (limits : List (LimitKind × ℕ)) (below : Elements) (kept : IsKept below) (same : below.weights ≡ weights) (reduced : IsReducedUpto p relations below) where
+module _ (p : ℕ) (weights : List ℕ) (relations : List (List Term)) (limits : List (LimitKind × ℕ)) (below : Elements) (kept : IsKept below)
+    (same : below.weights ≡ weights) (reduced : IsReducedUpto p relations below) where
   is_below : IsBelow p weights relations (below.done + 1) below
   is_below = record { kept = kept; next = refl; same_weights = same; reduced = reduced }
 
   abbrev Q : List ℕ → LimitKind → ℕ → Type 0
   Q ws = IsQuantity p ws relations below (below.done + 1)
 
-  pub upto_next : (d : ℕ) → below.done ≡ d → NonePassesUpto p weights relations limits d → NonePasses (Q below.weights) limits → NonePassesUpto p weights relations limits (d + 1)
+  pub upto_next : (d : ℕ) → below.done ≡ d → NonePassesUpto p weights relations limits d → NonePasses (Q below.weights) limits →
+      NonePassesUpto p weights relations limits (d + 1)
   upto_next d is before here e from le = elim (cases_lt d e) [
     | inl last ↦
         let at : below.done + 1 ≡ e = omega (arith, last, le, is) in (
@@ -33,5 +35,6 @@ module _ (p : ℕ) (weights : List ℕ) (relations : List (List Term)) (limits :
     before = subst (NonePassesUpto p weights relations limits) (let at : d ≡ degree - 1 = omega (arith, h.0, is) in at) before;
     below = below;
     is_below = subst (λ (n : ℕ). IsBelow p weights relations n below) (sym h.0) is_below;
-    passes = subst (λ (n : ℕ). IsFirstPassing (IsQuantity p weights relations below n) limits kind value) (sym h.0) (subst (λ (ws : List ℕ). IsFirstPassing (Q ws) limits kind value) same h.1);
+    passes = subst (λ (n : ℕ). IsFirstPassing (IsQuantity p weights relations below n) limits kind value) (sym h.0)
+        (subst (λ (ws : List ℕ). IsFirstPassing (Q ws) limits kind value) same h.1);
   }

@@ -1,5 +1,7 @@
--- Each member of a degree below d is a sum of multiples of products u * g * v of reduced elements g of degrees below d, with no word greater than its leading word.
-use Rattle.std.proofs.Common.{ap₂, ◌≡◌, ◌+◌, ◌%◌, ◌<◌, ◌==◌, ℕ, Bool, false, cond, List, [], ◌∷◌, ◌++◌, length, refl, sym, ap, ◌∙◌, inl, inr, arith, AllPairs, subst, Some, append-nil}
+-- Each member of a degree below d is a sum of multiples of products u * g * v of reduced elements g of degrees below
+-- d, with no word greater than its leading word.
+use Rattle.std.proofs.Common.{ap₂, ◌≡◌, ◌+◌, ◌%◌, ◌<◌, ◌==◌, ℕ, Bool, false, cond, List, [], ◌∷◌, ◌++◌, length, refl, sym, ap, ◌∙◌, inl, inr, arith}
+use Rattle.std.proofs.Common.{AllPairs, subst, Some, append-nil}
 use Rattle.std.specs.List.{Contains}
 use Rattle.std.proofs.lemmas.Bool.{cases_Bool}
 use Rattle.std.proofs.lemmas.List.{append_assoc}
@@ -31,7 +33,8 @@ use Rattle.ideal_laws.proofs.OneBasis.{minimal_led, monic_total}
 use Rattle.ideal_laws.proofs.Vectors.{span_from_ideal}
 use Rattle.ideal_laws.proofs.Vectors as vectors
 
-pub before_it : (R : List ℕ → List ℕ → Type 0) (pre : List (List ℕ)) (x : List ℕ) (xs : List (List ℕ)) → AllPairs R (pre ++ x ∷ xs) → (y : List ℕ) → Contains pre y → R y x
+pub before_it : (R : List ℕ → List ℕ → Type 0) (pre : List (List ℕ)) (x : List ℕ) (xs : List (List ℕ)) → AllPairs R (pre ++ x ∷ xs) →
+    (y : List ℕ) → Contains pre y → R y x
 before_it R [] x xs h y m = absurd (Contains-none y m)
 before_it R (a ∷ pre) x xs h y m = elim (Contains-cases a pre y m) [
   | inl is ↦ subst (λ (b : List ℕ). R b x) is (All-contains (R a) (pre ++ x ∷ xs) x (AllPairs-first R a (pre ++ x ∷ xs) h) (in_middle pre))
@@ -95,15 +98,19 @@ module _ (p : ℕ) (weights : List ℕ) (relations : List (List Term)) (st : IsS
   pub lower_one : (d e : ℕ) (w : List ℕ) (v : Vr) → IsLowerProduct d e w v → v w ≡ Kr.one
   lower_one d e w v h =
       let i = lower_inside d e w v h in
-      ap (λ (u : Vr). u w) h.is ∙ same_residue p _ _ (ap (λ (n : ℕ). n % p) (monic_total (product h.left h.element h.right) w (lower_lead d e w v h) i.element.form (product-monic h.left h.element h.right h.lower.reduced.monic)))
+      ap (λ (u : Vr). u w) h.is ∙ same_residue p _ _ (ap (λ (n : ℕ). n % p)
+      (monic_total (product h.left h.element h.right) w (lower_lead d e w v h) i.element.form
+      (product-monic h.left h.element h.right h.lower.reduced.monic)))
 
   pub lower_above : (d e : ℕ) (w y : List ℕ) (v : Vr) → IsLowerProduct d e w v → IsLetterwiseGreater y w → v y ≡ Kr.zero
   lower_above d e w y v h g =
       let i = lower_inside d e w v h in
-      ap (λ (u : Vr). u y) h.is ∙ same_residue p _ _ (ap (λ (n : ℕ). n % p) (above_lead (product h.left h.element h.right) w y i.element.form (lower_lead d e w v h) g))
+      ap (λ (u : Vr). u y) h.is ∙ same_residue p _ _ (ap (λ (n : ℕ). n % p)
+      (above_lead (product h.left h.element h.right) w y i.element.form (lower_lead d e w v h) g))
 
   -- a leading word of a degree below d is that of a product of a lower element
-  pub lower_at : (d e : ℕ) → e < d → (w : List ℕ) → IsOver (length weights) w → degree_of weights w ≡ e → IsLeadingWord p weights relations e w → (v : Vr) × IsLowerProduct d e w v
+  pub lower_at : (d e : ℕ) → e < d → (w : List ℕ) → IsOver (length weights) w → degree_of weights w ≡ e →
+      IsLeadingWord p weights relations e w → (v : Vr) × IsLowerProduct d e w v
   lower_at d e below w over deg l =
       let f = (factor_law p weights relations st w over).0 (subst (λ (n : ℕ). IsLeadingWord p weights relations n w) (sym deg) l) in
       let m = f.0 in
@@ -133,7 +140,8 @@ module _ (p : ℕ) (weights : List ℕ) (relations : List (List Term)) (st : IsS
 
     lead_at : (pre : List (List ℕ)) (x : List ℕ) (xs : List (List ℕ)) (v : Vr) → ((y : List ℕ) → Contains pre y → v y ≡ Kr.zero) → ((v x).0 == 0) ≡ false
         → lead_of (from_words (pre ++ x ∷ xs) (entries p fmr v)) ≡ Some x
-    lead_at [] x xs v none some = ap (λ (b : Bool). lead_of (cond b (from_words xs (entries p fmr v)) (record { word = x; coefficient = (v x).0 } ∷ from_words xs (entries p fmr v)))) some
+    lead_at [] x xs v none some = ap (λ (b : Bool). lead_of (cond b (from_words xs (entries p fmr v))
+        (record { word = x; coefficient = (v x).0 } ∷ from_words xs (entries p fmr v)))) some
     lead_at (y ∷ pre) x xs v none some =
         ap lead_of (skipped p fmr y (pre ++ x ∷ xs) v (none y (Contains-first y pre))) ∙ lead_at pre x xs v (λ z m. none z (Contains-more y pre z m)) some
 
@@ -147,14 +155,17 @@ module _ (p : ℕ) (weights : List ℕ) (relations : List (List Term)) (st : IsS
     -- v is what is left of it and its entry at x times q
     regained : (x : List ℕ) (q v : Vr) (y : List ℕ) → Kr.add (Kr.mul (v x) (q y)) (cleared Kr (List ℕ) x q v y) ≡ v y
     regained x q v y =
-        let neg_mul : Kr.mul (Kr.neg (v x)) (q y) ≡ Kr.neg (Kr.mul (v x) (q y)) = Kr.mul_comm (Kr.neg (v x)) (q y) ∙ mul_neg Kr (q y) (v x) ∙ ap Kr.neg (Kr.mul_comm (q y) (v x)) in
-        add_left_comm Kr (Kr.mul (v x) (q y)) (v y) (Kr.mul (Kr.neg (v x)) (q y)) ∙ ap (Kr.add (v y)) (ap (Kr.add (Kr.mul (v x) (q y))) neg_mul ∙ Kr.add_neg (Kr.mul (v x) (q y))) ∙ Kr.add_zero (v y)
+        let neg_mul : Kr.mul (Kr.neg (v x)) (q y) ≡ Kr.neg (Kr.mul (v x) (q y)) = Kr.mul_comm (Kr.neg (v x)) (q y) ∙ mul_neg Kr (q y) (v x)
+        ∙ ap Kr.neg (Kr.mul_comm (q y) (v x)) in
+        add_left_comm Kr (Kr.mul (v x) (q y)) (v y) (Kr.mul (Kr.neg (v x)) (q y))
+        ∙ ap (Kr.add (v y)) (ap (Kr.add (Kr.mul (v x) (q y))) neg_mul ∙ Kr.add_neg (Kr.mul (v x) (q y))) ∙ Kr.add_zero (v y)
 
     cleared_stays : (x y : List ℕ) (q v : Vr) → v y ≡ Kr.zero → q y ≡ Kr.zero → cleared Kr (List ℕ) x q v y ≡ Kr.zero
     cleared_stays x y q v none nothing = ap₂ (λ (m n : Residue p). Kr.add m (Kr.mul (Kr.neg (v x)) n)) none nothing ∙ zero_add Kr _ ∙ mul_zero Kr (Kr.neg (v x))
 
     -- by the words from the greatest on
-    pub represented_from : (xs pre : List (List ℕ)) → columns ≡ pre ++ xs → (v : Vr) → IsMemberVector p fmr weights relations st e v → ((y : List ℕ) → Contains pre y → v y ≡ Kr.zero)
+    pub represented_from : (xs pre : List (List ℕ)) → columns ≡ pre ++ xs → (v : Vr) → IsMemberVector p fmr weights relations st e v →
+        ((y : List ℕ) → Contains pre y → v y ≡ Kr.zero)
         → IsInSpan Kr (List ℕ) (IsLowerAmong d e xs) v
     represented_from [] pre is v s none =
         let all : (w : List ℕ) → v w ≡ Kr.zero = λ w. elim (listed columns w) [
@@ -176,11 +187,18 @@ module _ (p : ℕ) (weights : List ℕ) (relations : List (List Term)) (st : IsS
           | inr some ↦
               let says = words_of_degree-says weights st.are_weights e x here in
               let lead = ap (λ (ws : List (List ℕ)). lead_of (from_words ws (entries p fmr v))) is ∙ lead_at pre x xs v none some in
-              let q = lower_at d e below x says.0 says.1 (record { member = element_from p fmr weights relations st e v; inside = element_inside p fmr weights relations st e v s; lead = lead }) in
+              let q = lower_at d e below x says.0 says.1 (record {
+                member = element_from p fmr weights relations st e v;
+                inside = element_inside p fmr weights relations st e v s;
+                lead = lead;
+              }) in
               let falling = subst (AllPairs IsLetterwiseGreater) is (words_of_degree-falling weights st.are_weights e) in
-              let q_member : IsMemberVector p fmr weights relations st e q.0 = subst (IsMemberVector p fmr weights relations st e) (sym q.1.is) (span_from_ideal p fmr weights relations e _ (lower_inside d e x q.0 q.1)) in
+              let q_member : IsMemberVector p fmr weights relations st e q.0 =
+              subst (IsMemberVector p fmr weights relations st e) (sym q.1.is)
+              (span_from_ideal p fmr weights relations e _ (lower_inside d e x q.0 q.1)) in
               let left = cleared Kr (List ℕ) x q.0 v in
-              let left_member = IsInSpan-add Kr (List ℕ) _ v (λ y. Kr.mul (Kr.neg (v x)) (q.0 y)) s (IsInSpan-scaled Kr (List ℕ) _ (Kr.neg (v x)) q.0 q_member) in
+              let left_member = IsInSpan-add Kr (List ℕ) _ v (λ y. Kr.mul (Kr.neg (v x)) (q.0 y)) s
+              (IsInSpan-scaled Kr (List ℕ) _ (Kr.neg (v x)) q.0 q_member) in
               let rest = represented_from xs (pre ++ x ∷ []) next left left_member (λ y m. elim (Contains-append_cases pre (x ∷ []) y m) [
                 | inl k ↦ cleared_stays x y q.0 v (none y k) (lower_above d e x y q.0 q.1 (before_it IsLetterwiseGreater pre x xs falling y k))
                 | inr k ↦ elim (Contains-cases x [] y k) [
@@ -189,7 +207,8 @@ module _ (p : ℕ) (weights : List ℕ) (relations : List (List Term)) (st : IsS
                 ]
               ]) in
               same_span Kr (List ℕ) _ (λ y. Kr.add (Kr.mul (v x) (q.0 y)) (left y)) v (regained x q.0 v)
-              (IsInSpan-add Kr (List ℕ) _ _ left (IsInSpan-scaled Kr (List ℕ) _ (v x) q.0 (IsInSpan-one Kr (List ℕ) _ q.0 (x, Contains-first x xs, q.1))) (fewer x xs left rest))
+              (IsInSpan-add Kr (List ℕ) _ _ left (IsInSpan-scaled Kr (List ℕ) _ (v x) q.0
+              (IsInSpan-one Kr (List ℕ) _ q.0 (x, Contains-first x xs, q.1))) (fewer x xs left rest))
         ]
       where
         in_middle : (pre : List (List ℕ)) → Contains (pre ++ x ∷ xs) x
@@ -198,4 +217,5 @@ module _ (p : ℕ) (weights : List ℕ) (relations : List (List Term)) (st : IsS
 
     -- each member is a sum of multiples of such products
     pub represented : (f : List Term) → IsInIdeal p weights relations e f → IsInSpan Kr (List ℕ) (IsLowerAmong d e columns) (vectors.vector_of p fmr f)
-    represented f i = represented_from columns [] refl (vectors.vector_of p fmr f) (span_from_ideal p fmr weights relations e f i) (λ y m. absurd (Contains-none y m))
+    represented f i = represented_from columns [] refl (vectors.vector_of p fmr f) (span_from_ideal p fmr weights relations e f i)
+        (λ y m. absurd (Contains-none y m))

@@ -58,7 +58,8 @@ module _ {X : Type 0} (P : X → Type 0) (decide : (x : X) → P x ⊎ (P x → 
   AllPairs-kept R (y ∷ xs) h = by_answer (decide y) (AllPairs-kept R xs (AllPairs-rest R y xs h))
     where
       by_answer : (a : P y ⊎ (P y → ⊥)) → AllPairs R (kept xs) → AllPairs R (kept_if y a (kept xs))
-      by_answer (inl q) r = AllPairs-cons R y (kept xs) (All-from_members (R y) (kept xs) (λ z m. All-contains (R y) xs z (AllPairs-first R y xs h) (kept-says xs z m).0)) r
+      by_answer (inl q) r = AllPairs-cons R y (kept xs) (All-from_members (R y) (kept xs)
+          (λ z m. All-contains (R y) xs z (AllPairs-first R y xs h) (kept-says xs z m).0)) r
       by_answer (inr q) r = r
 
 -- two lists in one strict order with the same members are one
@@ -71,7 +72,8 @@ module _ {X : Type 0} (R : X → X → Type 0) (strict : (x : X) → R x x → �
     | inl e ↦ sym e
     | inr later ↦ elim (Contains-cases x xs y n) [
       | inl e ↦ e
-      | inr after ↦ absurd (strict x (trans x y x (All-contains (R x) xs y (AllPairs-first R x xs h) after) (All-contains (R y) ys x (AllPairs-first R y ys k) later)))
+      | inr after ↦ absurd (strict x (trans x y x (All-contains (R x) xs y (AllPairs-first R x xs h) after)
+          (All-contains (R y) ys x (AllPairs-first R y ys k) later)))
     ]
   ]
 

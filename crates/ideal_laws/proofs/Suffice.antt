@@ -1,5 +1,6 @@
 -- A degree is spanned by the reducers of its words, its relations and the rows of its obstructions.
-use Rattle.std.proofs.Common.{◌≡◌, ◌⊎◌, ◌↔◌, ◌+◌, ◌-◌, ◌<◌, ◌≤◌, ℕ, zero, suc, List, [], ◌∷◌, ◌++◌, map, length, take, drop, refl, sym, ap, ◌∙◌, inl, inr, arith, AllPairs, subst, length-append}
+use Rattle.std.proofs.Common.{◌≡◌, ◌⊎◌, ◌↔◌, ◌+◌, ◌-◌, ◌<◌, ◌≤◌, ℕ, zero, suc, List, [], ◌∷◌, ◌++◌, map, length, take, drop, refl, sym, ap, ◌∙◌, inl}
+use Rattle.std.proofs.Common.{inr, arith, AllPairs, subst, length-append}
 use Rattle.std.specs.List.{Contains, flat_map, range_with_len}
 use Rattle.std.proofs.lemmas.Bool.{cases_lt}
 use Rattle.std.proofs.lemmas.List.{append_assoc, take-append-drop}
@@ -57,7 +58,9 @@ module _ (p : ℕ) (weights : List ℕ) (relations : List (List Term)) (st : IsS
 
   pub lower_over : (w : List ℕ) (v : V) → Lower w v → IsOver (length weights) w
   lower_over w v h = subst (IsOver (length weights)) (sym h.word)
-      (All-append (λ n. n < length weights) (h.left ++ h.lead) h.right (All-append (λ n. n < length weights) h.left h.lead h.left_over (lead_over p weights relations st d h.element h.lead h.lower h.is_lead)) h.right_over)
+      (All-append (λ n. n < length weights) (h.left ++ h.lead) h.right
+      (All-append (λ n. n < length weights) h.left h.lead h.left_over
+      (lead_over p weights relations st d h.element h.lead h.lower h.is_lead)) h.right_over)
 
   -- a place and a length at which a lead of lower degree stands
   record StandsAt (w : List ℕ) (below : ℕ) (at : ℕ × ℕ) : Type 0 where
@@ -84,7 +87,8 @@ module _ (p : ℕ) (weights : List ℕ) (relations : List (List Term)) (st : IsS
   places size = flat_map (row_of_places size) (range_with_len 0 (suc size))
 
   place_listed : (size i n : ℕ) → i ≤ size → n ≤ size → Contains (places size) (i, n)
-  place_listed size i n li ln = Contains-flat_map (row_of_places size) (range_with_len 0 (suc size)) i (i, n) (Contains-range 0 (suc size) i (omega arith) (omega (arith, li)))
+  place_listed size i n li ln = Contains-flat_map (row_of_places size) (range_with_len 0 (suc size)) i (i, n)
+      (Contains-range 0 (suc size) i (omega arith) (omega (arith, li)))
       (Contains-map (λ n. (i, n)) (range_with_len 0 (suc size)) n (Contains-range 0 (suc size) n (omega arith) (omega (arith, ln))))
 
   after_prefix : (u r : List ℕ) → drop (length u) (u ++ r) ≡ r
@@ -103,7 +107,8 @@ module _ (p : ℕ) (weights : List ℕ) (relations : List (List Term)) (st : IsS
   stands : (w : List ℕ) (below : ℕ) (u : V) (k : Lower w u) → length k.left < below → StandsAt w below (length k.left, length k.lead)
   stands w below u k lt =
       let here : take (length k.lead) (drop (length k.left) w) ≡ k.lead =
-      ap (λ (r : List ℕ). take (length k.lead) (drop (length k.left) r)) (k.word ∙ append_assoc k.left k.lead k.right) ∙ ap (take (length k.lead)) (after_prefix k.left (k.lead ++ k.right)) ∙ before_suffix k.lead k.right in
+      ap (λ (r : List ℕ). take (length k.lead) (drop (length k.left) r)) (k.word ∙ append_assoc k.left k.lead k.right)
+      ∙ ap (take (length k.lead)) (after_prefix k.left (k.lead ++ k.right)) ∙ before_suffix k.lead k.right in
       record {
         earlier = lt;
         minimal = subst (IsMinimal p weights relations) (sym here) (k.lower.reduced.minimal k.lead k.is_lead);
@@ -158,7 +163,9 @@ module _ (p : ℕ) (weights : List ℕ) (relations : List (List Term)) (st : IsS
         | inr ge ↦ ge
         | inl lt ↦
             let sizes = ap length k.word ∙ length-append (k.left ++ k.lead) k.right in
-            absurd (all (length k.left, length k.lead) (place_listed (length w) (length k.left) (length k.lead) (omega (arith, sizes, length-append k.left k.lead)) (omega (arith, sizes, length-append k.left k.lead))) (stands w (length h.left) u k lt))
+            absurd (all (length k.left, length k.lead) (place_listed (length w) (length k.left) (length k.lead)
+            (omega (arith, sizes, length-append k.left k.lead)) (omega (arith, sizes, length-append k.left k.lead)))
+            (stands w (length h.left) u k lt))
       ];
     }
     | found at m s ↦
@@ -170,16 +177,20 @@ module _ (p : ℕ) (weights : List ℕ) (relations : List (List Term)) (st : IsS
   columns = words_of_degree weights d
 
   in_columns : (w : List ℕ) (v : V) → Lower w v → Contains columns w
-  in_columns w v h = subst (λ (n : ℕ). Contains (words_of_degree weights n) w) (lower_word p weights relations st d d w v h) (listed_word weights st.are_weights w (lower_over w v h))
+  in_columns w v h = subst (λ (n : ℕ). Contains (words_of_degree weights n) w) (lower_word p weights relations st d d w v h)
+      (listed_word weights st.are_weights w (lower_over w v h))
 
   -- v is R less (R less v)
   back_from : (r v : V) (y : List ℕ) → K.add (r y) (K.mul (K.neg K.one) (less p weights relations st r v y)) ≡ v y
   back_from r v y =
       let minus : (c : Residue p) → K.mul (K.neg K.one) c ≡ K.neg c = λ c. K.mul_comm (K.neg K.one) c ∙ mul_neg K c K.one ∙ ap K.neg (K.mul_one c) in
       let part = K.add (r y) (K.neg (v y)) in
-      let whole : K.add part (v y) ≡ r y = K.add_assoc (r y) (K.neg (v y)) (v y) ∙ ap (K.add (r y)) (K.add_comm (K.neg (v y)) (v y) ∙ K.add_neg (v y)) ∙ K.add_zero (r y) in
-      ap (λ (n : Residue p). K.add (r y) (K.mul (K.neg K.one) (K.add (r y) n))) (minus (v y)) ∙ ap (K.add (r y)) (minus part) ∙ ap (λ (n : Residue p). K.add n (K.neg part)) (sym whole)
-      ∙ ap (λ (n : Residue p). K.add n (K.neg part)) (K.add_comm part (v y)) ∙ K.add_assoc (v y) part (K.neg part) ∙ ap (K.add (v y)) (K.add_neg part) ∙ K.add_zero (v y)
+      let whole : K.add part (v y) ≡ r y = K.add_assoc (r y) (K.neg (v y)) (v y)
+      ∙ ap (K.add (r y)) (K.add_comm (K.neg (v y)) (v y) ∙ K.add_neg (v y)) ∙ K.add_zero (r y) in
+      ap (λ (n : Residue p). K.add (r y) (K.mul (K.neg K.one) (K.add (r y) n))) (minus (v y)) ∙ ap (K.add (r y)) (minus part)
+      ∙ ap (λ (n : Residue p). K.add n (K.neg part)) (sym whole)
+      ∙ ap (λ (n : Residue p). K.add n (K.neg part)) (K.add_comm part (v y)) ∙ K.add_assoc (v y) part (K.neg part)
+      ∙ ap (K.add (v y)) (K.add_neg part) ∙ K.add_zero (v y)
 
   -- each product is a sum of generators, by the words from the least one on
   products_spanned : (xs pre : List (List ℕ)) → columns ≡ pre ++ xs → (w : List ℕ) → Contains xs w → (v : V) → Lower w v → Sp v
@@ -194,16 +205,19 @@ module _ (p : ℕ) (weights : List ℕ) (relations : List (List Term)) (st : IsS
             let below : (u : V) → IsBelow p weights relations st d w u → Sp u = λ u b. elim b [
               | row q ↦ IsInSpan-one K (List ℕ) IsGenerator u (obstruction q)
               | smaller y g k ↦ elim (Contains-append_cases pre (x ∷ xs) y (subst (λ (ws : List (List ℕ)). Contains ws y) is (in_columns y u k))) [
-                | inl j ↦ absurd (letterwise-apart w w (letterwise-trans w y w g (subst (IsLetterwiseGreater y) e (before_it IsLetterwiseGreater pre x xs falling y j))) refl)
+                | inl j ↦ absurd (letterwise-apart w w (letterwise-trans w y w g
+                    (subst (IsLetterwiseGreater y) e (before_it IsLetterwiseGreater pre x xs falling y j))) refl)
                 | inr j ↦ elim (Contains-cases x xs y j) [
                   | inl same ↦ absurd (letterwise-apart w y g (sym e ∙ same))
                   | inr later ↦ rest y later u k
                 ]
               ]
             ] in
-            let gap = IsInSpan-trans K (List ℕ) (IsBelow p weights relations st d w) IsGenerator below (less p weights relations st r.vector v) (differ p weights relations st d w r.vector v r.product_of h (r.least v h)) in
+            let gap = IsInSpan-trans K (List ℕ) (IsBelow p weights relations st d w) IsGenerator below
+            (less p weights relations st r.vector v) (differ p weights relations st d w r.vector v r.product_of h (r.least v h)) in
             same_span K (List ℕ) IsGenerator (λ y. K.add (r.vector y) (K.mul (K.neg K.one) (less p weights relations st r.vector v y))) v (back_from r.vector v)
-            (IsInSpan-add K (List ℕ) IsGenerator r.vector (λ y. K.mul (K.neg K.one) (less p weights relations st r.vector v y)) (IsInSpan-one K (List ℕ) IsGenerator r.vector (reducer w r.product_of r.least))
+            (IsInSpan-add K (List ℕ) IsGenerator r.vector (λ y. K.mul (K.neg K.one) (less p weights relations st r.vector v y))
+            (IsInSpan-one K (List ℕ) IsGenerator r.vector (reducer w r.product_of r.least))
             (IsInSpan-scaled K (List ℕ) IsGenerator (K.neg K.one) (less p weights relations st r.vector v) gap))
       ]
 
@@ -211,7 +225,8 @@ module _ (p : ℕ) (weights : List ℕ) (relations : List (List Term)) (st : IsS
   product_spanned w v h = products_spanned columns [] refl w (in_columns w v h) v h
 
   -- words round a member of lower degree
-  round_spanned : (e : ℕ) → e < d → (u v : List ℕ) → IsOver (length weights) u → IsOver (length weights) v → degree_of weights u + e + degree_of weights v ≡ d → (f : List Term) → IsInIdeal p weights relations e f → Sp (vec (product u f v))
+  round_spanned : (e : ℕ) → e < d → (u v : List ℕ) → IsOver (length weights) u → IsOver (length weights) v →
+      degree_of weights u + e + degree_of weights v ≡ d → (f : List Term) → IsInIdeal p weights relations e f → Sp (vec (product u f v))
   round_spanned e lt u v hu hv deg f i =
       subst Sp (sym (vector_of-product p st.modulus u v f))
       (IsInSpan-trans K (List ℕ) (λ q. (w : List ℕ) × Lower w q) IsGenerator (λ q h. product_spanned h.0 q h.1) (shifted p st.modulus u v (vec f))
@@ -219,31 +234,42 @@ module _ (p : ℕ) (weights : List ℕ) (relations : List (List Term)) (st : IsS
       (λ g q. (u ++ q.0 ++ v, shift_lower p weights relations st d e u v q.0 g hu hv deg q.2)) (vec f) (represented p weights relations st d e lt f i)))
 
   neighbour_spanned : (g : List Term) → IsNeighbour p weights relations d g → Sp (vec g)
-  neighbour_spanned g (before x f lt le i) = round_spanned (d - weight_of weights x) (omega (arith, le, (weight_of-bounds weights st.are_weights x).0)) (x ∷ []) [] (All-cons (λ n. n < length weights) x [] lt (All-nil (λ n. n < length weights))) (All-nil (λ n. n < length weights)) (omega (arith, le)) f i
-  neighbour_spanned g (behind x f lt le i) = round_spanned (d - weight_of weights x) (omega (arith, le, (weight_of-bounds weights st.are_weights x).0)) [] (x ∷ []) (All-nil (λ n. n < length weights)) (All-cons (λ n. n < length weights) x [] lt (All-nil (λ n. n < length weights))) (omega (arith, le)) f i
+  neighbour_spanned g (before x f lt le i) = round_spanned (d - weight_of weights x)
+      (omega (arith, le, (weight_of-bounds weights st.are_weights x).0)) (x ∷ []) []
+      (All-cons (λ n. n < length weights) x [] lt (All-nil (λ n. n < length weights))) (All-nil (λ n. n < length weights))
+      (omega (arith, le)) f i
+  neighbour_spanned g (behind x f lt le i) = round_spanned (d - weight_of weights x)
+      (omega (arith, le, (weight_of-bounds weights st.are_weights x).0)) [] (x ∷ []) (All-nil (λ n. n < length weights))
+      (All-cons (λ n. n < length weights) x [] lt (All-nil (λ n. n < length weights))) (omega (arith, le)) f i
   neighbour_spanned g (relation r among h) = IsInSpan-one K (List ℕ) IsGenerator (vec r) (of_relation r among h refl)
 
   pub ideal_spanned : (f : List Term) → IsInIdeal p weights relations d f → Sp (vec f)
   ideal_spanned f i =
       let s = spanned p weights relations st d f i in
-      IsInSpan-trans K (List ℕ) (λ q. (g : List Term) × IsNeighbour p weights relations d g × (q ≡ vec g)) IsGenerator (λ q h. subst Sp (sym h.2) (neighbour_spanned h.0 h.1)) (vec f)
+      IsInSpan-trans K (List ℕ) (λ q. (g : List Term) × IsNeighbour p weights relations d g × (q ≡ vec g)) IsGenerator
+      (λ q h. subst Sp (sym h.2) (neighbour_spanned h.0 h.1)) (vec f)
       (record {
         parts = map (vector_part p weights relations st d) s.parts;
-        each = All-map (λ c. (g : List Term) × IsNeighbour p weights relations d g × (c.1 ≡ vec g)) (vector_part p weights relations st d) s.parts (λ k c within. (_, (s.each k c within).1, refl));
+        each = All-map (λ c. (g : List Term) × IsNeighbour p weights relations d g × (c.1 ≡ vec g)) (vector_part p weights relations st d)
+            s.parts (λ k c within. (_, (s.each k c within).1, refl));
         sum = λ w. same_vectors p st.modulus f _ s.sum w ∙ vector_of-parts p weights relations st d s.parts w;
       })
 
   generator_member : (v : V) → IsGenerator v → IsMemberVector p st.modulus weights relations st d v
-  generator_member v (reducer w h least) = subst (IsMemberVector p st.modulus weights relations st d) (sym h.is) (span_from_ideal p st.modulus weights relations d _ (lower_inside p weights relations st d d w v h))
-  generator_member v (of_relation r among h e) = subst (IsMemberVector p st.modulus weights relations st d) (sym e) (span_from_ideal p st.modulus weights relations d r (neighbour_inside p weights relations st d r (relation r among h)))
+  generator_member v (reducer w h least) = subst (IsMemberVector p st.modulus weights relations st d) (sym h.is)
+      (span_from_ideal p st.modulus weights relations d _ (lower_inside p weights relations st d d w v h))
+  generator_member v (of_relation r among h e) = subst (IsMemberVector p st.modulus weights relations st d) (sym e)
+      (span_from_ideal p st.modulus weights relations d r (neighbour_inside p weights relations st d r (relation r among h)))
   generator_member v (obstruction q) =
       subst (IsMemberVector p st.modulus weights relations st d) (sym q.is)
       (subst (λ (n : ℕ). IsMemberVector p st.modulus weights relations st n (vec (obstruction_row p q.first q.behind q.before q.second))) q.degree
-      (obstruction_member p weights relations st d q.first q.second q.first_lower q.second_lower q.before q.shared q.behind q.first_lead q.second_lead q.some_before q.some_shared q.some_behind))
+      (obstruction_member p weights relations st d q.first q.second q.first_lower q.second_lower q.before q.shared q.behind q.first_lead
+      q.second_lead q.some_before q.some_shared q.some_behind))
 
   -- the ideal in a degree is the span of reducers, relations and obstruction rows
   pub suffices : (f : List Term) → IsElement p weights d f → IsInIdeal p weights relations d f ↔ Sp (vec f)
   suffices f e = (
     ideal_spanned f,
-    λ s. ideal_from_span p st.modulus weights relations d f e (IsInSpan-trans K (List ℕ) IsGenerator (IsProductVector p st.modulus weights relations d) generator_member (vec f) s),
+    λ s. ideal_from_span p st.modulus weights relations d f e (IsInSpan-trans K (List ℕ) IsGenerator
+        (IsProductVector p st.modulus weights relations d) generator_member (vec f) s),
   )

@@ -77,9 +77,18 @@ module _ (p : ℕ) (fm : IsFieldModulus p) where
         let m : Multiple = record { factor = c.0.0; left = h.multiple.left; relation = h.multiple.relation; right = h.multiple.right } in
         record {
           multiples = m ∷ r.multiples;
-          each = All-cons (IsMultiple p weights relations d) m r.multiples (record { residue = c.0.1; left_over = h.is_multiple.left_over; right_over = h.is_multiple.right_over; among = h.is_multiple.among; degree = h.is_multiple.degree }) r.each;
+          each = All-cons (IsMultiple p weights relations d) m r.multiples
+              (record {
+                residue = c.0.1;
+                left_over = h.is_multiple.left_over;
+                right_over = h.is_multiple.right_over;
+                among = h.is_multiple.among;
+                degree = h.is_multiple.degree;
+              }) r.each;
           sum = λ w. ap₂ K.add (ap₂ K.mul (same_residue p c.0 (of c.0.0) (sym (mod-eq_of_lt c.0.1))) (ap (λ (v : List ℕ → Residue p). v w) h.is)) (r.sum w)
-              ∙ sym (vector_of-append (terms_of m) (flat_map terms_of r.multiples) w ∙ ap (λ (n : Residue p). K.add n (vector_of (flat_map terms_of r.multiples) w)) (vector_of-scaled c.0.0 (product m.left m.relation m.right) w));
+              ∙ sym (vector_of-append (terms_of m) (flat_map terms_of r.multiples) w
+              ∙ ap (λ (n : Residue p). K.add n (vector_of (flat_map terms_of r.multiples) w))
+              (vector_of-scaled c.0.0 (product m.left m.relation m.right) w));
         }
 
     pub ideal_from_span : (f : List Term) → IsElement p weights d f → IsInSpan K (List ℕ) IsProductVector (vector_of f) → IsInIdeal p weights relations d f

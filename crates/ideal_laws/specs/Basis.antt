@@ -26,6 +26,7 @@ pub record IsReduced (p : ℕ) (weights : List ℕ) (relations : List (List Term
   pub others : All (λ t. IsLeadingWord p weights relations d t.word → ⊥) (below_lead f)
 
 -- exactly the reduced members, by falling leading word
-pub record IsReducedBasis (p : ℕ) (weights : List ℕ) (relations : List (List Term)) (d : ℕ) (basis : List (List Term)) : Type 0 where
+pub record IsReducedBasis (p : ℕ) (weights : List ℕ) (relations : List (List Term)) (d : ℕ)
+    (basis : List (List Term)) : Type 0 where
   pub exactly : (f : List Term) → Contains basis f ↔ IsReduced p weights relations d f
   pub falling : AllPairs HasGreaterLead basis

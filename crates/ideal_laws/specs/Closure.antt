@@ -1,5 +1,7 @@
 -- Obstructions, reducers and closures over a list of elements.
-use Rattle.std.specs.Prelude.{ℕ, ◌≡◌, ◌≢◌, ◌⊎◌, ◌+◌, ◌-◌, ◌<◌, ◌≤◌, ◌↔◌, List, [], ◌++◌, AllPairs, Contains, Option, Some, None, map, length, take, drop, slice_get}
+use Rattle.std.specs.Prelude.{ℕ, ◌≡◌, ◌≢◌, ◌⊎◌, ◌+◌, ◌-◌, ◌<◌, ◌≤◌, ◌↔◌, List, [], ◌++◌, AllPairs, Contains, Option}
+use Rattle.std.specs.Prelude.{Some, None, map, length, take}
+use Rattle.std.specs.Prelude.{drop, slice_get}
 use Rattle.words.specs.Order.{IsLetterwiseGreater}
 use Rattle.words.specs.Words.{IsFactor, OccursAt, degree_of}
 use Rattle.free_poly.specs.declared.term.Term.{Term}
@@ -8,7 +10,9 @@ use Rattle.free_poly.specs.Poly.{lead_of}
 
 -- no leading word is a factor of the leading word of an element at another place
 abbrev pub IsFactorFree : List (List Term) → Type 0
-IsFactorFree G = (i j : ℕ) (g h : List Term) (v w : List ℕ) → slice_get G i ≡ Some g → slice_get G j ≡ Some h → lead_of g ≡ Some v → lead_of h ≡ Some w → IsFactor v w → i ≡ j
+IsFactorFree G = (i j : ℕ) (g h : List Term) (v w : List ℕ) → slice_get G i ≡ Some g → slice_get G j ≡ Some h →
+    lead_of g ≡ Some v →
+    lead_of h ≡ Some w → IsFactor v w → i ≡ j
 
 -- The leading words of two elements are a * c and c * b, and a * c * b has degree d.
 pub record IsObstruction (weights : List ℕ) (G : List (List Term)) (d left right : ℕ) (a c b : List ℕ) : Type 0 where
@@ -40,11 +44,13 @@ overlap_word o = o.before ++ o.shared ++ o.behind
 
 -- a greater word stands first, and of two overlaps with one word the one with the lesser left element
 abbrev pub OverlapsBefore : Overlap → Overlap → Type 0
-OverlapsBefore o q = IsLetterwiseGreater (overlap_word o) (overlap_word q) ⊎ ((overlap_word o ≡ overlap_word q) × (o.left < q.left))
+OverlapsBefore o q = IsLetterwiseGreater (overlap_word o) (overlap_word q)
+    ⊎ ((overlap_word o ≡ overlap_word q) × (o.left < q.left))
 
 -- exactly the obstructions of degree d, in their order
 pub record AreObstructions (weights : List ℕ) (G : List (List Term)) (d : ℕ) (overlaps : List Overlap) : Type 0 where
-  pub exactly : (o : Overlap) → Contains overlaps o ↔ IsObstruction weights G d o.left o.right o.before o.shared o.behind
+  pub exactly : (o : Overlap) → Contains overlaps o ↔ IsObstruction weights G d o.left o.right o.before o.shared
+      o.behind
   pub ordered : AllPairs OverlapsBefore overlaps
 
 -- u * g * v, where the leading word of g stands in w at the least possible place
@@ -70,7 +76,9 @@ HasReducer G w (Some reducer) = IsReducer G w reducer
 -- the least set with these words that has, with each word, the words of its reducer
 pub data IsInClosure (G : List (List Term)) (words : List (List ℕ)) : List ℕ → Type 0 where
   given : (w : List ℕ) → Contains words w → IsInClosure G words w
-  brought : (w v : List ℕ) (reducer : List Term) → IsInClosure G words w → IsReducer G w reducer → Contains (map (λ t. t.word) reducer) v → IsInClosure G words v
+  brought : (w v : List ℕ) (reducer : List Term) → IsInClosure G words w → IsReducer G w reducer →
+      Contains (map (λ t. t.word) reducer) v →
+      IsInClosure G words v
 
 -- exactly the words of the closure, falling letter by letter, which on one degree is the order of words
 pub record AreColumns (G : List (List Term)) (words columns : List (List ℕ)) : Type 0 where

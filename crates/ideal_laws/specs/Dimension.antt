@@ -25,7 +25,8 @@ pub record IsDimension (p : ℕ) (weights : List ℕ) (relations : List (List Te
   pub count : length members ≡ k
   pub inside : All (IsInIdeal p weights relations d) members
   pub independent : IsIndependent p members
-  pub spanning : (f : List Term) → IsInIdeal p weights relations d f → (cs : List ℕ) × AreFactors p cs members × IsSame p f (combination cs members)
+  pub spanning : (f : List Term) → IsInIdeal p weights relations d f → (cs : List ℕ) × AreFactors p cs members
+      × IsSame p f (combination cs members)
 
 -- the number of words of the degree less the dimension
 pub record IsHilbertCoefficient (p : ℕ) (weights : List ℕ) (relations : List (List Term)) (d h : ℕ) : Type 0 where

@@ -14,8 +14,10 @@ pub record Elements : Type 0 where
 abbrev pub of_degree : List ℕ → ℕ → List (List Term) → List (List Term)
 of_degree weights d [] = []
 of_degree weights d ([] ∷ fs) = of_degree weights d fs
-of_degree weights d ((t ∷ ts) ∷ fs) = cond (degree_of weights t.word == d) ((t ∷ ts) ∷ of_degree weights d fs) (of_degree weights d fs)
+of_degree weights d ((t ∷ ts) ∷ fs) = cond (degree_of weights t.word == d) ((t ∷ ts) ∷ of_degree weights d fs)
+    (of_degree weights d fs)
 
 -- the elements are the reduced basis of each degree that is done
 abbrev pub IsReducedUpto : ℕ → List (List Term) → Elements → Type 0
-IsReducedUpto p relations basis = (d : ℕ) → 0 < d → d ≤ basis.done → IsReducedBasis p basis.weights relations d (of_degree basis.weights d basis.elements)
+IsReducedUpto p relations basis = (d : ℕ) → 0 < d → d ≤ basis.done →
+    IsReducedBasis p basis.weights relations d (of_degree basis.weights d basis.elements)

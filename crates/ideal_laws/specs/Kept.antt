@@ -1,5 +1,6 @@
 -- What every basis keeps.
-use Rattle.std.specs.Prelude.{ℕ, ◌≡◌, ◌⊎◌, ◌+◌, ◌*◌, ◌<◌, ◌≤◌, List, [], ◌∷◌, All, AllPairs, length, leb, ltb, count_by, slice_index}
+use Rattle.std.specs.Prelude.{ℕ, ◌≡◌, ◌⊎◌, ◌+◌, ◌*◌, ◌<◌, ◌≤◌, List, [], ◌∷◌, All, AllPairs, length, leb, ltb}
+use Rattle.std.specs.Prelude.{count_by, slice_index}
 use Rattle.words.specs.Words.{AreWeights, degree_of}
 use Rattle.free_poly.specs.declared.term.Term.{Term}
 use Rattle.free_poly.specs.Terms.{HasDegree, UsesLetters}
@@ -30,9 +31,11 @@ pub record IsKeptElement (weights : List ℕ) (done : ℕ) (f : List Term) : Typ
 
 -- an element of lower degree stands first, and in a degree the one with the greater leading word
 abbrev pub StandsBefore : List ℕ → List Term → List Term → Type 0
-StandsBefore weights f g = (lead_degree weights f < lead_degree weights g) ⊎ ((lead_degree weights f ≡ lead_degree weights g) × HasGreaterLead f g)
+StandsBefore weights f g = (lead_degree weights f < lead_degree weights g)
+    ⊎ ((lead_degree weights f ≡ lead_degree weights g) × HasGreaterLead f g)
 
--- from 1 to 64 letters with their weights, at most 64 degrees, and elements in order, of which a degree has at most 16,777,216
+-- from 1 to 64 letters with their weights, at most 64 degrees, and elements in order, of which a degree has at most
+-- 16,777,216
 pub record IsKept (basis : Elements) : Type 0 where
   pub some : 0 < length basis.weights
   pub letters : length basis.weights ≤ 64

@@ -10,7 +10,8 @@ use Rattle.ideal_laws.specs.Ideal.{IsElement, IsInIdeal, IsLeadingWord, IsMinima
 use Rattle.ideal_laws.specs.Basis.{IsReducedBasis}
 use Rattle.ideal_laws.specs.Dimension.{IsDimension, IsHilbertCoefficient}
 
--- a relation of a presentation: a polynomial other than 0 over the letters and residues, of one degree, which is 1 or more
+-- a relation of a presentation: a polynomial other than 0 over the letters and residues, of one degree, which is 1 or
+-- more
 pub record IsRelation (p : ℕ) (weights : List ℕ) (r : List Term) : Type 0 where
   pub form : IsPolynomial r
   pub residues : HasResidues p r
@@ -33,14 +34,17 @@ pub record IsOne {X : Type 0} (P : X → Type 0) : Type 0 where
 
 -- each degree has exactly one reduced basis
 abbrev pub HasOneBasis : Type 0
-HasOneBasis = (p : ℕ) (weights : List ℕ) (relations : List (List Term)) → IsSetting p weights relations → (d : ℕ) → IsOne (IsReducedBasis p weights relations d)
+HasOneBasis = (p : ℕ) (weights : List ℕ) (relations : List (List Term)) → IsSetting p weights relations → (d : ℕ) →
+    IsOne (IsReducedBasis p weights relations d)
 
 -- the words of a list are exactly the leading words of a degree, each once
-pub record AreLeadingWords (p : ℕ) (weights : List ℕ) (relations : List (List Term)) (d : ℕ) (words : List (List ℕ)) : Type 0 where
+pub record AreLeadingWords (p : ℕ) (weights : List ℕ) (relations : List (List Term)) (d : ℕ)
+    (words : List (List ℕ)) : Type 0 where
   pub exactly : (w : List ℕ) → Contains words w ↔ IsLeadingWord p weights relations d w
   pub apart : AllPairs (λ v w. v ≢ w) words
 
--- exactly one number is the dimension, and it is the number of leading words; so the coefficient is the number of the other words
+-- exactly one number is the dimension, and it is the number of leading words; so the coefficient is the number of the
+-- other words
 pub record HasDimension (p : ℕ) (weights : List ℕ) (relations : List (List Term)) (d : ℕ) : Type 0 where
   pub leading : List (List ℕ)
   pub others : List (List ℕ)
@@ -52,18 +56,23 @@ pub record HasDimension (p : ℕ) (weights : List ℕ) (relations : List (List T
   pub coefficient : (h : ℕ) → IsHilbertCoefficient p weights relations d h ↔ (h ≡ length others)
 
 abbrev pub HasOneDimension : Type 0
-HasOneDimension = (p : ℕ) (weights : List ℕ) (relations : List (List Term)) → IsSetting p weights relations → (d : ℕ) → HasDimension p weights relations d
+HasOneDimension = (p : ℕ) (weights : List ℕ) (relations : List (List Term)) → IsSetting p weights relations →
+    (d : ℕ) → HasDimension p weights relations d
 
 -- a word is a leading word exactly where some factor of it is minimal
 abbrev pub IsFactorLaw : Type 0
-IsFactorLaw = (p : ℕ) (weights : List ℕ) (relations : List (List Term)) → IsSetting p weights relations → (w : List ℕ) → IsOver (length weights) w
-    → IsLeadingWord p weights relations (degree_of weights w) w ↔ ((v : List ℕ) × IsFactor v w × IsMinimal p weights relations v)
+IsFactorLaw = (p : ℕ) (weights : List ℕ) (relations : List (List Term)) → IsSetting p weights relations →
+    (w : List ℕ) → IsOver (length weights) w
+    → IsLeadingWord p weights relations (degree_of weights w) w
+    ↔ ((v : List ℕ) × IsFactor v w × IsMinimal p weights relations v)
 
 -- a neighbour of degree d: a letter before or behind a member of the degree that is left, or a relation of degree d
 pub data IsNeighbour (p : ℕ) (weights : List ℕ) (relations : List (List Term)) (d : ℕ) : List Term → Type 0 where
-  before : (x : ℕ) (f : List Term) → x < length weights → weight_of weights x ≤ d → IsInIdeal p weights relations (d - weight_of weights x) f
+  before : (x : ℕ) (f : List Term) → x < length weights → weight_of weights x ≤ d →
+      IsInIdeal p weights relations (d - weight_of weights x) f
       → IsNeighbour p weights relations d (product (x ∷ []) f [])
-  behind : (x : ℕ) (f : List Term) → x < length weights → weight_of weights x ≤ d → IsInIdeal p weights relations (d - weight_of weights x) f
+  behind : (x : ℕ) (f : List Term) → x < length weights → weight_of weights x ≤ d →
+      IsInIdeal p weights relations (d - weight_of weights x) f
       → IsNeighbour p weights relations d (product [] f (x ∷ []))
   relation : (r : List Term) → Contains relations r → HasDegree weights d r → IsNeighbour p weights relations d r
 
@@ -83,5 +92,7 @@ pub record IsSpanned (p : ℕ) (P : List Term → Type 0) (f : List Term) : Type
 
 -- a degree of 1 or more is spanned by its neighbours
 abbrev pub IsNeighbourSpan : Type 0
-IsNeighbourSpan = (p : ℕ) (weights : List ℕ) (relations : List (List Term)) → IsSetting p weights relations → (d : ℕ) → 0 < d → (f : List Term) → IsElement p weights d f
+IsNeighbourSpan = (p : ℕ) (weights : List ℕ) (relations : List (List Term)) → IsSetting p weights relations →
+    (d : ℕ) → 0 < d →
+    (f : List Term) → IsElement p weights d f
     → IsInIdeal p weights relations d f ↔ IsSpanned p (IsNeighbour p weights relations d) f

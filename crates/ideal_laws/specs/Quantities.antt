@@ -1,5 +1,6 @@
 -- The quantities of a degree, and which of them passes its limit first.
-use Rattle.std.specs.Prelude.{ℕ, ◌≡◌, ◌+◌, ◌*◌, ◌-◌, ◌^◌, ◌<◌, ◌≤◌, ◌↔◌, ◌⊎◌, min, List, [], ◌∷◌, ◌++◌, AllPairs, Contains, Option, Some, None, map, length}
+use Rattle.std.specs.Prelude.{ℕ, ◌≡◌, ◌+◌, ◌*◌, ◌-◌, ◌^◌, ◌<◌, ◌≤◌, ◌↔◌, ◌⊎◌, min, List, [], ◌∷◌, ◌++◌, AllPairs}
+use Rattle.std.specs.Prelude.{Contains, Option, Some, None, map, length}
 use Rattle.std.specs.List.{AllZip, flat_map}
 use Rattle.words.specs.Order.{IsLetterwiseGreater}
 use Rattle.words.specs.Words.{words_of_degree}
@@ -7,9 +8,11 @@ use Rattle.free_poly.specs.declared.term.Term.{Term}
 use Rattle.free_poly.specs.Terms.{HasResidues, IsSame}
 use Rattle.free_poly.specs.Poly.{IsPolynomial}
 use Rattle.ideal_laws.specs.declared.limits.LimitKind.{LimitKind}
-use Rattle.ideal_laws.specs.declared.limits.LimitKind.TheVariants.{PlainWords, Rows, Columns, Entries, Cells, Terms, NormalWords}
+use Rattle.ideal_laws.specs.declared.limits.LimitKind.TheVariants.{PlainWords, Rows, Columns, Entries, Cells, Terms}
+use Rattle.ideal_laws.specs.declared.limits.LimitKind.TheVariants.{NormalWords}
 use Rattle.ideal_laws.specs.Basis.{IsReducedBasis}
-use Rattle.ideal_laws.specs.Closure.{AreColumns, AreObstructions, HasReducer, IsNormal, IsObstruction, Overlap, obstruction_row}
+use Rattle.ideal_laws.specs.Closure.{AreColumns, AreObstructions, HasReducer, IsNormal, IsObstruction, Overlap}
+use Rattle.ideal_laws.specs.Closure.{obstruction_row}
 use Rattle.ideal_laws.specs.Engine.{Elements, of_degree}
 use Rattle.ideal_laws.specs.Kept.{IsBelow}
 use Rattle.ideal_laws.specs.Laws.{IsSetting}
@@ -23,14 +26,16 @@ abbrev pub terms_in : List (List Term) → ℕ
 terms_in fs = length (flat_map (λ f. f) fs)
 
 -- the polynomial of an obstruction
-pub record IsRowOf (p : ℕ) (weights : List ℕ) (G : List (List Term)) (d : ℕ) (o : Overlap) (row : List Term) : Type 0 where
+pub record IsRowOf (p : ℕ) (weights : List ℕ) (G : List (List Term)) (d : ℕ) (o : Overlap) (row : List Term) : Type
+    0 where
   pub obstruction : IsObstruction weights G d o.left o.right o.before o.shared o.behind
   pub form : IsPolynomial row
   pub residues : HasResidues p row
   pub same : IsSame p row (obstruction_row p obstruction.first o.behind o.before obstruction.second)
 
 -- the relations of degree d, and then the rows of its obstructions
-pub record AreRows (p : ℕ) (weights : List ℕ) (relations G : List (List Term)) (d : ℕ) (rows : List (List Term)) : Type 0 where
+pub record AreRows (p : ℕ) (weights : List ℕ) (relations G : List (List Term)) (d : ℕ)
+    (rows : List (List Term)) : Type 0 where
   pub overlaps : List Overlap
   pub overlap_rows : List (List Term)
   pub are_obstructions : AreObstructions weights G d overlaps
@@ -38,7 +43,9 @@ pub record AreRows (p : ℕ) (weights : List ℕ) (relations G : List (List Term
   pub joined : rows ≡ of_degree weights d relations ++ overlap_rows
 
 -- the columns of the rows, each with its reducer or none
-pub record AreClosed (p : ℕ) (weights : List ℕ) (relations G : List (List Term)) (d : ℕ) (rows : List (List Term)) (columns : List (List ℕ)) (reducers : List (Option (List Term))) : Type 0 where
+pub record AreClosed (p : ℕ) (weights : List ℕ) (relations G : List (List Term)) (d : ℕ) (rows : List (List Term))
+    (columns : List (List ℕ))
+    (reducers : List (Option (List Term))) : Type 0 where
   pub are_rows : AreRows p weights relations G d rows
   pub are_columns : AreColumns G (words_of rows) columns
   pub are_reducers : AllZip (HasReducer G) columns reducers
@@ -70,23 +77,33 @@ pub record AreNormalWords (weights : List ℕ) (G : List (List Term)) (d : ℕ) 
 -- what each quantity of degree d is, over the reduced basis of the degrees below
 abbrev pub IsQuantity : ℕ → List ℕ → List (List Term) → Elements → ℕ → LimitKind → ℕ → Type 0
 IsQuantity p weights relations below d PlainWords q = q ≡ length (words_of_degree weights d)
-IsQuantity p weights relations below d Rows q = (overlaps : List Overlap) × AreObstructions weights below.elements d overlaps × (q ≡ length (of_degree weights d relations) + length overlaps)
+IsQuantity p weights relations below d Rows q = (overlaps : List Overlap)
+    × AreObstructions weights below.elements d overlaps
+    × (q ≡ length (of_degree weights d relations) + length overlaps)
 IsQuantity p weights relations below d Columns q =
-    (rows : List (List Term)) × (columns : List (List ℕ)) × AreRows p weights relations below.elements d rows × AreColumns below.elements (words_of rows) columns × (q ≡ length columns)
+    (rows : List (List Term)) × (columns : List (List ℕ)) × AreRows p weights relations below.elements d rows
+    × AreColumns below.elements (words_of rows) columns × (q ≡ length columns)
 IsQuantity p weights relations below d Entries q =
-    (rows : List (List Term)) × (columns : List (List ℕ)) × (reducers : List (Option (List Term))) × AreClosed p weights relations below.elements d rows columns reducers
+    (rows : List (List Term)) × (columns : List (List ℕ)) × (reducers : List (Option (List Term)))
+    × AreClosed p weights relations below.elements d rows columns reducers
     × (q ≡ terms_in rows + terms_in (reducers_in reducers))
 IsQuantity p weights relations below d Cells q =
-    (rows : List (List Term)) × (columns : List (List ℕ)) × (reducers : List (Option (List Term))) × AreClosed p weights relations below.elements d rows columns reducers
+    (rows : List (List Term)) × (columns : List (List ℕ)) × (reducers : List (Option (List Term)))
+    × AreClosed p weights relations below.elements d rows columns reducers
     × (q ≡ length rows * contested_in reducers)
-IsQuantity p weights relations below d Terms q = (basis : List (List Term)) × IsReducedBasis p weights relations d basis × (q ≡ terms_in below.elements + terms_in basis)
+IsQuantity p weights relations below d Terms q = (basis : List (List Term)) × IsReducedBasis p weights relations d basis
+    × (q ≡ terms_in below.elements + terms_in basis)
 IsQuantity p weights relations below d NormalWords q =
-    (basis : List (List Term)) × (words : List (List ℕ)) × IsReducedBasis p weights relations d basis × AreNormalWords weights (below.elements ++ basis) d words × (q ≡ length words)
+    (basis : List (List Term)) × (words : List (List ℕ)) × IsReducedBasis p weights relations d basis
+    × AreNormalWords weights (below.elements ++ basis) d words × (q ≡ length words)
 
 -- over a reduced basis each quantity is at most one number
 abbrev pub HasOneQuantity : Type 0
-HasOneQuantity = (p : ℕ) (weights : List ℕ) (relations : List (List Term)) → IsSetting p weights relations → (d : ℕ) (below : Elements) → IsBelow p weights relations d below
-    → (kind : LimitKind) (q r : ℕ) → IsQuantity p weights relations below d kind q → IsQuantity p weights relations below d kind r → q ≡ r
+HasOneQuantity = (p : ℕ) (weights : List ℕ) (relations : List (List Term)) → IsSetting p weights relations →
+    (d : ℕ) (below : Elements) →
+    IsBelow p weights relations d below
+    → (kind : LimitKind) (q r : ℕ) → IsQuantity p weights relations below d kind q →
+    IsQuantity p weights relations below d kind r → q ≡ r
 
 -- what each quantity is
 abbrev pub Quantities : Type 1
@@ -117,10 +134,13 @@ NonePasses Q (l ∷ ls) = ((q : ℕ) × Q l.0 q × (q ≤ l.1)) × NonePasses Q 
 -- in each degree from 1 to d none passes
 abbrev pub NonePassesUpto : ℕ → List ℕ → List (List Term) → List (LimitKind × ℕ) → ℕ → Type 0
 NonePassesUpto p weights relations limits d =
-    (e : ℕ) → 0 < e → e ≤ d → (below : Elements) × IsBelow p weights relations e below × NonePasses (IsQuantity p weights relations below e) limits
+    (e : ℕ) → 0 < e → e ≤ d → (below : Elements) × IsBelow p weights relations e below
+    × NonePasses (IsQuantity p weights relations below e) limits
 
 -- the first degree up to a bound in which a quantity passes, and the first one there
-pub record IsFirstRefused (p : ℕ) (weights : List ℕ) (relations : List (List Term)) (limits : List (LimitKind × ℕ)) (bound : ℕ) (kind : LimitKind) (d value : ℕ) : Type 0 where
+pub record IsFirstRefused (p : ℕ) (weights : List ℕ) (relations : List (List Term)) (limits : List (LimitKind × ℕ))
+    (bound : ℕ)
+    (kind : LimitKind) (d value : ℕ) : Type 0 where
   pub from : 0 < d
   pub upto : d ≤ bound
   pub before : NonePassesUpto p weights relations limits (d - 1)

@@ -34,18 +34,22 @@ pub fn advance<R: Threads + Sync, E: DegreeEngine>(
     ensures weights { basis.new.weights ≡ basis.old.weights }
     ensures kept { IsKept basis.old × IsKept basis.new }
     ensures done { OnOk result (basis.new.done ≡ basis.old.done + 1) }
-    ensures elements { OnOk result ((added : List (List Term)) × IsReducedBasis field.now basis.old.weights presentation.now.relations (basis.old.done + 1) added
+    ensures elements { OnOk result ((added : List (List Term))
+        × IsReducedBasis field.now basis.old.weights presentation.now.relations (basis.old.done + 1) added
         × (basis.new.elements ≡ basis.old.elements ++ added)) }
     ensures reduced { OnOk result (IsReducedUpto field.now presentation.now.relations basis.new) }
     ensures account { IfOk result (E.may_account engine.old field.now presentation.now basis.old (basis.old.done + 1)) }
-    ensures within { OnOk result (NonePasses (IsQuantity field.now basis.old.weights presentation.now.relations basis.old (basis.old.done + 1)) (E.kinds engine.old)) }
+    ensures within { OnOk result (NonePasses (IsQuantity field.now basis.old.weights presentation.now.relations
+        basis.old (basis.old.done + 1)) (E.kinds engine.old)) }
 
     ensures limit { (kind : LimitKind) (degree value : ℕ) → result ≡ Err (EngineFault.Limit kind degree value)
-        → (degree ≡ basis.old.done + 1) × IsFirstPassing (IsQuantity field.now basis.old.weights presentation.now.relations basis.old (basis.old.done + 1)) (E.kinds engine.old) kind value }
+        → (degree ≡ basis.old.done + 1) × IsFirstPassing (IsQuantity field.now basis.old.weights
+        presentation.now.relations basis.old (basis.old.done + 1)) (E.kinds engine.old) kind value }
     ensures unchanged { OnErr result (basis.new ≡ basis.old) }
 
     ensures kinds { E.kinds engine.new ≡ E.kinds engine.old }
-    ensures accounts { (p : ℕ) (rs : Presentation) (b : Elements) (e : ℕ) (a : Account) → E.may_account engine.new p rs b e a ↔ E.may_account engine.old p rs b e a }
+    ensures accounts { (p : ℕ) (rs : Presentation) (b : Elements) (e : ℕ) (a : Account) →
+        E.may_account engine.new p rs b e a ↔ E.may_account engine.old p rs b e a }
 {
     let d = basis.done() + 1;
     let report = engine.degree(rt, alloc, field, presentation, basis, d)?;
@@ -72,13 +76,16 @@ pub fn run<R: Threads + Sync, E: DegreeEngine>(
     ensures weights { IfOk result (λ basis. basis.weights ≡ presentation.now.alphabet.weights) }
     ensures kept { IfOk result IsKept }
     ensures reduced { IfOk result (IsReducedUpto field.now presentation.now.relations) }
-    ensures within { OnOk result (NonePassesUpto field.now presentation.now.alphabet.weights presentation.now.relations (E.kinds engine.old) bound) }
+    ensures within { OnOk result (NonePassesUpto field.now presentation.now.alphabet.weights
+        presentation.now.relations (E.kinds engine.old) bound) }
 
     ensures limit { (kind : LimitKind) (degree value : ℕ) → result ≡ Err (EngineFault.Limit kind degree value)
-        → IsFirstRefused field.now presentation.now.alphabet.weights presentation.now.relations (E.kinds engine.old) bound kind degree value }
+        → IsFirstRefused field.now presentation.now.alphabet.weights presentation.now.relations (E.kinds engine.old)
+        bound kind degree value }
 
     ensures kinds { E.kinds engine.new ≡ E.kinds engine.old }
-    ensures accounts { (p : ℕ) (rs : Presentation) (b : Elements) (e : ℕ) (a : Account) → E.may_account engine.new p rs b e a ↔ E.may_account engine.old p rs b e a }
+    ensures accounts { (p : ℕ) (rs : Presentation) (b : Elements) (e : ℕ) (a : Account) →
+        E.may_account engine.new p rs b e a ↔ E.may_account engine.old p rs b e a }
 {
     let mut basis = Basis::new(alloc, &presentation.alphabet);
     for _degree in 0..bound {

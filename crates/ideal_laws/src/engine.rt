@@ -82,14 +82,19 @@ pub trait DegreeEngine {
         requires reduced { IsReducedUpto field.now presentation.now.relations below.now }
         requires residues { All (HasResidues field.now) presentation.now.relations }
 
-        ensures elements { IfOk result (λ report. IsReducedBasis field.now presentation.now.alphabet.weights presentation.now.relations d report.elements) }
+        ensures elements { IfOk result (λ report. IsReducedBasis field.now presentation.now.alphabet.weights
+            presentation.now.relations d report.elements) }
         ensures few { IfOk result (λ report. length report.elements ≤ 16777216) }
-        ensures account { IfOk result (λ report. may_account self.old field.now presentation.now below.now d report.account) }
-        ensures within { OnOk result (NonePasses (IsQuantity field.now presentation.now.alphabet.weights presentation.now.relations below.now d) (kinds self.old)) }
+        ensures account { IfOk result (λ report. may_account self.old field.now presentation.now below.now d
+            report.account) }
+        ensures within { OnOk result (NonePasses (IsQuantity field.now presentation.now.alphabet.weights
+            presentation.now.relations below.now d) (kinds self.old)) }
 
         ensures limit { (kind : LimitKind) (degree value : ℕ) → result ≡ Err (EngineFault.Limit kind degree value)
-            → (degree ≡ d) × IsFirstPassing (IsQuantity field.now presentation.now.alphabet.weights presentation.now.relations below.now d) (kinds self.old) kind value }
+            → (degree ≡ d) × IsFirstPassing (IsQuantity field.now presentation.now.alphabet.weights
+            presentation.now.relations below.now d) (kinds self.old) kind value }
 
         ensures kinds { kinds self.new ≡ kinds self.old }
-        ensures accounts { (p : ℕ) (rs : Presentation) (b : Elements) (e : ℕ) (a : Account) → may_account self.new p rs b e a ↔ may_account self.old p rs b e a };
+        ensures accounts { (p : ℕ) (rs : Presentation) (b : Elements) (e : ℕ) (a : Account) →
+            may_account self.new p rs b e a ↔ may_account self.old p rs b e a };
 }

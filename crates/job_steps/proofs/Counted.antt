@@ -17,18 +17,21 @@ use Rattle.job_steps.specs.Gains.{IsUnwritten}
 use Rattle.job_steps.specs.Printing.{IsCutSeries, IsSeriesDue, IsSeriesUndone, IsWholeSeries}
 use Rattle.job_steps.specs.Progress.{AreSmallBelow}
 
-module _ (law : CountsCoefficients) (p : ℕ) (letters : Letters) (relations : List (List Term)) (basis : Elements) (st : IsSetting p letters.weights relations) (same : basis.weights ≡ letters.weights) (kept : IsKept basis)
+module _ (law : CountsCoefficients) (p : ℕ) (letters : Letters) (relations : List (List Term)) (basis : Elements)
+    (st : IsSetting p letters.weights relations) (same : basis.weights ≡ letters.weights) (kept : IsKept basis)
     (reduced : IsReducedUpto p relations basis) (limit : ℕ) where
   pub coefficient : (d n : ℕ) → d ≤ basis.done → IsCount basis.weights basis.elements d n → IsHilbertCoefficient p letters.weights relations d n
   coefficient d n le c =
       subst (λ (ws : List ℕ). IsHilbertCoefficient p ws relations d n) same
       (law p relations basis (subst (λ (ws : List ℕ). IsSetting p ws relations) (sym same) st) kept reduced d n le c)
 
-  small_from_counts : (d : ℕ) (numbers : List ℕ) → d ≤ basis.done + 1 → AreCounts basis.weights basis.elements limit d numbers → AreSmallBelow p letters.weights relations limit d
+  small_from_counts : (d : ℕ) (numbers : List ℕ) → d ≤ basis.done + 1 → AreCounts basis.weights basis.elements limit d numbers →
+      AreSmallBelow p letters.weights relations limit d
   small_from_counts d numbers le c e below =
       (get_or numbers e 0, coefficient e (get_or numbers e 0) (omega (arith, le, below)) (c.each e below), c.few e 0 (omega (arith, c.size, below)))
 
-  printed_from_counts : (d : ℕ) (numbers : List ℕ) → d ≤ basis.done → AreCounts basis.weights basis.elements limit (d + 1) numbers → IsSeriesText p letters relations d (series_text numbers)
+  printed_from_counts : (d : ℕ) (numbers : List ℕ) → d ≤ basis.done → AreCounts basis.weights basis.elements limit (d + 1) numbers →
+      IsSeriesText p letters relations d (series_text numbers)
   printed_from_counts d numbers le c = record {
     numbers = numbers;
     count = c.size;
@@ -36,7 +39,9 @@ module _ (law : CountsCoefficients) (p : ℕ) (letters : Letters) (relations : L
     printed = refl;
   }
 
-  pub whole_from_counts : (bound : ℕ) (numbers : List ℕ) → bound ≡ basis.done → AreCounts basis.weights basis.elements limit (bound + 1) numbers → IsWholeSeries p letters relations limit basis.done (series_text numbers)
+  pub whole_from_counts : (bound : ℕ) (numbers : List ℕ) → bound ≡ basis.done →
+      AreCounts basis.weights basis.elements limit (bound + 1) numbers →
+      IsWholeSeries p letters relations limit basis.done (series_text numbers)
   whole_from_counts bound numbers is c =
       let at = subst (λ (n : ℕ). AreCounts basis.weights basis.elements limit (n + 1) numbers) is c in
       record {
@@ -54,7 +59,9 @@ module _ (law : CountsCoefficients) (p : ℕ) (letters : Letters) (relations : L
         absurd (omega (arith, at.rest, some, large))
   ]
 
-  pub cut_from_large : 0 < limit → (bound d value : ℕ) (below : List ℕ) → bound ≡ basis.done → IsFirstLarge basis.weights basis.elements limit bound d value below → IsCutSeries p letters relations limit basis.done d value (series_text below)
+  pub cut_from_large : 0 < limit → (bound d value : ℕ) (below : List ℕ) → bound ≡ basis.done →
+      IsFirstLarge basis.weights basis.elements limit bound d value below →
+      IsCutSeries p letters relations limit basis.done d value (series_text below)
   cut_from_large some bound d value below is h =
       let number = coefficient d h.number (omega (arith, h.upto, is)) h.is_number in
       let from = some_degree some d h.number h.large number in
@@ -68,11 +75,13 @@ module _ (law : CountsCoefficients) (p : ℕ) (letters : Letters) (relations : L
           large = h.large;
           kept = h.kept;
         };
-        printed = printed_from_counts (d - 1) below (omega (arith, h.upto, is)) (subst (λ (n : ℕ). AreCounts basis.weights basis.elements limit n below) back h.before);
+        printed = printed_from_counts (d - 1) below (omega (arith, h.upto, is))
+            (subst (λ (n : ℕ). AreCounts basis.weights basis.elements limit n below) back h.before);
       }
 
   -- a series that was not written
-  pub undone_from_unwritten : (h k : Option (List ℕ)) (r : Option ℕ) (f g : ℕ) (text : List ℕ) (fault : PrintFault) → IsSeriesDue p letters relations limit basis.done text → IsUnwritten h k r f g text fault
+  pub undone_from_unwritten : (h k : Option (List ℕ)) (r : Option ℕ) (f g : ℕ) (text : List ℕ) (fault : PrintFault) →
+      IsSeriesDue p letters relations limit basis.done text → IsUnwritten h k r f g text fault
       → IsSeriesUndone p letters relations limit basis.done h k r f g fault
   undone_from_unwritten h k r f g text (Limit kind d value) due u = absurd u
   undone_from_unwritten h k r f g text WriteFault due u = (u.0, (text, due, u.1))

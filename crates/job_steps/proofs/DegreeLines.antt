@@ -1,5 +1,6 @@
 -- The lines of a degree are those of the elements that stand together in a basis.
-use Rattle.std.proofs.Common.{not, ◌≡◌, ◌≢◌, ◌+◌, ◌-◌, ◌<◌, ◌≤◌, ℕ, Bool, true, false, List, [], ◌∷◌, ◌++◌, length, get_or, take, drop, refl, sym, ap, ◌∙◌, inr, arith, subst, All, Result, Ok, Err, IfErr}
+use Rattle.std.proofs.Common.{not, ◌≡◌, ◌≢◌, ◌+◌, ◌-◌, ◌<◌, ◌≤◌, ℕ, Bool, true, false, List, [], ◌∷◌, ◌++◌, length, get_or, take, drop, refl, sym, ap}
+use Rattle.std.proofs.Common.{◌∙◌, inr, arith, subst, All, Result, Ok, Err, IfErr}
 use Rattle.std.specs.List.{flat_map, slice_range}
 use Rattle.std.specs.declared.option.Option.{Option}
 use Rattle.std.proofs.Math.Seq.{drop-cons, take-add}
@@ -59,22 +60,28 @@ module _ (names : List (List ℕ)) (p : ℕ) (xs : List (List Term)) where
 
   lines_more : (a b : ℕ) (f : List Term) → a ≤ b → b < length xs → f ≡ get_or xs b f → lines a (b + 1) ≡ lines a b ++ element_line names p f
   lines_more a b f low within is =
-      ap (flat_map (element_line names p)) (slice_split xs a b (b + 1) low (omega arith) ∙ ap (λ (l : List (List Term)). slice_range xs a b ++ l) (slice_one xs b f within))
+      ap (flat_map (element_line names p)) (slice_split xs a b (b + 1) low (omega arith)
+      ∙ ap (λ (l : List (List Term)). slice_range xs a b ++ l) (slice_one xs b f within))
       ∙ flat_map-append (element_line names p) (slice_range xs a b) (get_or xs b f ∷ [])
       ∙ ap (λ (l : List ℕ). lines a b ++ l) (append-nil (element_line names p (get_or xs b f)) ∙ ap (element_line names p) (sym is))
 
   lines_begin : (a b c : ℕ) → a ≤ b → b ≤ c → IsBeginning (lines a b) (lines a c)
   lines_begin a b c low high = record {
     rest = lines b c;
-    joined = ap (flat_map (element_line names p)) (slice_split xs a b c low high) ∙ flat_map-append (element_line names p) (slice_range xs a b) (slice_range xs b c);
+    joined = ap (flat_map (element_line names p)) (slice_split xs a b c low high)
+        ∙ flat_map-append (element_line names p) (slice_range xs a b) (slice_range xs b c);
   }
 
-  module _ (h k m : Option (List ℕ)) (r s : Option ℕ) (f g n : ℕ) (a b c : ℕ) (element : List Term) (low : a ≤ b) (below : b < c) (within : c ≤ length xs) (is : element ≡ get_or xs b element) where
-    pub written_more : (t : Option ℕ) → GainsAll h k r s f g (lines a b) → GainsAll k m s t g n (element_line names p element) → GainsAll h m r t f n (lines a (b + 1))
+  module _ (h k m : Option (List ℕ)) (r s : Option ℕ) (f g n : ℕ) (a b c : ℕ) (element : List Term) (low : a ≤ b) (below : b < c)
+      (within : c ≤ length xs) (is : element ≡ get_or xs b element) where
+    pub written_more : (t : Option ℕ) → GainsAll h k r s f g (lines a b) → GainsAll k m s t g n (element_line names p element) →
+        GainsAll h m r t f n (lines a (b + 1))
     written_more t w v =
-        subst (GainsAll h m r t f n) (sym (lines_more a b element low (omega (arith, below, within)) is)) (all_behind h k m r s t f g n (lines a b) (element_line names p element) w v)
+        subst (GainsAll h m r t f n) (sym (lines_more a b element low (omega (arith, below, within)) is))
+        (all_behind h k m r s t f g n (lines a b) (element_line names p element) w v)
 
-    pub unwritten_more : (fault : PrintFault) → GainsAll h k r s f g (lines a b) → IsUnwritten k m s g n (element_line names p element) fault → IsUnwritten h m r f n (lines a c) fault
+    pub unwritten_more : (fault : PrintFault) → GainsAll h k r s f g (lines a b) →
+        IsUnwritten k m s g n (element_line names p element) fault → IsUnwritten h m r f n (lines a c) fault
     unwritten_more fault w u =
         unwritten_before h m r f n (lines a (b + 1)) (lines a c) fault (lines_begin a (b + 1) c (omega (arith, low)) (omega (arith, below)))
         (subst (λ (l : List ℕ). IsUnwritten h m r f n l fault) (sym (lines_more a b element low (omega (arith, below, within)) is))
@@ -84,23 +91,28 @@ module _ (names : List (List ℕ)) (p : ℕ) (xs : List (List Term)) where
   slice_some a b other low within e =
       let one = slice_split xs a (a + 1) b (omega arith) (omega (arith, low, λ (same : a ≡ b). other same)) in
       no_head (get_or xs a []) (slice_range xs (a + 1) b)
-      (ap (λ (l : List (List Term)). l ++ slice_range xs (a + 1) b) (sym (slice_one xs a [] (omega (arith, low, within, λ (same : a ≡ b). other same)))) ∙ sym one ∙ e)
+      (ap (λ (l : List (List Term)). l ++ slice_range xs (a + 1) b)
+      (sym (slice_one xs a [] (omega (arith, low, within, λ (same : a ≡ b). other same)))) ∙ sym one ∙ e)
     where
       no_head : (x : List Term) (rest : List (List Term)) → (x ∷ []) ++ rest ≡ [] → ⊥
       no_head x rest e = cc e
 
-degree_text-some : (names : List (List ℕ)) (p d : ℕ) (fs : List (List Term)) → fs ≢ [] → degree_text names p d fs ≡ head_line d ++ flat_map (element_line names p) fs
+degree_text-some : (names : List (List ℕ)) (p d : ℕ) (fs : List (List Term)) → fs ≢ [] →
+    degree_text names p d fs ≡ head_line d ++ flat_map (element_line names p) fs
 degree_text-some names p d [] other = absurd (other refl)
 degree_text-some names p d (f ∷ fs) other = refl
 
 -- the text of a degree that has elements, from the place of the first to past the last
-pub degree_lines : (names : List (List ℕ)) (p : ℕ) (weights : List ℕ) (d done : ℕ) (xs : List (List Term)) (a b : ℕ) → d ≡ done → slice_range xs a b ≡ of_degree weights d xs → (a ≡ b → ⊥) → a ≤ b → b ≤ length xs
+pub degree_lines : (names : List (List ℕ)) (p : ℕ) (weights : List ℕ) (d done : ℕ) (xs : List (List Term)) (a b : ℕ) → d ≡ done →
+    slice_range xs a b ≡ of_degree weights d xs → (a ≡ b → ⊥) → a ≤ b → b ≤ length xs
     → degree_text names p done (of_degree weights done xs) ≡ head_line d ++ flat_map (element_line names p) (slice_range xs a b)
 degree_lines names p weights d done xs a b is same other low within =
-    ap (λ (n : ℕ). degree_text names p n (of_degree weights n xs)) (sym is) ∙ ap (degree_text names p d) (sym same) ∙ degree_text-some names p d (slice_range xs a b) (slice_some names p xs a b other low within)
+    ap (λ (n : ℕ). degree_text names p n (of_degree weights n xs)) (sym is) ∙ ap (degree_text names p d) (sym same)
+    ∙ degree_text-some names p d (slice_range xs a b) (slice_some names p xs a b other low within)
 
 -- a basis that has grown by a degree
-module _ (p : ℕ) (letters : Letters) (relations : List (List Term)) (limits : List (LimitKind × ℕ)) (old new : Elements) (same : old.weights ≡ letters.weights) (kept_weights : new.weights ≡ old.weights) (done : new.done ≡ old.done + 1)
+module _ (p : ℕ) (letters : Letters) (relations : List (List Term)) (limits : List (LimitKind × ℕ)) (old new : Elements)
+    (same : old.weights ≡ letters.weights) (kept_weights : new.weights ≡ old.weights) (done : new.done ≡ old.done + 1)
     (reduced : IsReducedUpto p relations new) (passes_none : NonePasses (IsQuantity p old.weights relations old (old.done + 1)) limits) where
   abbrev added : List (List Term)
   added = of_degree new.weights new.done new.elements
@@ -115,14 +127,17 @@ module _ (p : ℕ) (letters : Letters) (relations : List (List Term)) (limits : 
   lines_are : (shows : Bool) → shows ≡ true → degree_text letters.names p new.done added ≡ lines_of shows letters.names p (old.done + 1) added
   lines_are shows is = ap (λ (n : ℕ). degree_text letters.names p n added) done ∙ ap (λ (b : Bool). lines_of b letters.names p (old.done + 1) added) (sym is)
 
-  pub shown_next : (shows : Bool) (h k : Option (List ℕ)) (r s : Option ℕ) (f g : ℕ) → shows ≡ true → GainsAll h k r s f g (degree_text letters.names p new.done added)
+  pub shown_next : (shows : Bool) (h k : Option (List ℕ)) (r s : Option ℕ) (f g : ℕ) → shows ≡ true →
+      GainsAll h k r s f g (degree_text letters.names p new.done added)
       → OfNext p letters relations limits old shows (GainsAll h k r s f g)
   shown_next shows h k r s f g is w = (added, is_next, subst (GainsAll h k r s f g) (lines_are shows is) w)
 
-  pub hidden_next : (shows : Bool) (h k : Option (List ℕ)) (r s : Option ℕ) (f g : ℕ) → shows ≡ false → GainsAll h k r s f g [] → OfNext p letters relations limits old shows (GainsAll h k r s f g)
+  pub hidden_next : (shows : Bool) (h k : Option (List ℕ)) (r s : Option ℕ) (f g : ℕ) → shows ≡ false → GainsAll h k r s f g [] →
+      OfNext p letters relations limits old shows (GainsAll h k r s f g)
   hidden_next shows h k r s f g is w = (added, is_next, subst (λ (b : Bool). GainsAll h k r s f g (lines_of b letters.names p (old.done + 1) added)) (sym is) w)
 
-  pub undone_shown : (shows : Bool) (h k : Option (List ℕ)) (r : Option ℕ) (f g : ℕ) (Here Next : Type 0) (fault : PrintFault) → shows ≡ true → Next → IsUnwritten h k r f g (degree_text letters.names p new.done added) fault
+  pub undone_shown : (shows : Bool) (h k : Option (List ℕ)) (r : Option ℕ) (f g : ℕ) (Here Next : Type 0) (fault : PrintFault) →
+      shows ≡ true → Next → IsUnwritten h k r f g (degree_text letters.names p new.done added) fault
       → IsNextUndone p letters relations limits old shows h k r f g Here Next fault
   undone_shown shows h k r f g Here Next (Limit kind d value) is next u = absurd u
   undone_shown shows h k r f g Here Next WriteFault is next u = (u.0, (added, is_next, subst (GainsPart h k r) (lines_are shows is) u.1), next)
@@ -130,5 +145,7 @@ module _ (p : ℕ) (letters : Letters) (relations : List (List Term)) (limits : 
 
   pub residues_of : IsSetting p letters.weights relations → IsKept new → All (HasResidues p) new.elements
   residues_of st kept =
-      let below : IsBelow p letters.weights relations (new.done + 1) new = record { kept = kept; next = refl; same_weights = kept_weights ∙ same; reduced = reduced } in
-      All-from_members (HasResidues p) new.elements (λ g m. ((lists_lower p letters.weights relations st (new.done + 1) new below g).0 m).2.inside.element.residues)
+      let below : IsBelow p letters.weights relations (new.done + 1) new =
+      record { kept = kept; next = refl; same_weights = kept_weights ∙ same; reduced = reduced } in
+      All-from_members (HasResidues p) new.elements (λ g m. ((lists_lower p letters.weights relations st (new.done + 1) new below g).0
+      m).2.inside.element.residues)

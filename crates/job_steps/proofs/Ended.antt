@@ -55,10 +55,12 @@ module _ (t : Task) (text : List ℕ) (so_far : IsBasisSoFar t t.bound text) whe
       joined = refl;
     }
 
-    cut_reach : (d value : ℕ) (series : List ℕ) → IsCutSeries t.modulus t.letters t.relations t.normal_words t.bound d value series → IsReach t (crowded d value)
+    cut_reach : (d value : ℕ) (series : List ℕ) → IsCutSeries t.modulus t.letters t.relations t.normal_words t.bound d value series →
+        IsReach t (crowded d value)
     cut_reach d value series h = (so_far.passes_none, shows, h.upto, h.large)
 
-    cut_text : (d value : ℕ) (series : List ℕ) → IsCutSeries t.modulus t.letters t.relations t.normal_words t.bound d value series → IsText t (crowded d value) (text ++ series)
+    cut_text : (d value : ℕ) (series : List ℕ) → IsCutSeries t.modulus t.letters t.relations t.normal_words t.bound d value series →
+        IsText t (crowded d value) (text ++ series)
     cut_text d value series h = record {
       basis = text;
       series = series;
@@ -71,7 +73,8 @@ module _ (t : Task) (text : List ℕ) (so_far : IsBasisSoFar t t.bound text) whe
     due_with_series series (inl h) = inr (whole, whole_reach series h, whole_text series h, refl)
     due_with_series series (inr h) = inr (crowded h.0 h.1, cut_reach h.0 h.1 series h.2, cut_text h.0 h.1 series h.2, refl)
 
-    pub done_with_series : (a b c : Option (List ℕ)) (r q s : Option ℕ) (f g h : ℕ) (series : List ℕ) → GainsAll a b r q f g text → IsWholeSeries t.modulus t.letters t.relations t.normal_words t.bound series
+    pub done_with_series : (a b c : Option (List ℕ)) (r q s : Option ℕ) (f g h : ℕ) (series : List ℕ) → GainsAll a b r q f g text →
+        IsWholeSeries t.modulus t.letters t.relations t.normal_words t.bound series
         → GainsAll b c q s g h series → HasPrinted t whole a c
     done_with_series a b c r q s f g h series w is v = record {
       is_reach = whole_reach series is;
@@ -80,7 +83,9 @@ module _ (t : Task) (text : List ℕ) (so_far : IsBasisSoFar t t.bound text) whe
       appended = Appends-trans a b c text series w.appended v.appended;
     }
 
-    pub undone_series : IsSetting t.modulus t.letters.weights t.relations → (a b c : Option (List ℕ)) (r q : Option ℕ) (f g h : ℕ) (Holds : ℕ → Type 0) (fault : PrintFault) → Holds t.bound → GainsAll a b r q f g text
+    pub undone_series : IsSetting t.modulus t.letters.weights t.relations →
+        (a b c : Option (List ℕ)) (r q : Option ℕ) (f g h : ℕ) (Holds : ℕ → Type 0) (fault : PrintFault) → Holds t.bound →
+        GainsAll a b r q f g text
         → IsSeriesUndone t.modulus t.letters t.relations t.normal_words t.bound b c q g h fault → IsUndone t a c r f h Holds fault
     undone_series st a b c r q f g h Holds (Limit kind d value) holds w u = (
       crowded d value,
@@ -94,10 +99,15 @@ module _ (t : Task) (text : List ℕ) (so_far : IsBasisSoFar t t.bound text) whe
       holds,
     )
     undone_series st a b c r q f g h Holds WriteFault holds w u =
-        let due = due_with_series u.1.0 u.1.1 in
-        (rose_from f g h w.kept u.0, part_upto t st a c r Holds t.bound (text ++ u.1.0) due (part_behind a b c r q text u.1.0 w.appended w.falls u.1.2) (all_lines _ (part_front a b c r q text u.1.0 w.appended w.falls u.1.2)) holds)
+        let due = due_with_series u.1.0 u.1.1 in (
+          rose_from f g h w.kept u.0,
+          part_upto t st a c r Holds t.bound (text ++ u.1.0) due
+              (part_behind a b c r q text u.1.0 w.appended w.falls u.1.2)
+              (all_lines _ (part_front a b c r q text u.1.0 w.appended w.falls u.1.2)) holds,
+        )
     undone_series st a b c r q f g h Holds NoMemory holds w (inl none) =
         let part : GainsSome a c text = record { gained = text; appended = appended_none a b c text w.appended none; beginning = beginning_self text } in
         some_upto t st a c Holds t.bound text (inl so_far) part (all_lines text (beginning_self text)) holds
     undone_series st a b c r q f g h Holds NoMemory holds w (inr u) =
-        some_upto t st a c Holds t.bound (text ++ u.0) (due_with_series u.0 u.1) (some_behind a b c text u.0 w.appended u.2) (all_lines _ (some_front a b c text u.0 w.appended u.2)) holds
+        some_upto t st a c Holds t.bound (text ++ u.0) (due_with_series u.0 u.1) (some_behind a b c text u.0 w.appended u.2)
+        (all_lines _ (some_front a b c text u.0 w.appended u.2)) holds

@@ -67,14 +67,16 @@ room_kept (Some k) = omega arith
 pub all_none : (a : Option (List ℕ)) (r : Option ℕ) (f : ℕ) → GainsAll a a r r f f []
 all_none a r f = record { appended = Appends-nil a; falls = room_kept r; kept = refl }
 
-pub all_behind : (a b c : Option (List ℕ)) (r s t : Option ℕ) (f g h : ℕ) (x y : List ℕ) → GainsAll a b r s f g x → GainsAll b c s t g h y → GainsAll a c r t f h (x ++ y)
+pub all_behind : (a b c : Option (List ℕ)) (r s t : Option ℕ) (f g h : ℕ) (x y : List ℕ) → GainsAll a b r s f g x → GainsAll b c s t g h y →
+    GainsAll a c r t f h (x ++ y)
 all_behind a b c r s t f g h x y w v = record {
   appended = Appends-trans a b c x y w.appended v.appended;
   falls = subst (RoomFalls r t) (sym (length-append x y)) (RoomFalls-more r s t (length x) (length y) w.falls v.falls);
   kept = v.kept ∙ w.kept;
 }
 
-pub part_behind : (a b c : Option (List ℕ)) (r s : Option ℕ) (x y : List ℕ) → Appends a b x → RoomFalls r s (length x) → GainsPart b c s y → GainsPart a c r (x ++ y)
+pub part_behind : (a b c : Option (List ℕ)) (r s : Option ℕ) (x y : List ℕ) → Appends a b x → RoomFalls r s (length x) → GainsPart b c s y →
+    GainsPart a c r (x ++ y)
 part_behind a b c r s x y appended falls part = record {
   gained = x ++ part.gained;
   appended = Appends-trans a b c x part.gained appended part.appended;
@@ -90,11 +92,13 @@ some_behind a b c x y appended part = record {
 }
 
 -- what was gained behind a text begins with it
-pub part_front : (a b c : Option (List ℕ)) (r s : Option ℕ) (x y : List ℕ) (appended : Appends a b x) (falls : RoomFalls r s (length x)) (part : GainsPart b c s y) → IsBeginning x (part_behind a b c r s x y appended falls part).gained
+pub part_front : (a b c : Option (List ℕ)) (r s : Option ℕ) (x y : List ℕ) (appended : Appends a b x) (falls : RoomFalls r s (length x))
+    (part : GainsPart b c s y) → IsBeginning x (part_behind a b c r s x y appended falls part).gained
 unfolding part_behind
 part_front a b c r s x y appended falls part = beginning_front x part.gained
 
-pub some_front : (a b c : Option (List ℕ)) (x y : List ℕ) (appended : Appends a b x) (part : GainsSome b c y) → IsBeginning x (some_behind a b c x y appended part).gained
+pub some_front : (a b c : Option (List ℕ)) (x y : List ℕ) (appended : Appends a b x) (part : GainsSome b c y) →
+    IsBeginning x (some_behind a b c x y appended part).gained
 unfolding some_behind
 some_front a b c x y appended part = beginning_front x part.gained
 
@@ -105,12 +109,14 @@ some_none a x = record { gained = []; appended = Appends-nil a; beginning = reco
 pub appended_none : (a b c : Option (List ℕ)) (x : List ℕ) → Appends a b x → Appends b c [] → Appends a c x
 appended_none a b c x p q = subst (Appends a c) (append-nil x) (Appends-trans a b c x [] p q)
 
-pub unwritten_behind : (a b c : Option (List ℕ)) (r s : Option ℕ) (f g h : ℕ) (x y : List ℕ) (fault : PrintFault) → GainsAll a b r s f g x → IsUnwritten b c s g h y fault → IsUnwritten a c r f h (x ++ y) fault
+pub unwritten_behind : (a b c : Option (List ℕ)) (r s : Option ℕ) (f g h : ℕ) (x y : List ℕ) (fault : PrintFault) → GainsAll a b r s f g x →
+    IsUnwritten b c s g h y fault → IsUnwritten a c r f h (x ++ y) fault
 unwritten_behind a b c r s f g h x y (Limit kind d value) w u = absurd u
 unwritten_behind a b c r s f g h x y WriteFault w u = (rose_from f g h w.kept u.0, part_behind a b c r s x y w.appended w.falls u.1)
 unwritten_behind a b c r s f g h x y NoMemory w u = some_behind a b c x y w.appended u
 
-pub unwritten_before : (a c : Option (List ℕ)) (r : Option ℕ) (f h : ℕ) (x y : List ℕ) (fault : PrintFault) → IsBeginning x y → IsUnwritten a c r f h x fault → IsUnwritten a c r f h y fault
+pub unwritten_before : (a c : Option (List ℕ)) (r : Option ℕ) (f h : ℕ) (x y : List ℕ) (fault : PrintFault) → IsBeginning x y →
+    IsUnwritten a c r f h x fault → IsUnwritten a c r f h y fault
 unwritten_before a c r f h x y (Limit kind d value) b u = absurd u
 unwritten_before a c r f h x y WriteFault b u = (
   u.0,

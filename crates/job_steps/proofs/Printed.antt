@@ -1,5 +1,6 @@
 -- The basis so far grows by the lines of a degree.
-use Rattle.std.proofs.Common.{◌≡◌, ◌+◌, ◌-◌, ◌<◌, ◌≤◌, ℕ, Bool, true, false, List, [], ◌∷◌, ◌++◌, length, refl, sym, ap, ◌∙◌, inl, inr, arith, subst, append_assoc, length-append}
+use Rattle.std.proofs.Common.{◌≡◌, ◌+◌, ◌-◌, ◌<◌, ◌≤◌, ℕ, Bool, true, false, List, [], ◌∷◌, ◌++◌, length, refl, sym, ap, ◌∙◌, inl, inr, arith, subst}
+use Rattle.std.proofs.Common.{append_assoc, length-append}
 use Rattle.std.proofs.lemmas.Bool.{cases_lt}
 use Rattle.std.proofs.lemmas.List.{append-nil, get_or_append_left, get_or_push}
 use Rattle.std.specs.declared.option.Option.{Option}
@@ -19,38 +20,46 @@ use Rattle.job_steps.specs.Printing.{IsBasisUndone, IsNext, IsNextUndone, lines_
 use Rattle.job_steps.specs.Progress.{HasLinesBelow, IsBasisPart, IsBasisSoFar, IsBeginning, IsDue, IsPart, Task, refused}
 use Rattle.job_steps.proofs.Gaining.{appended_none, beginning_self, part_behind, part_front, rose_from, some_behind, some_front}
 
-pub degree_texts-append : (names : List (List ℕ)) (p d : ℕ) (xs ys : List (List (List Term))) → degree_texts names p d (xs ++ ys) ≡ degree_texts names p d xs ++ degree_texts names p (d + length xs) ys
+pub degree_texts-append : (names : List (List ℕ)) (p d : ℕ) (xs ys : List (List (List Term))) →
+    degree_texts names p d (xs ++ ys) ≡ degree_texts names p d xs ++ degree_texts names p (d + length xs) ys
 degree_texts-append names p d [] ys = ap (λ (n : ℕ). degree_texts names p n ys) (let e : d ≡ d + 0 = omega arith in e)
 degree_texts-append names p d (x ∷ xs) ys =
     let e : d + 1 + length xs ≡ d + length (x ∷ xs) = omega arith in
-    ap (λ (l : List ℕ). degree_text names p d x ++ l) (degree_texts-append names p (d + 1) xs ys ∙ ap (λ (n : ℕ). degree_texts names p (d + 1) xs ++ degree_texts names p n ys) e)
+    ap (λ (l : List ℕ). degree_text names p d x ++ l) (degree_texts-append names p (d + 1) xs ys
+    ∙ ap (λ (n : ℕ). degree_texts names p (d + 1) xs ++ degree_texts names p n ys) e)
     ∙ sym (append_assoc (degree_text names p d x) (degree_texts names p (d + 1) xs) (degree_texts names p (d + length (x ∷ xs)) ys))
 
 pub no_basis : (p : ℕ) (letters : Letters) (relations : List (List Term)) → IsBasisText p letters relations 0 []
 no_basis p letters relations = record { bases = []; count = refl; each = λ k within. absurd (omega (arith, within)); printed = refl }
 
 module _ (p : ℕ) (letters : Letters) (relations : List (List Term)) where
-  basis_next : (d : ℕ) (text : List ℕ) (elements : List (List Term)) → IsBasisText p letters relations d text → IsReducedBasis p letters.weights relations (d + 1) elements
+  basis_next : (d : ℕ) (text : List ℕ) (elements : List (List Term)) → IsBasisText p letters relations d text →
+      IsReducedBasis p letters.weights relations (d + 1) elements
       → IsBasisText p letters relations (d + 1) (text ++ degree_text letters.names p (d + 1) elements)
   basis_next d text elements h new = record {
     bases = h.bases ++ elements ∷ [];
     count = omega (arith, length-append h.bases (elements ∷ []), h.count);
     each = λ k within. elim (cases_lt k d) [
       | inl earlier ↦
-          subst (IsReducedBasis p letters.weights relations (k + 1)) (sym (get_or_append_left h.bases (elements ∷ []) [] k (omega (arith, earlier, h.count)))) (h.each k earlier)
+          subst (IsReducedBasis p letters.weights relations (k + 1)) (sym
+          (get_or_append_left h.bases (elements ∷ []) [] k (omega (arith, earlier, h.count)))) (h.each k earlier)
       | inr last ↦
           let is : k ≡ d = omega (arith, last, within) in
           let at : length h.bases ≡ k = omega (arith, h.count, is) in
-          subst (IsReducedBasis p letters.weights relations (k + 1)) (sym (get_or_push h.bases elements [] k at)) (subst (λ (n : ℕ). IsReducedBasis p letters.weights relations (n + 1) elements) (sym is) new)
+          subst (IsReducedBasis p letters.weights relations (k + 1)) (sym (get_or_push h.bases elements [] k at))
+          (subst (λ (n : ℕ). IsReducedBasis p letters.weights relations (n + 1) elements) (sym is) new)
     ];
     printed =
         let from : d + 1 ≡ 1 + length h.bases = omega (arith, h.count) in
         ap (λ (l : List ℕ). l ++ degree_text letters.names p (d + 1) elements) h.printed
-        ∙ ap (λ (l : List ℕ). basis_text letters.names p h.bases ++ l) (ap (λ (n : ℕ). degree_text letters.names p n elements) from ∙ sym (append-nil (degree_text letters.names p (1 + length h.bases) elements)))
+        ∙ ap (λ (l : List ℕ). basis_text letters.names p h.bases ++ l)
+        (ap (λ (n : ℕ). degree_text letters.names p n elements) from
+        ∙ sym (append-nil (degree_text letters.names p (1 + length h.bases) elements)))
         ∙ sym (degree_texts-append letters.names p 1 h.bases (elements ∷ []));
   }
 
-  part_next : (shows : Bool) (d : ℕ) (text : List ℕ) (elements : List (List Term)) → IsPart shows (IsBasisText p letters relations d) text → IsReducedBasis p letters.weights relations (d + 1) elements
+  part_next : (shows : Bool) (d : ℕ) (text : List ℕ) (elements : List (List Term)) → IsPart shows (IsBasisText p letters relations d) text →
+      IsReducedBasis p letters.weights relations (d + 1) elements
       → IsPart shows (IsBasisText p letters relations (d + 1)) (text ++ lines_of shows letters.names p (d + 1) elements)
   part_next true d text elements h new = basis_next d text elements h new
   part_next false d text elements h new = append-nil text ∙ h
@@ -75,19 +84,27 @@ pub record Stands (t : Task) (d : ℕ) (below : Elements) (text : List ℕ) : Ty
   pub so_far : IsBasisSoFar t d text
 
 pub stands_start : (t : Task) (below : Elements) → below.done ≡ 0 → below.weights ≡ t.letters.weights → IsKept below → Stands t 0 below []
-stands_start t below done weights kept = record { done = done; weights = weights; kept = kept; reduced = λ d from le. absurd (omega (arith, from, le, done)); so_far = so_far_start t }
+stands_start t below done weights kept = record {
+  done = done;
+  weights = weights;
+  kept = kept;
+  reduced = λ d from le. absurd (omega (arith, from, le, done));
+  so_far = so_far_start t;
+}
 
 module _ (t : Task) (d : ℕ) (below : Elements) (text : List ℕ) (s : Stands t d below text) (within : d < t.bound) where
   abbrev lines : List (List Term) → List ℕ
   lines elements = lines_of t.shows_basis t.letters.names t.modulus (below.done + 1) elements
 
-  pub so_far_next : (elements : List (List Term)) → IsNext t.modulus t.letters.weights t.relations t.limits below elements → IsBasisSoFar t (d + 1) (text ++ lines elements)
+  pub so_far_next : (elements : List (List Term)) → IsNext t.modulus t.letters.weights t.relations t.limits below elements →
+      IsBasisSoFar t (d + 1) (text ++ lines elements)
   so_far_next elements next = record {
     upto = omega (arith, within);
     passes_none = upto_next t.modulus t.letters.weights t.relations t.limits below s.kept s.weights s.reduced d s.done s.so_far.passes_none
         (subst (λ (ws : List ℕ). NonePasses (IsQuantity t.modulus ws t.relations below (below.done + 1)) t.limits) (sym s.weights) next.passes_none);
     is_basis = subst (λ (n : ℕ). IsBasisPart t (d + 1) (text ++ lines_of t.shows_basis t.letters.names t.modulus (n + 1) elements)) (sym s.done)
-        (part_next t.modulus t.letters t.relations t.shows_basis d text elements s.so_far.is_basis (subst (λ (n : ℕ). IsReducedBasis t.modulus t.letters.weights t.relations (n + 1) elements) s.done next.reduced));
+        (part_next t.modulus t.letters t.relations t.shows_basis d text elements s.so_far.is_basis
+        (subst (λ (n : ℕ). IsReducedBasis t.modulus t.letters.weights t.relations (n + 1) elements) s.done next.reduced));
   }
 
   due_next : (elements : List (List Term)) → IsNext t.modulus t.letters.weights t.relations t.limits below elements → IsDue t (d + 1) (text ++ lines elements)
@@ -97,12 +114,14 @@ module _ (t : Task) (d : ℕ) (below : Elements) (text : List ℕ) (s : Stands t
   lines_before e gained upto begins = record { degree = d; lines = text; so_far = s.so_far; begins = begins; upto = upto }
 
   -- a fault in the next degree
-  pub undone_next : (a b c : Option (List ℕ)) (r q : Option ℕ) (f g h : ℕ) (Here Next : Type 0) (Holds : ℕ → Type 0) → (Here → Holds d) → (Next → Holds (d + 1)) → (fault : PrintFault) → GainsAll a b r q f g text
+  pub undone_next : (a b c : Option (List ℕ)) (r q : Option ℕ) (f g h : ℕ) (Here Next : Type 0) (Holds : ℕ → Type 0) → (Here → Holds d) →
+      (Next → Holds (d + 1)) → (fault : PrintFault) → GainsAll a b r q f g text
       → IsNextUndone t.modulus t.letters t.relations t.limits below t.shows_basis b c q g h Here Next fault → IsBasisUndone t a c r f h Holds fault
   undone_next a b c r q f g h Here Next Holds here next (Limit kind e value) w u =
       let at : d ≡ e - 1 = omega (arith, u.0, s.done) in
       let printed : HasPrinted t (refused kind e value) a c = record {
-        is_reach = refused_next t.modulus t.letters.weights t.relations t.limits below s.kept s.weights s.reduced d t.bound s.done within s.so_far.passes_none kind e value
+        is_reach = refused_next t.modulus t.letters.weights t.relations t.limits below s.kept s.weights s.reduced d t.bound s.done within
+            s.so_far.passes_none kind e value
             (u.0, subst (λ (ws : List ℕ). IsFirstPassing (IsQuantity t.modulus ws t.relations below (below.done + 1)) t.limits kind value) (sym s.weights) u.1);
         text = text;
         is_text = subst (λ (n : ℕ). IsBasisPart t n text) at s.so_far.is_basis;

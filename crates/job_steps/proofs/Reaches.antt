@@ -1,5 +1,6 @@
 -- A task comes as far as it comes: it has one text, and each text that was due is its beginning.
-use Rattle.std.proofs.Common.{◌≡◌, ◌+◌, ◌-◌, ◌<◌, ◌≤◌, ℕ, zero, suc, Bool, true, false, List, [], ◌∷◌, ◌++◌, length, get_or, refl, sym, ap, ap₂, ◌∙◌, inl, inr, arith, subst, length-append, AllPairs}
+use Rattle.std.proofs.Common.{◌≡◌, ◌+◌, ◌-◌, ◌<◌, ◌≤◌, ℕ, zero, suc, Bool, true, false, List, [], ◌∷◌, ◌++◌, length, get_or, refl, sym, ap, ap₂, ◌∙◌}
+use Rattle.std.proofs.Common.{inl, inr, arith, subst, length-append, AllPairs}
 use Rattle.std.proofs.lemmas.Bool.{cases_lt}
 use Rattle.std.proofs.lemmas.List.{append-nil, nil_from_length}
 use Rattle.std.specs.declared.option.Option.{Option}
@@ -21,12 +22,14 @@ use Rattle.job_steps.specs.declared.print.PrintFault.{PrintFault}
 use Rattle.job_steps.specs.declared.print.PrintFault.TheVariants.{Limit, WriteFault, NoMemory}
 use Rattle.job_steps.specs.Gains.{GainsPart, GainsSome, HasPrintedPart, HasPrintedSome, IsUndone}
 use Rattle.job_steps.specs.Printing.{IsBasisUndone}
-use Rattle.job_steps.specs.Progress.{IsBasisPart, IsBasisSoFar, HasLinesBelow, IsBeginning, IsDue, IsFirstLargeCoefficient, IsOutput, IsPart, IsReach, IsStoppedBy, IsText, AreSmallBelow, PassesNone, Reach, Task, whole, refused, crowded}
+use Rattle.job_steps.specs.Progress.{IsBasisPart, IsBasisSoFar, HasLinesBelow, IsBeginning, IsDue, IsFirstLargeCoefficient, IsOutput, IsPart, IsReach}
+use Rattle.job_steps.specs.Progress.{IsStoppedBy, IsText, AreSmallBelow, PassesNone, Reach, Task, whole, refused, crowded}
 use Rattle.job_steps.proofs.Gaining.{beginning_self, beginning_trans, cut_of_beginning, no_room_for}
 use Rattle.job_steps.proofs.Printed.{degree_texts-append}
 
 -- a list whose elements stand at the same places in another one is its front
-front_of : {X : Type 0} (z : X) (xs ys : List X) → length xs ≤ length ys → ((k : ℕ) → k < length xs → get_or xs k z ≡ get_or ys k z) → (rest : List X) × (ys ≡ xs ++ rest)
+front_of : {X : Type 0} (z : X) (xs ys : List X) → length xs ≤ length ys → ((k : ℕ) → k < length xs → get_or xs k z ≡ get_or ys k z) →
+    (rest : List X) × (ys ≡ xs ++ rest)
 front_of z [] ys le same = (ys, refl)
 front_of z (x ∷ xs) [] le same = absurd (omega (arith, le))
 front_of z (x ∷ xs) (y ∷ ys) le same =
@@ -82,13 +85,15 @@ module _ (p : ℕ) (weights : List ℕ) (relations : List (List Term)) (st : IsS
   ]
 
 -- what passes is not at most its limit
-none_and_first : (Q : Quantities) (limits : List (LimitKind × ℕ)) → ((kind : LimitKind) (q r : ℕ) → Q kind q → Q kind r → q ≡ r) → (kind : LimitKind) (value : ℕ) → NonePasses Q limits → IsFirstPassing Q limits kind value → ⊥
+none_and_first : (Q : Quantities) (limits : List (LimitKind × ℕ)) → ((kind : LimitKind) (q r : ℕ) → Q kind q → Q kind r → q ≡ r) →
+    (kind : LimitKind) (value : ℕ) → NonePasses Q limits → IsFirstPassing Q limits kind value → ⊥
 none_and_first Q [] one kind value none first = absurd first
 none_and_first Q (l ∷ ls) one kind value none (inl here) = omega (arith, none.0.2, here.2, one l.0 none.0.0 here.0 none.0.1 here.1)
 none_and_first Q (l ∷ ls) one kind value none (inr later) = none_and_first Q ls one kind value none.1 later.3
 
 -- the first that passes is one
-one_passing : (Q : Quantities) (limits : List (LimitKind × ℕ)) → ((kind : LimitKind) (q r : ℕ) → Q kind q → Q kind r → q ≡ r) → (k l : LimitKind) (v w : ℕ) → IsFirstPassing Q limits k v → IsFirstPassing Q limits l w → (k ≡ l) × (v ≡ w)
+one_passing : (Q : Quantities) (limits : List (LimitKind × ℕ)) → ((kind : LimitKind) (q r : ℕ) → Q kind q → Q kind r → q ≡ r) →
+    (k l : LimitKind) (v w : ℕ) → IsFirstPassing Q limits k v → IsFirstPassing Q limits l w → (k ≡ l) × (v ≡ w)
 one_passing Q [] one k l v w a b = absurd a
 one_passing Q (x ∷ xs) one k l v w (inl a) (inl b) = (a.3 ∙ sym b.3, a.4 ∙ ap (kept_value x.0 x.1) (one x.0 a.0 b.0 a.1 b.1) ∙ sym b.4)
 one_passing Q (x ∷ xs) one k l v w (inl a) (inr b) = absurd (omega (arith, a.2, b.2, one x.0 a.0 b.0 a.1 b.1))
@@ -109,7 +114,8 @@ module _ (t : Task) (st : IsSetting t.modulus t.letters.weights t.relations) whe
       none_and_first (IsQuantity p weights t.relations first.below d) t.limits (one_quantity p weights t.relations st d first.below first.is_below) kind value
       (subst (λ (b : Elements). NonePasses (IsQuantity p weights t.relations b d) t.limits) same n.2) first.passes
 
-  first_refused : (d e v w : ℕ) (k l : LimitKind) → IsFirstRefused p weights t.relations t.limits t.bound k d v → IsFirstRefused p weights t.relations t.limits t.bound l e w → d ≡ e
+  first_refused : (d e v w : ℕ) (k l : LimitKind) → IsFirstRefused p weights t.relations t.limits t.bound k d v →
+      IsFirstRefused p weights t.relations t.limits t.bound l e w → d ≡ e
   first_refused d e v w k l a b = elim (cases_lt d e) [
     | inl less ↦ absurd (none_and_refused d (e - 1) v k b.before a (omega (arith, less)))
     | inr le ↦ elim (cases_lt e d) [
@@ -119,15 +125,18 @@ module _ (t : Task) (st : IsSetting t.modulus t.letters.weights t.relations) whe
   ]
 
   -- with its kind and value
-  refused_one : (d v w : ℕ) (k l : LimitKind) → IsFirstRefused p weights t.relations t.limits t.bound k d v → IsFirstRefused p weights t.relations t.limits t.bound l d w → (k ≡ l) × (v ≡ w)
+  refused_one : (d v w : ℕ) (k l : LimitKind) → IsFirstRefused p weights t.relations t.limits t.bound k d v →
+      IsFirstRefused p weights t.relations t.limits t.bound l d w → (k ≡ l) × (v ≡ w)
   refused_one d v w k l a b =
       let same = one_below p weights t.relations st d a.below b.below a.is_below b.is_below in
       one_passing (IsQuantity p weights t.relations b.below d) t.limits (one_quantity p weights t.relations st d b.below b.is_below) k l v w
       (subst (λ (e : Elements). IsFirstPassing (IsQuantity p weights t.relations e d) t.limits k v) same a.passes) b.passes
 
-  bases_at : (d e : ℕ) (x y : List ℕ) → d ≤ e → (a : IsBasisText p t.letters t.relations d x) (b : IsBasisText p t.letters t.relations e y) → (k : ℕ) → k < length a.bases → get_or a.bases k [] ≡ get_or b.bases k []
+  bases_at : (d e : ℕ) (x y : List ℕ) → d ≤ e → (a : IsBasisText p t.letters t.relations d x) (b : IsBasisText p t.letters t.relations e y)
+      → (k : ℕ) → k < length a.bases → get_or a.bases k [] ≡ get_or b.bases k []
   bases_at d e x y le a b k within =
-      bases_are_one p weights t.relations (k + 1) (get_or a.bases k []) (get_or b.bases k []) (a.each k (omega (arith, within, a.count))) (b.each k (omega (arith, within, a.count, le)))
+      bases_are_one p weights t.relations (k + 1) (get_or a.bases k []) (get_or b.bases k []) (a.each k (omega (arith, within, a.count)))
+      (b.each k (omega (arith, within, a.count, le)))
 
   basis_begins : (d e : ℕ) (x y : List ℕ) → d ≤ e → IsBasisText p t.letters t.relations d x → IsBasisText p t.letters t.relations e y → IsBeginning x y
   basis_begins d e x y le a b =
@@ -145,14 +154,16 @@ module _ (t : Task) (st : IsSetting t.modulus t.letters.weights t.relations) whe
   series_one : (d : ℕ) (x y : List ℕ) → IsSeriesText p t.letters t.relations d x → IsSeriesText p t.letters t.relations d y → x ≡ y
   series_one d x y a b =
       let same : (k : ℕ) → k < length a.numbers → get_or a.numbers k 0 ≡ get_or b.numbers k 0 =
-      λ k within. one_coefficient p weights t.relations st k (get_or a.numbers k 0) (get_or b.numbers k 0) (a.each k (omega (arith, within, a.count))) (b.each k (omega (arith, within, a.count))) in
+      λ k within. one_coefficient p weights t.relations st k (get_or a.numbers k 0) (get_or b.numbers k 0)
+      (a.each k (omega (arith, within, a.count))) (b.each k (omega (arith, within, a.count))) in
       a.printed ∙ ap series_text (same_of 0 a.numbers b.numbers (a.count ∙ sym b.count) same) ∙ sym b.printed
 
   part_one : (shows : Bool) (P : List ℕ → Type 0) → ((x y : List ℕ) → P x → P y → x ≡ y) → (x y : List ℕ) → IsPart shows P x → IsPart shows P y → x ≡ y
   part_one true P one x y a b = one x y a b
   part_one false P one x y a b = a ∙ sym b
 
-  part_begins : (shows : Bool) (d e : ℕ) (x y : List ℕ) → d ≤ e → IsPart shows (IsBasisText p t.letters t.relations d) x → IsPart shows (IsBasisText p t.letters t.relations e) y → IsBeginning x y
+  part_begins : (shows : Bool) (d e : ℕ) (x y : List ℕ) → d ≤ e → IsPart shows (IsBasisText p t.letters t.relations d) x →
+      IsPart shows (IsBasisText p t.letters t.relations e) y → IsBeginning x y
   part_begins true d e x y le a b = basis_begins d e x y le a b
   part_begins false d e x y le a b = record { rest = y; joined = ap (λ (l : List ℕ). l ++ y) (sym a) }
 
@@ -162,29 +173,36 @@ module _ (t : Task) (st : IsSetting t.modulus t.letters.weights t.relations) whe
   output_one : (d : ℕ) (x y : List ℕ) → IsOutput t d x → IsOutput t d y → x ≡ y
   output_one d x y a b =
       a.joined
-      ∙ ap₂ (λ (l r : List ℕ). l ++ r) (basis_part_one t.bound a.basis b.basis a.is_basis b.is_basis) (part_one t.shows_series (IsSeriesText p t.letters t.relations d) (series_one d) a.series b.series a.is_series b.is_series)
+      ∙ ap₂ (λ (l r : List ℕ). l ++ r) (basis_part_one t.bound a.basis b.basis a.is_basis b.is_basis)
+      (part_one t.shows_series (IsSeriesText p t.letters t.relations d) (series_one d) a.series b.series a.is_series b.is_series)
       ∙ sym b.joined
 
   -- two reaches are not of two kinds, and have one text
   pub one_text : (r s : Reach) (x y : List ℕ) → IsReach t r → IsText t r x → IsReach t s → IsText t s y → x ≡ y
   one_text whole whole x y ra a rb b = output_one t.bound x y a b
   one_text whole (refused k d v) x y ra a rb b = absurd (none_and_refused d t.bound v k ra.0 rb rb.upto)
-  one_text whole (crowded d v) x y ra a rb b = absurd (small_and_large p weights t.relations st t.normal_words d (t.bound + 1) v (ra.1 rb.1) rb.3 (omega (arith, rb.2)))
+  one_text whole (crowded d v) x y ra a rb b = absurd (small_and_large p weights t.relations st t.normal_words d (t.bound + 1) v (ra.1 rb.1)
+      rb.3 (omega (arith, rb.2)))
   one_text (refused k d v) whole x y ra a rb b = absurd (none_and_refused d t.bound v k rb.0 ra ra.upto)
-  one_text (refused k d v) (refused l e w) x y ra a rb b = basis_part_one (e - 1) x y (subst (λ (n : ℕ). IsBasisPart t (n - 1) x) (first_refused d e v w k l ra rb) a) b
+  one_text (refused k d v) (refused l e w) x y ra a rb b = basis_part_one (e - 1) x y
+      (subst (λ (n : ℕ). IsBasisPart t (n - 1) x) (first_refused d e v w k l ra rb) a) b
   one_text (refused k d v) (crowded e w) x y ra a rb b = absurd (none_and_refused d t.bound v k rb.0 ra ra.upto)
-  one_text (crowded d v) whole x y ra a rb b = absurd (small_and_large p weights t.relations st t.normal_words d (t.bound + 1) v (rb.1 ra.1) ra.3 (omega (arith, ra.2)))
+  one_text (crowded d v) whole x y ra a rb b = absurd (small_and_large p weights t.relations st t.normal_words d (t.bound + 1) v (rb.1 ra.1)
+      ra.3 (omega (arith, ra.2)))
   one_text (crowded d v) (refused l e w) x y ra a rb b = absurd (none_and_refused e t.bound w l ra.0 rb rb.upto)
-  one_text (crowded d v) (crowded e w) x y ra a rb b = output_one (e - 1) x y (subst (λ (n : ℕ). IsOutput t (n - 1) x) (first_large p weights t.relations st t.normal_words d e v w ra.3 rb.3) a) b
+  one_text (crowded d v) (crowded e w) x y ra a rb b = output_one (e - 1) x y
+      (subst (λ (n : ℕ). IsOutput t (n - 1) x) (first_large p weights t.relations st t.normal_words d e v w ra.3 rb.3) a) b
 
   -- nothing stops a task that comes to its end
   pub whole_is_not_stopped : IsReach t whole → (s : Reach) (kind : LimitKind) (d value : ℕ) → IsReach t s → IsStoppedBy s kind d value → ⊥
   whole_is_not_stopped ra whole kind d value rb by = by
   whole_is_not_stopped ra (refused k e v) kind d value rb by = none_and_refused e t.bound v k ra.0 rb rb.upto
-  whole_is_not_stopped ra (crowded e v) kind d value rb by = small_and_large p weights t.relations st t.normal_words e (t.bound + 1) v (ra.1 rb.1) rb.3 (omega (arith, rb.2))
+  whole_is_not_stopped ra (crowded e v) kind d value rb by = small_and_large p weights t.relations st t.normal_words e (t.bound + 1) v
+      (ra.1 rb.1) rb.3 (omega (arith, rb.2))
 
   -- a task is stopped by one limit
-  pub one_stop : (r s : Reach) (k l : LimitKind) (d e v w : ℕ) → IsReach t r → IsStoppedBy r k d v → IsReach t s → IsStoppedBy s l e w → (k ≡ l) × (d ≡ e) × (v ≡ w)
+  pub one_stop : (r s : Reach) (k l : LimitKind) (d e v w : ℕ) → IsReach t r → IsStoppedBy r k d v → IsReach t s → IsStoppedBy s l e w →
+      (k ≡ l) × (d ≡ e) × (v ≡ w)
   one_stop whole s k l d e v w ra a rb b = absurd a
   one_stop (refused k1 d1 v1) whole k l d e v w ra a rb b = absurd b
   one_stop (crowded d1 v1) whole k l d e v w ra a rb b = absurd b
@@ -213,7 +231,8 @@ module _ (t : Task) (st : IsSetting t.modulus t.letters.weights t.relations) whe
   due_begins e s x y (inl a) rb b = so_far_begins e s x y a rb b
   due_begins e s x y (inr a) rb b = subst (IsBeginning x) (one_text a.0 s x y a.1 a.2 rb b) (beginning_self x)
 
-  printed_part : (a c : Option (List ℕ)) (r : Option ℕ) (e : ℕ) (x : List ℕ) → IsDue t e x → (part : GainsPart a c r x) → HasLinesBelow t e part.gained → HasPrintedPart t a c r
+  printed_part : (a c : Option (List ℕ)) (r : Option ℕ) (e : ℕ) (x : List ℕ) → IsDue t e x → (part : GainsPart a c r x) →
+      HasLinesBelow t e part.gained → HasPrintedPart t a c r
   printed_part a c r e x due part below = record {
     gained = part.gained;
     appended = part.appended;
@@ -240,16 +259,19 @@ module _ (t : Task) (st : IsSetting t.modulus t.letters.weights t.relations) whe
   }
 
   -- with what holds of the last degree
-  pub part_upto : (a c : Option (List ℕ)) (r : Option ℕ) (Holds : ℕ → Type 0) (e : ℕ) (x : List ℕ) → IsDue t e x → (part : GainsPart a c r x) → HasLinesBelow t e part.gained → Holds e → (p : HasPrintedPart t a c r) × Holds p.last
+  pub part_upto : (a c : Option (List ℕ)) (r : Option ℕ) (Holds : ℕ → Type 0) (e : ℕ) (x : List ℕ) → IsDue t e x →
+      (part : GainsPart a c r x) → HasLinesBelow t e part.gained → Holds e → (p : HasPrintedPart t a c r) × Holds p.last
   unfolding printed_part
   part_upto a c r Holds e x due part below holds = (printed_part a c r e x due part below, holds)
 
-  pub some_upto : (a c : Option (List ℕ)) (Holds : ℕ → Type 0) (e : ℕ) (x : List ℕ) → IsDue t e x → (part : GainsSome a c x) → HasLinesBelow t e part.gained → Holds e → (p : HasPrintedSome t a c) × Holds p.last
+  pub some_upto : (a c : Option (List ℕ)) (Holds : ℕ → Type 0) (e : ℕ) (x : List ℕ) → IsDue t e x → (part : GainsSome a c x) →
+      HasLinesBelow t e part.gained → Holds e → (p : HasPrintedSome t a c) × Holds p.last
   unfolding printed_some
   some_upto a c Holds e x due part below holds = (printed_some a c e x due part below, holds)
 
   -- a basis that was not printed whole
-  pub undone_basis : (a c : Option (List ℕ)) (r : Option ℕ) (f h : ℕ) (Holds : ℕ → Type 0) (fault : PrintFault) → IsBasisUndone t a c r f h Holds fault → IsUndone t a c r f h Holds fault
+  pub undone_basis : (a c : Option (List ℕ)) (r : Option ℕ) (f h : ℕ) (Holds : ℕ → Type 0) (fault : PrintFault) →
+      IsBasisUndone t a c r f h Holds fault → IsUndone t a c r f h Holds fault
   undone_basis a c r f h Holds (Limit kind d value) u = (refused kind d value, (refl, refl, refl), u.0, u.1)
   undone_basis a c r f h Holds WriteFault u = (u.0, part_upto a c r Holds u.1.0 u.1.1 u.1.2 u.1.3 u.1.4 u.1.5)
   undone_basis a c r f h Holds NoMemory u = some_upto a c Holds u.0 u.1 u.2 u.3 u.4 u.5

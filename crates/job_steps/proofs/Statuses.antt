@@ -77,7 +77,8 @@ module _ (t : Task) (st : IsSetting t.modulus t.letters.weights t.relations) whe
   limit_is_one ReadFault a again other b = absurd a
   limit_is_one WriteFault a again other b = absurd a
   limit_is_one NoMemory a again other b = absurd a
-  limit_is_one (Limit kind d value) a again (Limit k e v) b = let same = one_stop t st a.0 b.0 kind k d e value v a.1 a.2 b.1 b.2 in λ i. Limit (same.0 i) (same.1 i) (same.2 i)
+  limit_is_one (Limit kind d value) a again (Limit k e v) b = let same = one_stop t st a.0 b.0 kind k d e value v a.1 a.2 b.1 b.2 in
+      λ i. Limit (same.0 i) (same.1 i) (same.2 i)
   limit_is_one (Limit kind d value) a again Done b = sym (done_is_one (Limit kind d value) b a)
   limit_is_one (Limit kind d value) a again (Usage fault) b = absurd b
   limit_is_one (Limit kind d value) a again (Input problem) b = absurd b
@@ -118,11 +119,13 @@ module _ (Outcome : Status → List ℕ → Type 0) (held more : Option (List �
   this : (own : Status) (text : List ℕ) → Outcome own text → (status : Status) (other : List ℕ) → IsThis own text status other → Outcome status other
   this own text is status other same = subst (λ (s : Status). Outcome s other) (sym same.0) (subst (Outcome own) (sym same.1) is)
 
-  gained_by : (own : Status) (text : List ℕ) → Outcome own text → (status : Status) → HasGained held more (IsThis own text status) → HasGained held more (Outcome status)
+  gained_by : (own : Status) (text : List ℕ) → Outcome own text → (status : Status) → HasGained held more (IsThis own text status) →
+      HasGained held more (Outcome status)
   gained_by own text is status h = (h.0, this own text is status h.0 h.1, h.2)
 
   -- the only outcome is one of these
-  pub answered_by : (own : Status) (text : List ℕ) → Outcome own text → (status : Status) → IsAnswered (IsThis own text) held more room before after status → IsAnswered Outcome held more room before after status
+  pub answered_by : (own : Status) (text : List ℕ) → Outcome own text → (status : Status) →
+      IsAnswered (IsThis own text) held more room before after status → IsAnswered Outcome held more room before after status
   answered_by own text is Done h = gained_by own text is Done h
   answered_by own text is (Usage fault) h = gained_by own text is (Usage fault) h
   answered_by own text is (Input problem) h = gained_by own text is (Input problem) h

@@ -16,21 +16,25 @@ use Rattle.job_steps.specs.Traces.{Accounts, AreAccounts, IsAccountOf, IsTold, I
 use Rattle.job_steps.proofs.Printed.{Stands}
 use Rattle.job_steps.proofs.Gaining.{appended_none, beginning_front, beginning_self, beginning_trans, rose_behind, some_behind}
 
-trace_texts-append : (names : List (List ℕ)) (d : ℕ) (xs ys : List Account) → trace_texts names d (xs ++ ys) ≡ trace_texts names d xs ++ trace_texts names (d + length xs) ys
+trace_texts-append : (names : List (List ℕ)) (d : ℕ) (xs ys : List Account) →
+    trace_texts names d (xs ++ ys) ≡ trace_texts names d xs ++ trace_texts names (d + length xs) ys
 trace_texts-append names d [] ys = ap (λ (n : ℕ). trace_texts names n ys) (let e : d ≡ d + 0 = omega arith in e)
 trace_texts-append names d (x ∷ xs) ys =
     let e : d + 1 + length xs ≡ d + length (x ∷ xs) = omega arith in
-    ap (λ (l : List ℕ). trace_text names d x ++ l) (trace_texts-append names (d + 1) xs ys ∙ ap (λ (n : ℕ). trace_texts names (d + 1) xs ++ trace_texts names n ys) e)
+    ap (λ (l : List ℕ). trace_text names d x ++ l) (trace_texts-append names (d + 1) xs ys
+    ∙ ap (λ (n : ℕ). trace_texts names (d + 1) xs ++ trace_texts names n ys) e)
     ∙ sym (append_assoc (trace_text names d x) (trace_texts names (d + 1) xs) (trace_texts names (d + length (x ∷ xs)) ys))
 
 module _ (May : Accounts) (t : Task) where
-  accounts_more : (d : ℕ) (accounts : List Account) (account : Account) → AreAccounts May t d accounts → IsAccountOf May t (d + length accounts) account → AreAccounts May t d (accounts ++ account ∷ [])
+  accounts_more : (d : ℕ) (accounts : List Account) (account : Account) → AreAccounts May t d accounts →
+      IsAccountOf May t (d + length accounts) account → AreAccounts May t d (accounts ++ account ∷ [])
   accounts_more d [] account all one = (subst (λ (n : ℕ). IsAccountOf May t n account) (let e : d + 0 ≡ d = omega arith in e) one, tt)
   accounts_more d (x ∷ xs) account all one =
       let e : d + length (x ∷ xs) ≡ d + 1 + length xs = omega arith in
       (all.0, accounts_more (d + 1) xs account all.1 (subst (λ (n : ℕ). IsAccountOf May t n account) e one))
 
-  trace_next : (e : ℕ) (text : List ℕ) (account : Account) → IsTrace May t e text → IsAccountOf May t (e + 1) account → IsTrace May t (e + 1) (text ++ trace_text t.letters.names (e + 1) account)
+  trace_next : (e : ℕ) (text : List ℕ) (account : Account) → IsTrace May t e text → IsAccountOf May t (e + 1) account →
+      IsTrace May t (e + 1) (text ++ trace_text t.letters.names (e + 1) account)
   trace_next e text account h one =
       let at : e + 1 ≡ 1 + length h.accounts = omega (arith, h.count) in
       record {
@@ -38,7 +42,9 @@ module _ (May : Accounts) (t : Task) where
         count = omega (arith, length-append h.accounts (account ∷ []), h.count);
         each = accounts_more 1 h.accounts account h.each (subst (λ (n : ℕ). IsAccountOf May t n account) at one);
         printed = ap (λ (l : List ℕ). l ++ trace_text t.letters.names (e + 1) account) h.printed
-            ∙ ap (λ (l : List ℕ). trace_texts t.letters.names 1 h.accounts ++ l) (ap (λ (n : ℕ). trace_text t.letters.names n account) at ∙ sym (append-nil (trace_text t.letters.names (1 + length h.accounts) account)))
+            ∙ ap (λ (l : List ℕ). trace_texts t.letters.names 1 h.accounts ++ l)
+            (ap (λ (n : ℕ). trace_text t.letters.names n account) at
+            ∙ sym (append-nil (trace_text t.letters.names (1 + length h.accounts) account)))
             ∙ sym (trace_texts-append t.letters.names 1 h.accounts (account ∷ []));
       }
 
@@ -95,8 +101,10 @@ module _ (May : Accounts) (t : Task) (traces : Bool) (d : ℕ) (a b c : Option (
   pub told_here : OfTrace May t traces d (Tells a b f g p q) → Tells b c g h q r [] → OfTrace May t traces d (Tells a c f h p r)
   told_here w v = (w.0, w.1, subst (Tells a c f h p r) (append-nil w.0) (tells_behind a b c f g h w.0 [] p q r w.2 v))
 
-module _ (May Now : Accounts) (t : Task) (given : Presentation) (field : ℕ) (modulus : field ≡ t.modulus) (letters : given.alphabet ≡ t.letters) (relations : given.relations ≡ t.relations)
-    (stays : (p : ℕ) (rs : Presentation) (b : Elements) (e : ℕ) (a : Account) → Now p rs b e a → May p rs b e a) (traces : Bool) (d : ℕ) (below : Elements) (text : List ℕ) (s : Stands t d below text) where
+module _ (May Now : Accounts) (t : Task) (given : Presentation) (field : ℕ) (modulus : field ≡ t.modulus)
+    (letters : given.alphabet ≡ t.letters) (relations : given.relations ≡ t.relations)
+    (stays : (p : ℕ) (rs : Presentation) (b : Elements) (e : ℕ) (a : Account) → Now p rs b e a → May p rs b e a) (traces : Bool) (d : ℕ)
+    (below : Elements) (text : List ℕ) (s : Stands t d below text) where
   next_account : (account : Account) → Now field given below (below.done + 1) account → IsAccountOf May t (d + 1) account
   next_account account may =
       let at : below.done + 1 ≡ d + 1 = ap (λ (n : ℕ). n + 1) s.done in
@@ -106,13 +114,16 @@ module _ (May Now : Accounts) (t : Task) (given : Presentation) (field : ℕ) (m
         relations = relations;
         below = below;
         is_below = record { kept = s.kept; next = at; same_weights = s.weights; reduced = s.reduced };
-        may = subst (λ (n : ℕ). May t.modulus given below n account) at (subst (λ (m : ℕ). May m given below (below.done + 1) account) modulus (stays field given below (below.done + 1) account may));
+        may = subst (λ (n : ℕ). May t.modulus given below n account) at
+            (subst (λ (m : ℕ). May m given below (below.done + 1) account) modulus (stays field given below (below.done + 1) account may));
       }
 
   next_text : (account : Account) → trace_of traces given.alphabet.names (below.done + 1) account ≡ trace_of traces t.letters.names (d + 1) account
-  next_text account = ap (λ (n : ℕ). trace_of traces given.alphabet.names (n + 1) account) s.done ∙ ap (λ (l : Letters). trace_of traces l.names (d + 1) account) letters
+  next_text account = ap (λ (n : ℕ). trace_of traces given.alphabet.names (n + 1) account) s.done
+      ∙ ap (λ (l : Letters). trace_of traces l.names (d + 1) account) letters
 
-  pub told_next : (a b c : Option (List ℕ)) (f g h : ℕ) (p q r : Bool) → OfTrace May t traces d (Tells a b f g p q) → OfNextTrace Now field given below traces (Tells b c g h q r) → OfTrace May t traces (d + 1) (Tells a c f h p r)
+  pub told_next : (a b c : Option (List ℕ)) (f g h : ℕ) (p q r : Bool) → OfTrace May t traces d (Tells a b f g p q) →
+      OfNextTrace Now field given below traces (Tells b c g h q r) → OfTrace May t traces (d + 1) (Tells a c f h p r)
   told_next a b c f g h p q r w v =
       let more = trace_of traces t.letters.names (d + 1) v.0 in (
         w.0 ++ more,

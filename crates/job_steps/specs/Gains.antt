@@ -4,9 +4,11 @@ use Rattle.std.specs.Io.KnownBytes.{Appends}
 use Rattle.bg_io.specs.Ends.{HasRoom, IsCutShort, RoomFalls, Rose}
 use Rattle.job_steps.specs.declared.print.PrintFault.{PrintFault}
 use Rattle.job_steps.specs.declared.print.PrintFault.TheVariants.{Limit, WriteFault, NoMemory}
-use Rattle.job_steps.specs.Progress.{HasLinesBelow, IsBeginning, IsDue, IsReach, IsStoppedBy, IsText, Reach, Task, last_degree}
+use Rattle.job_steps.specs.Progress.{HasLinesBelow, IsBeginning, IsDue, IsReach, IsStoppedBy, IsText, Reach, Task}
+use Rattle.job_steps.specs.Progress.{last_degree}
 
--- In the following, held and more are what the sink tells of its bytes before and after, room and left the room that it tells, before and now its count of faults.
+-- In the following, held and more are what the sink tells of its bytes before and after, room and left the room that
+-- it tells, before and now its count of faults.
 
 -- all of the text, and no write failed
 pub record GainsAll (held more : Option (List ℕ)) (room left : Option ℕ) (before now : ℕ) (text : List ℕ) : Type 0 where
@@ -40,7 +42,8 @@ pub record HasPrinted (t : Task) (reach : Reach) (held more : Option (List ℕ))
   pub is_text : IsText t reach text
   pub appended : Appends held more text
 
--- a proper prefix of what the task prints, however far it comes, and no room was told for the whole; it is a proper prefix of what was due once the degrees up to the last one were computed, and has the lines of those below that one
+-- a proper prefix of what the task prints, however far it comes, and no room was told for the whole; it is a proper
+-- prefix of what was due once the degrees up to the last one were computed, and has the lines of those below that one
 pub record HasPrintedPart (t : Task) (held more : Option (List ℕ)) (room : Option ℕ) : Type 0 where
   pub gained : List ℕ
   pub appended : Appends held more gained
@@ -49,7 +52,8 @@ pub record HasPrintedPart (t : Task) (held more : Option (List ℕ)) (room : Opt
   pub is_due : IsDue t last due
   pub lines_below : HasLinesBelow t last gained
   pub of_due : IsCutShort gained due × (HasRoom room (length due) → ⊥)
-  pub of_text : (reach : Reach) (text : List ℕ) → IsReach t reach → IsText t reach text → IsCutShort gained text × (HasRoom room (length text) → ⊥)
+  pub of_text : (reach : Reach) (text : List ℕ) → IsReach t reach → IsText t reach text → IsCutShort gained text
+      × (HasRoom room (length text) → ⊥)
 
 -- the same of a prefix
 pub record HasPrintedSome (t : Task) (held more : Option (List ℕ)) : Type 0 where
@@ -64,6 +68,8 @@ pub record HasPrintedSome (t : Task) (held more : Option (List ℕ)) : Type 0 wh
 
 -- why a task was not done, what was gained of its text, and what holds of the last degree that was computed
 abbrev pub IsUndone : Task → Option (List ℕ) → Option (List ℕ) → Option ℕ → ℕ → ℕ → (ℕ → Type 0) → PrintFault → Type 0
-IsUndone t held more room before now Holds (Limit kind d value) = (reach : Reach) × IsStoppedBy reach kind d value × HasPrinted t reach held more × Holds (last_degree t reach)
-IsUndone t held more room before now Holds WriteFault = Rose before now × ((part : HasPrintedPart t held more room) × Holds part.last)
+IsUndone t held more room before now Holds (Limit kind d value) =
+    (reach : Reach) × IsStoppedBy reach kind d value × HasPrinted t reach held more × Holds (last_degree t reach)
+IsUndone t held more room before now Holds WriteFault = Rose before now
+    × ((part : HasPrintedPart t held more room) × Holds part.last)
 IsUndone t held more room before now Holds NoMemory = (part : HasPrintedSome t held more) × Holds part.last

@@ -38,37 +38,51 @@ lines_of true names p d elements = degree_text names p d elements
 lines_of false names p d elements = []
 
 -- the reduced basis of the next degree, in which no quantity passes
-pub record IsNext (p : ℕ) (weights : List ℕ) (relations : List (List Term)) (limits : List (LimitKind × ℕ)) (below : Elements) (elements : List (List Term)) : Type 0 where
+pub record IsNext (p : ℕ) (weights : List ℕ) (relations : List (List Term)) (limits : List (LimitKind × ℕ))
+    (below : Elements)
+    (elements : List (List Term)) : Type 0 where
   pub reduced : IsReducedBasis p weights relations (below.done + 1) elements
   pub passes_none : NonePasses (IsQuantity p weights relations below (below.done + 1)) limits
 
 -- such elements with their lines, of which something holds
 abbrev pub OfNext : ℕ → Letters → List (List Term) → List (LimitKind × ℕ) → Elements → Bool → (List ℕ → Type 0) → Type 0
 OfNext p letters relations limits below shows Holds =
-    (elements : List (List Term)) × IsNext p letters.weights relations limits below elements × Holds (lines_of shows letters.names p (below.done + 1) elements)
+    (elements : List (List Term)) × IsNext p letters.weights relations limits below elements
+    × Holds (lines_of shows letters.names p (below.done + 1) elements)
 
 -- why the next degree was not printed, and what holds where it was not computed and where it was
-abbrev pub IsNextUndone : ℕ → Letters → List (List Term) → List (LimitKind × ℕ) → Elements → Bool → Option (List ℕ) → Option (List ℕ) → Option ℕ → ℕ → ℕ → Type 0 → Type 0 → PrintFault → Type 0
+abbrev pub IsNextUndone : ℕ → Letters → List (List Term) → List (LimitKind × ℕ) → Elements → Bool → Option (List ℕ)
+    → Option (List ℕ) →
+    Option ℕ → ℕ → ℕ → Type 0 → Type 0 → PrintFault → Type 0
 IsNextUndone p letters relations limits below shows held more room before now Here Next (Limit kind d value) =
-    (d ≡ below.done + 1) × IsFirstPassing (IsQuantity p letters.weights relations below (below.done + 1)) limits kind value × Appends held more [] × Here
-IsNextUndone p letters relations limits below shows held more room before now Here Next WriteFault = Rose before now × OfNext p letters relations limits below shows (GainsPart held more room) × Next
-IsNextUndone p letters relations limits below shows held more room before now Here Next NoMemory = (Appends held more [] × Here) ⊎ (OfNext p letters relations limits below shows (GainsSome held more) × Next)
+    (d ≡ below.done + 1) × IsFirstPassing (IsQuantity p letters.weights relations below (below.done + 1)) limits
+    kind value × Appends held more [] × Here
+IsNextUndone p letters relations limits below shows held more room before now Here Next WriteFault =
+    Rose before now × OfNext p letters relations limits below shows (GainsPart held more room) × Next
+IsNextUndone p letters relations limits below shows held more room before now Here Next NoMemory =
+    (Appends held more [] × Here) ⊎ (OfNext p letters relations limits below shows (GainsSome held more) × Next)
 
 -- why the basis was not printed whole, and what holds of the last degree that was computed
-abbrev pub IsBasisUndone : Task → Option (List ℕ) → Option (List ℕ) → Option ℕ → ℕ → ℕ → (ℕ → Type 0) → PrintFault → Type 0
-IsBasisUndone t held more room before now Holds (Limit kind d value) = HasPrinted t (refused kind d value) held more × Holds (d - 1)
+abbrev pub IsBasisUndone : Task → Option (List ℕ) → Option (List ℕ) → Option ℕ → ℕ → ℕ → (ℕ → Type 0) → PrintFault →
+    Type 0
+IsBasisUndone t held more room before now Holds (Limit kind d value) = HasPrinted t (refused kind d value) held more
+    × Holds (d - 1)
 IsBasisUndone t held more room before now Holds WriteFault =
-    Rose before now × ((e : ℕ) × (due : List ℕ) × IsDue t e due × (part : GainsPart held more room due) × HasLinesBelow t e part.gained × Holds e)
+    Rose before now × ((e : ℕ) × (due : List ℕ) × IsDue t e due × (part : GainsPart held more room due)
+    × HasLinesBelow t e part.gained × Holds e)
 IsBasisUndone t held more room before now Holds NoMemory =
-    (e : ℕ) × (due : List ℕ) × IsDue t e due × (part : GainsSome held more due) × HasLinesBelow t e part.gained × Holds e
+    (e : ℕ) × (due : List ℕ) × IsDue t e due × (part : GainsSome held more due) × HasLinesBelow t e part.gained
+    × Holds e
 
 -- all coefficients, none of which is above the limit
-pub record IsWholeSeries (p : ℕ) (letters : Letters) (relations : List (List Term)) (limit bound : ℕ) (text : List ℕ) : Type 0 where
+pub record IsWholeSeries (p : ℕ) (letters : Letters) (relations : List (List Term)) (limit bound : ℕ)
+    (text : List ℕ) : Type 0 where
   pub small : AreSmallBelow p letters.weights relations limit (bound + 1)
   pub printed : IsSeriesText p letters relations bound text
 
 -- the coefficients below the first degree with one that is above the limit
-pub record IsCutSeries (p : ℕ) (letters : Letters) (relations : List (List Term)) (limit bound d value : ℕ) (text : List ℕ) : Type 0 where
+pub record IsCutSeries (p : ℕ) (letters : Letters) (relations : List (List Term)) (limit bound d value : ℕ)
+    (text : List ℕ) : Type 0 where
   pub upto : d ≤ bound
   pub large : IsFirstLargeCoefficient p letters.weights relations limit d value
   pub printed : IsSeriesText p letters relations (d - 1) text
@@ -76,13 +90,18 @@ pub record IsCutSeries (p : ℕ) (letters : Letters) (relations : List (List Ter
 -- what is to be printed of the coefficients
 abbrev pub IsSeriesDue : ℕ → Letters → List (List Term) → ℕ → ℕ → List ℕ → Type 0
 IsSeriesDue p letters relations limit bound text =
-    IsWholeSeries p letters relations limit bound text ⊎ ((d value : ℕ) × IsCutSeries p letters relations limit bound d value text)
+    IsWholeSeries p letters relations limit bound text ⊎
+    ((d value : ℕ) × IsCutSeries p letters relations limit bound d value text)
 
 -- why the series was not printed whole
-abbrev pub IsSeriesUndone : ℕ → Letters → List (List Term) → ℕ → ℕ → Option (List ℕ) → Option (List ℕ) → Option ℕ → ℕ → ℕ → PrintFault → Type 0
+abbrev pub IsSeriesUndone : ℕ → Letters → List (List Term) → ℕ → ℕ → Option (List ℕ) → Option (List ℕ) → Option ℕ →
+    ℕ → ℕ → PrintFault → Type 0
 IsSeriesUndone p letters relations limit bound held more room before now (Limit kind d value) =
-    (NormalWords ≡ kind) × ((text : List ℕ) × IsCutSeries p letters relations limit bound d value text × Appends held more text)
+    (NormalWords ≡ kind) × ((text : List ℕ) × IsCutSeries p letters relations limit bound d value text
+    × Appends held more text)
 IsSeriesUndone p letters relations limit bound held more room before now WriteFault =
-    Rose before now × ((text : List ℕ) × IsSeriesDue p letters relations limit bound text × GainsPart held more room text)
+    Rose before now × ((text : List ℕ) × IsSeriesDue p letters relations limit bound text
+    × GainsPart held more room text)
 IsSeriesUndone p letters relations limit bound held more room before now NoMemory =
-    Appends held more [] ⊎ ((text : List ℕ) × IsSeriesDue p letters relations limit bound text × GainsSome held more text)
+    Appends held more [] ⊎ ((text : List ℕ) × IsSeriesDue p letters relations limit bound text
+    × GainsSome held more text)

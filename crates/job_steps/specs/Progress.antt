@@ -8,7 +8,8 @@ use Rattle.ideal_laws.specs.Dimension.{IsHilbertCoefficient}
 use Rattle.ideal_laws.specs.Quantities.{IsFirstRefused, NonePassesUpto}
 use Rattle.poly_writer.specs.Outputs.{IsBasisText, IsSeriesText}
 
--- what is asked of an ideal: a modulus, letters and relations; the limits of an engine in their order, and that of the normal words; a bound of degrees; and which parts are shown
+-- what is asked of an ideal: a modulus, letters and relations; the limits of an engine in their order, and that of
+-- the normal words; a bound of degrees; and which parts are shown
 pub record Task : Type 0 where
   pub modulus : ℕ
   pub letters : Letters
@@ -19,7 +20,8 @@ pub record Task : Type 0 where
   pub shows_basis : Bool
   pub shows_series : Bool
 
--- a task comes to its end, or to the first quantity that passes its limit: one of the engine, or the normal words of a degree
+-- a task comes to its end, or to the first quantity that passes its limit: one of the engine, or the normal words of
+-- a degree
 pub data Reach : Type 0 where
   whole : Reach
   refused : (kind : LimitKind) (degree value : ℕ) → Reach
@@ -27,10 +29,12 @@ pub data Reach : Type 0 where
 
 -- in the degrees below d the coefficients are at most the limit
 abbrev pub AreSmallBelow : ℕ → List ℕ → List (List Term) → ℕ → ℕ → Type 0
-AreSmallBelow p weights relations limit d = (e : ℕ) → e < d → (h : ℕ) × IsHilbertCoefficient p weights relations e h × (h ≤ limit)
+AreSmallBelow p weights relations limit d = (e : ℕ) → e < d → (h : ℕ) × IsHilbertCoefficient p weights relations e h
+    × (h ≤ limit)
 
 -- d is the first degree with a greater coefficient, and the kept value is the limit plus 1
-pub record IsFirstLargeCoefficient (p : ℕ) (weights : List ℕ) (relations : List (List Term)) (limit d value : ℕ) : Type 0 where
+pub record IsFirstLargeCoefficient (p : ℕ) (weights : List ℕ) (relations : List (List Term))
+    (limit d value : ℕ) : Type 0 where
   pub before : AreSmallBelow p weights relations limit d
   pub coefficient : ℕ
   pub is_coefficient : IsHilbertCoefficient p weights relations d coefficient
@@ -43,9 +47,11 @@ PassesNone t d = NonePassesUpto t.modulus t.letters.weights t.relations t.limits
 
 -- the task comes so far
 abbrev pub IsReach : Task → Reach → Type 0
-IsReach t whole = PassesNone t t.bound × (t.shows_series ≡ true → AreSmallBelow t.modulus t.letters.weights t.relations t.normal_words (t.bound + 1))
+IsReach t whole = PassesNone t t.bound × (t.shows_series ≡ true →
+    AreSmallBelow t.modulus t.letters.weights t.relations t.normal_words (t.bound + 1))
 IsReach t (refused kind d value) = IsFirstRefused t.modulus t.letters.weights t.relations t.limits t.bound kind d value
-IsReach t (crowded d value) = PassesNone t t.bound × (t.shows_series ≡ true) × (d ≤ t.bound) × IsFirstLargeCoefficient t.modulus t.letters.weights t.relations t.normal_words d value
+IsReach t (crowded d value) = PassesNone t t.bound × (t.shows_series ≡ true) × (d ≤ t.bound)
+    × IsFirstLargeCoefficient t.modulus t.letters.weights t.relations t.normal_words d value
 
 -- it is stopped by this limit
 abbrev pub IsStoppedBy : Reach → LimitKind → ℕ → ℕ → Type 0
@@ -99,9 +105,11 @@ last_degree t (crowded d value) = t.bound
 
 -- what the task has to print once degrees 1 to e are computed: the basis so far, or its text
 abbrev pub IsDue : Task → ℕ → List ℕ → Type 0
-IsDue t e text = IsBasisSoFar t e text ⊎ ((reach : Reach) × IsReach t reach × IsText t reach text × (e ≡ last_degree t reach))
+IsDue t e text = IsBasisSoFar t e text ⊎ ((reach : Reach) × IsReach t reach × IsText t reach text
+    × (e ≡ last_degree t reach))
 
--- the lines of all degrees below e stand in what was gained: it begins with the basis up to a degree, and e is at most the next
+-- the lines of all degrees below e stand in what was gained: it begins with the basis up to a degree, and e is at
+-- most the next
 pub record HasLinesBelow (t : Task) (e : ℕ) (gained : List ℕ) : Type 0 where
   pub degree : ℕ
   pub lines : List ℕ

@@ -4,7 +4,8 @@ use Rattle.std.specs.Io.KnownBytes.{Appends}
 use Rattle.bg_io.specs.Ends.{Rose}
 use Rattle.job_steps.specs.declared.status.InputProblem.TheVariants.{TooFewNames, Shape, TooFewRelations, AboveBound}
 use Rattle.job_steps.specs.declared.status.Status.{Status}
-use Rattle.job_steps.specs.declared.status.Status.TheVariants.{Done, Input, Limit, Chains, Products, WriteFault, NoMemory}
+use Rattle.job_steps.specs.declared.status.Status.TheVariants.{Done, Input, Limit, Chains, Products, WriteFault}
+use Rattle.job_steps.specs.declared.status.Status.TheVariants.{NoMemory}
 use Rattle.job_steps.specs.Gains.{GainsAll, GainsPart, HasPrinted, HasPrintedPart, HasPrintedSome}
 use Rattle.job_steps.specs.Progress.{IsReach, IsStoppedBy, IsText, Reach, Task, whole}
 
@@ -29,13 +30,15 @@ IsTaskStatus t status = ⊥
 -- and so much of it is printed
 abbrev pub IsTaskOutcome : Task → Status → List ℕ → Type 0
 IsTaskOutcome t Done text = IsReach t whole × IsText t whole text
-IsTaskOutcome t (Limit kind d value) text = (reach : Reach) × IsReach t reach × IsStoppedBy reach kind d value × IsText t reach text
+IsTaskOutcome t (Limit kind d value) text = (reach : Reach) × IsReach t reach × IsStoppedBy reach kind d value
+    × IsText t reach text
 IsTaskOutcome t status text = ⊥
 
 -- how a task that is printed degree by degree ended, and what was gained of its text
 abbrev pub IsTaskEnd : Task → Option (List ℕ) → Option (List ℕ) → Option ℕ → ℕ → ℕ → Status → Type 0
 IsTaskEnd t held more room before after Done = HasPrinted t whole held more
-IsTaskEnd t held more room before after (Limit kind d value) = (reach : Reach) × IsStoppedBy reach kind d value × HasPrinted t reach held more
+IsTaskEnd t held more room before after (Limit kind d value) = (reach : Reach) × IsStoppedBy reach kind d value
+    × HasPrinted t reach held more
 IsTaskEnd t held more room before after WriteFault = Rose before after × HasPrintedPart t held more room
 IsTaskEnd t held more room before after NoMemory = HasPrintedSome t held more
 IsTaskEnd t held more room before after status = ⊥
@@ -46,10 +49,12 @@ HasGained held more Outcome = (text : List ℕ) × Outcome text × Appends held 
 
 -- an outcome has a text of which a proper prefix was gained, and no room was told for the whole
 abbrev pub HasGainedPart : Option (List ℕ) → Option (List ℕ) → Option ℕ → (Status → List ℕ → Type 0) → Type 0
-HasGainedPart held more room Outcome = (status : Status) × (text : List ℕ) × Outcome status text × GainsPart held more room text
+HasGainedPart held more room Outcome = (status : Status) × (text : List ℕ) × Outcome status text
+    × GainsPart held more room text
 
 -- how a task ended whose text is written at once, where it has these outcomes
-abbrev pub IsAnswered : (Status → List ℕ → Type 0) → Option (List ℕ) → Option (List ℕ) → Option ℕ → ℕ → ℕ → Status → Type 0
+abbrev pub IsAnswered : (Status → List ℕ → Type 0) → Option (List ℕ) → Option (List ℕ) → Option ℕ → ℕ → ℕ → Status →
+    Type 0
 IsAnswered Outcome held more room before after WriteFault = Rose before after × HasGainedPart held more room Outcome
 IsAnswered Outcome held more room before after NoMemory = Appends held more []
 IsAnswered Outcome held more room before after status = HasGained held more (Outcome status)

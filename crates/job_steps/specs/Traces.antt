@@ -28,8 +28,10 @@ pub record IsPrintable (letters : ℕ) (account : Account) : Type 0 where
 -- so is each account of a degree whose reduced basis is found
 abbrev pub ArePrintable : Accounts → ℕ → Presentation → Type 0
 ArePrintable May p given =
-    (below : Elements) (d : ℕ) (elements : List (List Term)) (account : Account) → d ≤ 64 → IsSetting p given.alphabet.weights given.relations → IsBelow p given.alphabet.weights given.relations d below
-    → IsReducedBasis p given.alphabet.weights given.relations d elements → May p given below d account → IsPrintable (length given.alphabet.weights) account
+    (below : Elements) (d : ℕ) (elements : List (List Term)) (account : Account) → d ≤ 64 →
+    IsSetting p given.alphabet.weights given.relations → IsBelow p given.alphabet.weights given.relations d below
+    → IsReducedBasis p given.alphabet.weights given.relations d elements → May p given below d account →
+    IsPrintable (length given.alphabet.weights) account
 
 -- an account that the engine may give of degree d of a task
 pub record IsAccountOf (May : Accounts) (t : Task) (d : ℕ) (account : Account) : Type 0 where
@@ -72,7 +74,8 @@ trace_of false names d account = []
 
 -- the trace of the next degree, of which something holds
 abbrev pub OfNextTrace : Accounts → ℕ → Presentation → Elements → Bool → (List ℕ → Type 0) → Type 0
-OfNextTrace May p given below traces Holds = (account : Account) × May p given below (below.done + 1) account × Holds (trace_of traces given.alphabet.names (below.done + 1) account)
+OfNextTrace May p given below traces Holds = (account : Account) × May p given below (below.done + 1) account
+    × Holds (trace_of traces given.alphabet.names (below.done + 1) account)
 
 -- a text is told after others: the whole, or a prefix where a write fails; and nothing where one has failed before
 pub record Tells (held more : Option (List ℕ)) (before now : ℕ) (failed fails : Bool) (text : List ℕ) : Type 0 where
@@ -87,9 +90,14 @@ pub record IsTold (held more : Option (List ℕ)) (before now : ℕ) (text : Lis
   pub some : GainsSome held more text
 
 -- the trace of a task that ended so: that of the degrees that were computed
-abbrev pub IsTaskTrace : Accounts → Bool → Task → Option (List ℕ) → Option (List ℕ) → Option ℕ → Status → List ℕ → Type 0
+abbrev pub IsTaskTrace : Accounts → Bool → Task → Option (List ℕ) → Option (List ℕ) → Option ℕ → Status → List ℕ →
+    Type 0
 IsTaskTrace May traces t held more room Done trace = IsTracePart May t traces t.bound trace
-IsTaskTrace May traces t held more room (Limit kind d value) trace = (reach : Reach) × IsReach t reach × IsStoppedBy reach kind d value × IsTracePart May t traces (last_degree t reach) trace
-IsTaskTrace May traces t held more room WriteFault trace = (part : HasPrintedPart t held more room) × IsTracePart May t traces part.last trace
-IsTaskTrace May traces t held more room NoMemory trace = (part : HasPrintedSome t held more) × IsTracePart May t traces part.last trace
+IsTaskTrace May traces t held more room (Limit kind d value) trace =
+    (reach : Reach) × IsReach t reach × IsStoppedBy reach kind d value
+    × IsTracePart May t traces (last_degree t reach) trace
+IsTaskTrace May traces t held more room WriteFault trace = (part : HasPrintedPart t held more room)
+    × IsTracePart May t traces part.last trace
+IsTaskTrace May traces t held more room NoMemory trace = (part : HasPrintedSome t held more)
+    × IsTracePart May t traces part.last trace
 IsTaskTrace May traces t held more room status trace = ⊥

@@ -34,7 +34,8 @@ impl Answer {
 /// Writes the text of an answer.
 pub fn write_answer<K: Sink>(answer: Answer, out: &mut K) -> Status
     requires { IsOwn answer.status }
-    ensures end { IsAnswered (IsThis answer.status answer.text) (K.held out.old) (K.held out.new) (K.room out.old) (K.faults out.old) (K.faults out.new) result }
+    ensures end { IsAnswered (IsThis answer.status answer.text) (K.held out.old) (K.held out.new) (K.room out.old)
+        (K.faults out.old) (K.faults out.new) result }
     ensures nothing { answer.text ≡ [] → out.new ≡ out.old }
     ensures steady { result ≢ Status.WriteFault → K.faults out.new ≡ K.faults out.old }
 {

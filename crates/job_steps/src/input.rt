@@ -19,8 +19,11 @@ pub fn read_input<S: Source>(
     field: &Field,
     source: &mut S,
 ) -> Result<Presentation, Status>
-    ensures reads { MatchResult result (λ given. ReadsInput field.now (S.left source.old) (S.left source.new) given.alphabet given.relations) (IsInputEnd field.now (S.left source.old) (S.left source.new) (S.faults source.old) (S.faults source.new)) }
-    ensures taken { MatchResult result (λ _. LosesAtMost (S.left source.old) (S.left source.new) 1048576) (IsTaken (S.left source.old) (S.left source.new)) }
+    ensures reads { MatchResult result (λ given. ReadsInput field.now (S.left source.old) (S.left source.new)
+        given.alphabet given.relations) (IsInputEnd field.now (S.left source.old) (S.left source.new)
+        (S.faults source.old) (S.faults source.new)) }
+    ensures taken { MatchResult result (λ _. LosesAtMost (S.left source.old) (S.left source.new) 1048576)
+        (IsTaken (S.left source.old) (S.left source.new)) }
     ensures residues { IfOk result (λ given. All (HasResidues field.now) given.relations) }
     ensures kept { result ≢ Err Status.ReadFault → S.faults source.new ≡ S.faults source.old }
 {

@@ -1,6 +1,7 @@
 ghost use Rattle.std.specs.Prelude.{◌≡◌, ◌+◌, ◌≤◌, ◌++◌, ◌∷◌, [], codes, decimal, length};
 ghost use Rattle.command_words.specs.Keys.{name_of};
-ghost use Rattle.job_steps.specs.Lines.{counted, fault_line, input_text, kind_text, limit_text, line, part_text, problem_text, usage_text, want_text};
+ghost use Rattle.job_steps.specs.Lines.{counted, fault_line, input_text, kind_text, limit_text, line, part_text};
+ghost use Rattle.job_steps.specs.Lines.{problem_text, usage_text, want_text};
 
 use crate::status::{InputProblem, Part, Status};
 use command_words::{Key, UsageFault};

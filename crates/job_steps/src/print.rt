@@ -78,10 +78,16 @@ pub fn print_job<R: Threads + Sync, E: DegreeEngine, K: Sink, T: Sink>(
     requires residues { All (HasResidues field.now) given.now.relations }
     requires printable { asked.trace ≡ true → ArePrintable (E.may_account engine.old) field.now given.now }
 
-    ensures done { OnOk result (HasPrinted (task_of field.now given.now (E.kinds engine.old) asked) whole (K.held out.old) (K.held out.new)) }
-    ensures told { OnOk result (OfTrace (E.may_account engine.old) (task_of field.now given.now (E.kinds engine.old) asked) asked.trace asked.bound (Tells (T.held err.old) (T.held err.new) (T.faults err.old) (T.faults err.new) failed.old failed.new)) }
-    ensures undone { IfErr result (IsUndone (task_of field.now given.now (E.kinds engine.old) asked) (K.held out.old) (K.held out.new) (K.room out.old) (K.faults out.old) (K.faults out.new)
-        (λ e. OfTrace (E.may_account engine.old) (task_of field.now given.now (E.kinds engine.old) asked) asked.trace e (Tells (T.held err.old) (T.held err.new) (T.faults err.old) (T.faults err.new) failed.old failed.new))) }
+    ensures done { OnOk result (HasPrinted (task_of field.now given.now (E.kinds engine.old) asked) whole
+        (K.held out.old) (K.held out.new)) }
+    ensures told { OnOk result (OfTrace (E.may_account engine.old)
+        (task_of field.now given.now (E.kinds engine.old) asked) asked.trace asked.bound
+        (Tells (T.held err.old) (T.held err.new) (T.faults err.old) (T.faults err.new) failed.old failed.new)) }
+    ensures undone { IfErr result (IsUndone (task_of field.now given.now (E.kinds engine.old) asked)
+        (K.held out.old) (K.held out.new) (K.room out.old) (K.faults out.old) (K.faults out.new)
+        (λ e. OfTrace (E.may_account engine.old) (task_of field.now given.now (E.kinds engine.old) asked)
+        asked.trace e (Tells (T.held err.old) (T.held err.new) (T.faults err.old) (T.faults err.new) failed.old
+        failed.new))) }
     ensures steady { result ≢ Err PrintFault.WriteFault → K.faults out.new ≡ K.faults out.old }
 {
     setting_law(field, given);
@@ -114,11 +120,18 @@ fn print_basis<R: Threads + Sync, E: DegreeEngine, K: Sink, T: Sink>(
     ensures done { IfOk result (λ basis. basis.done ≡ asked.bound) }
     ensures weights { IfOk result (λ basis. basis.weights ≡ given.now.alphabet.weights) }
     ensures reduced { IfOk result (IsReducedUpto field.now given.now.relations) }
-    ensures printed { OnOk result ((text : List ℕ) × IsBasisSoFar (task_of field.now given.now (E.kinds engine.old) asked) asked.bound text
-        × GainsAll (K.held out.old) (K.held out.new) (K.room out.old) (K.room out.new) (K.faults out.old) (K.faults out.new) text) }
-    ensures told { OnOk result (OfTrace (E.may_account engine.old) (task_of field.now given.now (E.kinds engine.old) asked) asked.trace asked.bound (Tells (T.held err.old) (T.held err.new) (T.faults err.old) (T.faults err.new) failed.old failed.new)) }
-    ensures undone { IfErr result (IsBasisUndone (task_of field.now given.now (E.kinds engine.old) asked) (K.held out.old) (K.held out.new) (K.room out.old) (K.faults out.old) (K.faults out.new)
-        (λ e. OfTrace (E.may_account engine.old) (task_of field.now given.now (E.kinds engine.old) asked) asked.trace e (Tells (T.held err.old) (T.held err.new) (T.faults err.old) (T.faults err.new) failed.old failed.new))) }
+    ensures printed { OnOk result ((text : List ℕ) × IsBasisSoFar
+        (task_of field.now given.now (E.kinds engine.old) asked) asked.bound text
+        × GainsAll (K.held out.old) (K.held out.new) (K.room out.old) (K.room out.new) (K.faults out.old)
+        (K.faults out.new) text) }
+    ensures told { OnOk result (OfTrace (E.may_account engine.old)
+        (task_of field.now given.now (E.kinds engine.old) asked) asked.trace asked.bound
+        (Tells (T.held err.old) (T.held err.new) (T.faults err.old) (T.faults err.new) failed.old failed.new)) }
+    ensures undone { IfErr result (IsBasisUndone (task_of field.now given.now (E.kinds engine.old) asked)
+        (K.held out.old) (K.held out.new) (K.room out.old) (K.faults out.old) (K.faults out.new)
+        (λ e. OfTrace (E.may_account engine.old) (task_of field.now given.now (E.kinds engine.old) asked)
+        asked.trace e (Tells (T.held err.old) (T.held err.new) (T.faults err.old) (T.faults err.new) failed.old
+        failed.new))) }
     ensures steady { result ≢ Err PrintFault.WriteFault → K.faults out.new ≡ K.faults out.old }
 {
     let mut basis = Basis::new(alloc, &given.alphabet);
@@ -153,15 +166,23 @@ fn print_next<R: Threads + Sync, E: DegreeEngine, K: Sink, T: Sink>(
     ensures kept { IsKept basis.old × IsKept basis.new }
     ensures done { OnOk result (basis.new.done ≡ basis.old.done + 1) }
     ensures reduced { OnOk result (IsReducedUpto field.now given.now.relations basis.new) }
-    ensures printed { OnOk result (OfNext field.now given.now.alphabet given.now.relations (E.kinds engine.old) basis.old asked.basis
-        (GainsAll (K.held out.old) (K.held out.new) (K.room out.old) (K.room out.new) (K.faults out.old) (K.faults out.new))) }
-    ensures told { OnOk result (OfNextTrace (E.may_account engine.old) field.now given.now basis.old asked.trace (Tells (T.held err.old) (T.held err.new) (T.faults err.old) (T.faults err.new) failed.old failed.new)) }
-    ensures undone { IfErr result (IsNextUndone field.now given.now.alphabet given.now.relations (E.kinds engine.old) basis.old asked.basis (K.held out.old) (K.held out.new) (K.room out.old) (K.faults out.old) (K.faults out.new)
-        (Tells (T.held err.old) (T.held err.new) (T.faults err.old) (T.faults err.new) failed.old failed.new []) (OfNextTrace (E.may_account engine.old) field.now given.now basis.old asked.trace (Tells (T.held err.old) (T.held err.new) (T.faults err.old) (T.faults err.new) failed.old failed.new))) }
+    ensures printed { OnOk result (OfNext field.now given.now.alphabet given.now.relations (E.kinds engine.old)
+        basis.old asked.basis
+        (GainsAll (K.held out.old) (K.held out.new) (K.room out.old) (K.room out.new) (K.faults out.old)
+        (K.faults out.new))) }
+    ensures told { OnOk result (OfNextTrace (E.may_account engine.old) field.now given.now basis.old asked.trace
+        (Tells (T.held err.old) (T.held err.new) (T.faults err.old) (T.faults err.new) failed.old failed.new)) }
+    ensures undone { IfErr result (IsNextUndone field.now given.now.alphabet given.now.relations
+        (E.kinds engine.old) basis.old asked.basis (K.held out.old) (K.held out.new) (K.room out.old)
+        (K.faults out.old) (K.faults out.new)
+        (Tells (T.held err.old) (T.held err.new) (T.faults err.old) (T.faults err.new) failed.old failed.new [])
+        (OfNextTrace (E.may_account engine.old) field.now given.now basis.old asked.trace
+        (Tells (T.held err.old) (T.held err.new) (T.faults err.old) (T.faults err.new) failed.old failed.new))) }
     ensures steady { result ≢ Err PrintFault.WriteFault → K.faults out.new ≡ K.faults out.old }
 
     ensures kinds { E.kinds engine.new ≡ E.kinds engine.old }
-    ensures accounts { (p : ℕ) (rs : Presentation) (b : Elements) (e : ℕ) (a : Account) → E.may_account engine.new p rs b e a → E.may_account engine.old p rs b e a }
+    ensures accounts { (p : ℕ) (rs : Presentation) (b : Elements) (e : ℕ) (a : Account) →
+        E.may_account engine.new p rs b e a → E.may_account engine.old p rs b e a }
 {
     setting_law(field, given);
     match advance(rt, alloc, engine, field, given, basis) {
@@ -210,10 +231,14 @@ fn write_degree<K: Sink>(
     requires weights { basis.now.weights ≡ alphabet.now.weights }
     requires residues { All (HasResidues field.now) basis.now.elements }
 
-    ensures written { OnOk result (GainsAll (K.held out.old) (K.held out.new) (K.room out.old) (K.room out.new) (K.faults out.old) (K.faults out.new)
-        (degree_text alphabet.now.names field.now basis.now.done (of_degree basis.now.weights basis.now.done basis.now.elements))) }
-    ensures unwritten { IfErr result (IsUnwritten (K.held out.old) (K.held out.new) (K.room out.old) (K.faults out.old) (K.faults out.new)
-        (degree_text alphabet.now.names field.now basis.now.done (of_degree basis.now.weights basis.now.done basis.now.elements))) }
+    ensures written { OnOk result (GainsAll (K.held out.old) (K.held out.new) (K.room out.old) (K.room out.new)
+        (K.faults out.old) (K.faults out.new)
+        (degree_text alphabet.now.names field.now basis.now.done
+        (of_degree basis.now.weights basis.now.done basis.now.elements))) }
+    ensures unwritten { IfErr result (IsUnwritten (K.held out.old) (K.held out.new) (K.room out.old)
+        (K.faults out.old) (K.faults out.new)
+        (degree_text alphabet.now.names field.now basis.now.done
+        (of_degree basis.now.weights basis.now.done basis.now.elements))) }
     ensures steady { result ≢ Err PrintFault.WriteFault → K.faults out.new ≡ K.faults out.old }
 {
     let d = basis.done();
@@ -244,9 +269,11 @@ fn write_elements<K: Sink>(
     requires weights { basis.now.weights ≡ alphabet.now.weights }
     requires residues { All (HasResidues field.now) basis.now.elements }
 
-    ensures written { OnOk result (GainsAll (K.held out.old) (K.held out.new) (K.room out.old) (K.room out.new) (K.faults out.old) (K.faults out.new)
+    ensures written { OnOk result (GainsAll (K.held out.old) (K.held out.new) (K.room out.old) (K.room out.new)
+        (K.faults out.old) (K.faults out.new)
         (flat_map (element_line alphabet.now.names field.now) (slice_range basis.now.elements first end))) }
-    ensures unwritten { IfErr result (IsUnwritten (K.held out.old) (K.held out.new) (K.room out.old) (K.faults out.old) (K.faults out.new)
+    ensures unwritten { IfErr result (IsUnwritten (K.held out.old) (K.held out.new) (K.room out.old)
+        (K.faults out.old) (K.faults out.new)
         (flat_map (element_line alphabet.now.names field.now) (slice_range basis.now.elements first end))) }
     ensures steady { result ≢ Err PrintFault.WriteFault → K.faults out.new ≡ K.faults out.old }
 {
@@ -269,9 +296,11 @@ fn write_element<K: Sink>(
     requires residues { HasResidues field.now element.now }
     requires monic { IsMonic element.now }
 
-    ensures written { OnOk result (GainsAll (K.held out.old) (K.held out.new) (K.room out.old) (K.room out.new) (K.faults out.old) (K.faults out.new)
+    ensures written { OnOk result (GainsAll (K.held out.old) (K.held out.new) (K.room out.old) (K.room out.new)
+        (K.faults out.old) (K.faults out.new)
         (element_line alphabet.now.names field.now element.now)) }
-    ensures unwritten { IfErr result (IsUnwritten (K.held out.old) (K.held out.new) (K.room out.old) (K.faults out.old) (K.faults out.new)
+    ensures unwritten { IfErr result (IsUnwritten (K.held out.old) (K.held out.new) (K.room out.old)
+        (K.faults out.old) (K.faults out.new)
         (element_line alphabet.now.names field.now element.now)) }
     ensures steady { result ≢ Err PrintFault.WriteFault → K.faults out.new ≡ K.faults out.old }
 {
@@ -294,9 +323,13 @@ fn print_series<K: Sink>(
     requires reduced { IsReducedUpto field.now given.now.relations basis.now }
     requires residues { All (HasResidues field.now) given.now.relations }
 
-    ensures printed { OnOk result ((text : List ℕ) × IsWholeSeries field.now given.now.alphabet given.now.relations standard_limits.normal_words basis.now.done text
-        × GainsAll (K.held out.old) (K.held out.new) (K.room out.old) (K.room out.new) (K.faults out.old) (K.faults out.new) text) }
-    ensures undone { IfErr result (IsSeriesUndone field.now given.now.alphabet given.now.relations standard_limits.normal_words basis.now.done (K.held out.old) (K.held out.new) (K.room out.old) (K.faults out.old) (K.faults out.new)) }
+    ensures printed { OnOk result ((text : List ℕ) × IsWholeSeries field.now given.now.alphabet given.now.relations
+        standard_limits.normal_words basis.now.done text
+        × GainsAll (K.held out.old) (K.held out.new) (K.room out.old) (K.room out.new) (K.faults out.old)
+        (K.faults out.new) text) }
+    ensures undone { IfErr result (IsSeriesUndone field.now given.now.alphabet given.now.relations
+        standard_limits.normal_words basis.now.done (K.held out.old) (K.held out.new) (K.room out.old)
+        (K.faults out.old) (K.faults out.new)) }
     ensures steady { result ≢ Err PrintFault.WriteFault → K.faults out.new ≡ K.faults out.old }
 {
     setting_law(field, given);
@@ -328,8 +361,10 @@ fn print_series<K: Sink>(
 
 /// Writes the text of these numbers of degrees 0, 1 and so on.
 fn write_series<K: Sink>(alloc: Global, numbers: &[u64], out: &mut K) -> Result<(), PrintFault>
-    ensures written { OnOk result (GainsAll (K.held out.old) (K.held out.new) (K.room out.old) (K.room out.new) (K.faults out.old) (K.faults out.new) (series_text numbers.now)) }
-    ensures unwritten { IfErr result (IsUnwritten (K.held out.old) (K.held out.new) (K.room out.old) (K.faults out.old) (K.faults out.new) (series_text numbers.now)) }
+    ensures written { OnOk result (GainsAll (K.held out.old) (K.held out.new) (K.room out.old) (K.room out.new)
+        (K.faults out.old) (K.faults out.new) (series_text numbers.now)) }
+    ensures unwritten { IfErr result (IsUnwritten (K.held out.old) (K.held out.new) (K.room out.old)
+        (K.faults out.old) (K.faults out.new) (series_text numbers.now)) }
     ensures steady { result ≢ Err PrintFault.WriteFault → K.faults out.new ≡ K.faults out.old }
 {
     let text = series_text(alloc, numbers)?;
@@ -340,8 +375,10 @@ fn write_series<K: Sink>(alloc: Global, numbers: &[u64], out: &mut K) -> Result<
 }
 
 fn write_text<K: Sink>(out: &mut K, text: &[u8]) -> Result<(), PrintFault>
-    ensures written { OnOk result (GainsAll (K.held out.old) (K.held out.new) (K.room out.old) (K.room out.new) (K.faults out.old) (K.faults out.new) text.now) }
-    ensures unwritten { IfErr result (IsUnwritten (K.held out.old) (K.held out.new) (K.room out.old) (K.faults out.old) (K.faults out.new) text.now) }
+    ensures written { OnOk result (GainsAll (K.held out.old) (K.held out.new) (K.room out.old) (K.room out.new)
+        (K.faults out.old) (K.faults out.new) text.now) }
+    ensures unwritten { IfErr result (IsUnwritten (K.held out.old) (K.held out.new) (K.room out.old)
+        (K.faults out.old) (K.faults out.new) text.now) }
     ensures steady { result ≢ Err PrintFault.WriteFault → K.faults out.new ≡ K.faults out.old }
 {
     match write_all(out, text) {

@@ -21,8 +21,10 @@ pub fn tell_degree<T: Sink>(
     failed: &mut bool,
 ) -> Result<(), NoMemory>
     requires printable { traces ≡ true → IsPrintable (length alphabet.now.weights) account.now }
-    ensures told { OnOk result (Tells (T.held err.old) (T.held err.new) (T.faults err.old) (T.faults err.new) failed.old failed.new (trace_of traces alphabet.now.names d account.now)) }
-    ensures untold { OnErr result (Tells (T.held err.old) (T.held err.new) (T.faults err.old) (T.faults err.new) failed.old failed.new []) }
+    ensures told { OnOk result (Tells (T.held err.old) (T.held err.new) (T.faults err.old) (T.faults err.new)
+        failed.old failed.new (trace_of traces alphabet.now.names d account.now)) }
+    ensures untold { OnErr result (Tells (T.held err.old) (T.held err.new) (T.faults err.old) (T.faults err.new)
+        failed.old failed.new []) }
 {
     if !traces {
         return Ok(());
@@ -34,7 +36,8 @@ pub fn tell_degree<T: Sink>(
 
 /// Tells the line of the status.
 pub fn tell_status<T: Sink>(err: &mut T, failed: &mut bool, status: Status)
-    ensures { Tells (T.held err.old) (T.held err.new) (T.faults err.old) (T.faults err.new) failed.old failed.new (fault_line status) }
+    ensures { Tells (T.held err.old) (T.held err.new) (T.faults err.old) (T.faults err.new) failed.old failed.new
+        (fault_line status) }
 {
     let line = fault_line(&status);
     tell(err, failed, line.as_bytes());
@@ -42,7 +45,8 @@ pub fn tell_status<T: Sink>(err: &mut T, failed: &mut bool, status: Status)
 
 /// Tells a text, unless a write has failed before.
 fn tell<T: Sink>(err: &mut T, failed: &mut bool, text: &[u8])
-    ensures { Tells (T.held err.old) (T.held err.new) (T.faults err.old) (T.faults err.new) failed.old failed.new text.now }
+    ensures { Tells (T.held err.old) (T.held err.new) (T.faults err.old) (T.faults err.new) failed.old failed.new
+        text.now }
 {
     if *failed {
         return;

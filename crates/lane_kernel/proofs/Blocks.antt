@@ -1,9 +1,12 @@
 -- A block of places to which a multiple is added.
-use Rattle.std.proofs.Common.{◌≡◌, ◌+◌, ◌-◌, ◌*◌, ◌%◌, ◌<◌, ◌≤◌, ℕ, zero, suc, List, [], ◌∷◌, ◌++◌, All, drop, map, length, get_or, take, length-append, refl, sym, ap, ap₂, ◌∙◌, inl, inr, arith, subst}
+use Rattle.std.proofs.Common.{◌≡◌, ◌+◌, ◌-◌, ◌*◌, ◌%◌, ◌<◌, ◌≤◌, ℕ, zero, suc, List, [], ◌∷◌, ◌++◌, All, drop, map, length, get_or, take}
+use Rattle.std.proofs.Common.{length-append, refl, sym, ap, ap₂, ◌∙◌, inl, inr, arith, subst}
 use Rattle.std.proofs.Math.Nat.{add-mod-mod}
 use Rattle.std.proofs.lemmas.Bool.{cases_lt}
-use Rattle.std.proofs.lemmas.List.{append-nil, drop_all, get_or_append_left, get_or-append_right, get_or-drop, get_or-map, get_or-take, length-drop, length-map, length-take-le, take_all}
-use Rattle.std.proofs.lemmas.Simd.{Each1-from_get_or, get_or-chunk, get_or-put_chunk_above, get_or-put_chunk_at, get_or-put_chunk_below, get_or-zip2, length-chunk, length-put_chunk, length-zip2}
+use Rattle.std.proofs.lemmas.List.{append-nil, drop_all, get_or_append_left, get_or-append_right, get_or-drop, get_or-map, get_or-take, length-drop}
+use Rattle.std.proofs.lemmas.List.{length-map, length-take-le, take_all}
+use Rattle.std.proofs.lemmas.Simd.{Each1-from_get_or, get_or-chunk, get_or-put_chunk_above, get_or-put_chunk_at, get_or-put_chunk_below, get_or-zip2}
+use Rattle.std.proofs.lemmas.Simd.{length-chunk, length-put_chunk, length-zip2}
 use Rattle.field_table.specs.Residues.{plus_multiple}
 use Rattle.field_table.proofs.Multiples.{plus_multiple_by_places}
 use Rattle.lane_kernel.specs.Lanes.{IsAddedUpto}
@@ -28,11 +31,15 @@ block_added p a at next y x now v l done room is sum =
     let now_long : length (chunk at 8 now) ≡ 8 = length-chunk at 8 now (omega (arith, room, done.size)) in
     let x_long : length (chunk at 8 x) ≡ 8 = length-chunk at 8 x (omega (arith, room, l)) in
     let times_long : length (map (λ s. (a * s) % p) (chunk at 8 x)) ≡ 8 = length-map (chunk at 8 x) (λ s. (a * s) % p) ∙ x_long in
-    let long : length v ≡ 8 = ap length sum ∙ length-zip2 (λ r s. (r + s) % p) (chunk at 8 now) (map (λ s. (a * s) % p) (chunk at 8 x)) (omega (arith, now_long, times_long)) ∙ now_long in
+    let long : length v ≡ 8 = ap length sum ∙ length-zip2 (λ r s. (r + s) % p) (chunk at 8 now) (map (λ s. (a * s) % p) (chunk at 8 x))
+    (omega (arith, now_long, times_long)) ∙ now_long in
     let here : (i : ℕ) → i < 8 → get_or (put_chunk at now v) (at + i) 0 ≡ (get_or y (at + i) 0 + a * get_or x (at + i) 0) % p =
     λ i low. get_or-put_chunk_at at now v i 0 (omega (arith, low, long)) (omega (arith, long, room, done.size)) ∙ ap (λ (w : List ℕ). get_or w i 0) sum
-    ∙ get_or-zip2 (λ r s. (r + s) % p) (chunk at 8 now) (map (λ s. (a * s) % p) (chunk at 8 x)) i 0 0 0 (omega (arith, low, now_long)) (omega (arith, low, times_long))
-    ∙ ap₂ (λ (r s : ℕ). (r + s) % p) (get_or-chunk at 8 now i 0 low ∙ done.others (at + i) (omega arith)) (get_or-map (λ s. (a * s) % p) (chunk at 8 x) i 0 0 (omega (arith, low, x_long)) ∙ ap (λ (s : ℕ). (a * s) % p) (get_or-chunk at 8 x i 0 low))
+    ∙ get_or-zip2 (λ r s. (r + s) % p) (chunk at 8 now) (map (λ s. (a * s) % p) (chunk at 8 x)) i 0 0 0 (omega (arith, low, now_long))
+    (omega (arith, low, times_long))
+    ∙ ap₂ (λ (r s : ℕ). (r + s) % p) (get_or-chunk at 8 now i 0 low ∙ done.others (at + i) (omega arith))
+    (get_or-map (λ s. (a * s) % p) (chunk at 8 x) i 0 0 (omega (arith, low, x_long))
+    ∙ ap (λ (s : ℕ). (a * s) % p) (get_or-chunk at 8 x i 0 low))
     ∙ add-mod-mod (get_or y (at + i) 0) (a * get_or x (at + i) 0) p in
     record {
       size = length-put_chunk at now v ∙ done.size;
@@ -47,7 +54,8 @@ block_added p a at next y x now v l done room is sum =
     }
 
 -- what is added to the first places and to the rest is added to the whole
-pub whole_added : (p a done : ℕ) (y x mid rest : List ℕ) → length y ≡ length x → done ≤ length y → IsAddedUpto p a y x done mid → rest ≡ plus_multiple p a (drop done mid) (drop done x)
+pub whole_added : (p a done : ℕ) (y x mid rest : List ℕ) → length y ≡ length x → done ≤ length y → IsAddedUpto p a y x done mid →
+    rest ≡ plus_multiple p a (drop done mid) (drop done x)
     → take done mid ++ rest ≡ plus_multiple p a y x
 whole_added p a done y x mid rest l le h is =
     let left : length (drop done mid) ≡ length y - done = length-drop done mid ∙ ap (λ (n : ℕ). n - done) h.size in
@@ -63,7 +71,8 @@ whole_added p a done y x mid rest l le h is =
           let inside : i < length (drop done mid) = omega (arith, from, within, left) in
           get_or-append_right (take done mid) rest done k 0 front_long from ∙ ap (λ (r : List ℕ). get_or r i 0) is
           ∙ plus_multiple-at p a (drop done mid) (drop done x) i (left ∙ sym right) inside
-          ∙ ap₂ (λ (r s : ℕ). (r + a * s) % p) (get_or-drop done mid i 0 ∙ h.others (done + i) (omega arith) ∙ ap (λ (n : ℕ). get_or y n 0) shown) (get_or-drop done x i 0 ∙ ap (λ (n : ℕ). get_or x n 0) shown))
+          ∙ ap₂ (λ (r s : ℕ). (r + a * s) % p) (get_or-drop done mid i 0 ∙ h.others (done + i) (omega arith)
+          ∙ ap (λ (n : ℕ). get_or y n 0) shown) (get_or-drop done x i 0 ∙ ap (λ (n : ℕ). get_or x n 0) shown))
     ])
   where
     length-plus_multiple : (p a : ℕ) (y x : List ℕ) → length (plus_multiple p a y x) ≡ length y
@@ -71,13 +80,15 @@ whole_added p a done y x mid rest l le h is =
     length-plus_multiple p a (r ∷ y) [] = refl
     length-plus_multiple p a (r ∷ y) (s ∷ x) = ap suc (length-plus_multiple p a y x)
 
-    plus_multiple-at : (p a : ℕ) (y x : List ℕ) (k : ℕ) → length y ≡ length x → k < length y → get_or (plus_multiple p a y x) k 0 ≡ (get_or y k 0 + a * get_or x k 0) % p
+    plus_multiple-at : (p a : ℕ) (y x : List ℕ) (k : ℕ) → length y ≡ length x → k < length y →
+        get_or (plus_multiple p a y x) k 0 ≡ (get_or y k 0 + a * get_or x k 0) % p
     plus_multiple-at p a [] x k l within = absurd (omega (arith, within))
     plus_multiple-at p a (r ∷ y) [] k l within = absurd (omega (arith, l))
     plus_multiple-at p a (r ∷ y) (s ∷ x) zero l within = refl
     plus_multiple-at p a (r ∷ y) (s ∷ x) (suc k) l within = plus_multiple-at p a y x k (omega (arith, l)) (omega (arith, within))
 
-pub parts_added : (p q a done k j n : ℕ) (y x mid rest : List ℕ) → length y ≡ length x → done ≤ length y → q ≡ p → IsAddedUpto q a y x n mid → n ≡ done → k ≡ length mid - done → j ≡ length x - done
+pub parts_added : (p q a done k j n : ℕ) (y x mid rest : List ℕ) → length y ≡ length x → done ≤ length y → q ≡ p → IsAddedUpto q a y x n mid
+    → n ≡ done → k ≡ length mid - done → j ≡ length x - done
     → rest ≡ plus_multiple p a (take k (drop done mid)) (take j (drop done x)) → put_mid done k mid rest ≡ plus_multiple p a y x
 parts_added p q a done k j n y x mid rest l le same h upto left right is =
     let left_whole : take k (drop done mid) ≡ drop done mid = take_all k (drop done mid) (omega (arith, length-drop done mid, left)) in

@@ -1,5 +1,6 @@
 -- Operations on lanes as lists.
-use Rattle.std.proofs.Common.{◌≡◌, ◌+◌, ◌-◌, ◌*◌, ◌/◌, ◌%◌, ◌<◌, ◌≤◌, ◌^◌, ℕ, zero, suc, Bool, true, false, cond, ltb, List, [], ◌∷◌, map, length, replicate, refl, sym, ap, ◌∙◌, inl, inr, arith, subst, Fits, w32}
+use Rattle.std.proofs.Common.{◌≡◌, ◌+◌, ◌-◌, ◌*◌, ◌/◌, ◌%◌, ◌<◌, ◌≤◌, ◌^◌, ℕ, zero, suc, Bool, true, false, cond, ltb, List, [], ◌∷◌, map, length}
+use Rattle.std.proofs.Common.{replicate, refl, sym, ap, ◌∙◌, inl, inr, arith, subst, Fits, w32}
 use Rattle.std.proofs.Math.Nat.{mod-eq_of_lt, mul-add-mod_self_left}
 use Rattle.std.proofs.lemmas.Bool.{cases_lt, cond_above, cond_below, le-ltb, lt-ltb}
 use Rattle.std.proofs.lemmas.Nat.{div-add-mod', mul-le}
@@ -7,7 +8,8 @@ use Rattle.lane_kernel.proofs.Shoup.{less_once, near_quotient, near_remainder, I
 use lib.Lanes.{zip2, Each1, sel_l, top}
 
 -- each lane less p, where it is not below p
-less_lane : (p r : ℕ) → p < 2 ^ 32 → r < 2 ^ 32 → cond (top 31 (cond (ltb r ((r + (2 ^ 32 - p)) % 2 ^ 32)) (2 ^ 32 - 1) 0)) r ((r + (2 ^ 32 - p)) % 2 ^ 32) ≡ cond (ltb r p) r (r - p)
+less_lane : (p r : ℕ) → p < 2 ^ 32 → r < 2 ^ 32 → cond (top 31 (cond (ltb r ((r + (2 ^ 32 - p)) % 2 ^ 32)) (2 ^ 32 - 1) 0)) r
+    ((r + (2 ^ 32 - p)) % 2 ^ 32) ≡ cond (ltb r p) r (r - p)
 less_lane p r small lt = elim (cases_lt r p) [
   | inl below ↦ (
       let wrapped : (r + (2 ^ 32 - p)) % 2 ^ 32 ≡ r + (2 ^ 32 - p) = mod-eq_of_lt (omega (arith, small, below)) in
@@ -15,20 +17,23 @@ less_lane p r small lt = elim (cases_lt r p) [
       ap (λ (b : Bool). cond (top 31 (cond b (2 ^ 32 - 1) 0)) r ((r + (2 ^ 32 - p)) % 2 ^ 32)) test ∙ cond_below r p r (r - p) below)
   | inr above ↦ (
       let split : 2 ^ 32 * 1 + (r - p) ≡ r + (2 ^ 32 - p) = omega (arith, small, above) in
-      let wrapped : (r + (2 ^ 32 - p)) % 2 ^ 32 ≡ r - p = ap (λ (n : ℕ). n % 2 ^ 32) (sym split) ∙ mul-add-mod_self_left (2 ^ 32) 1 (r - p) ∙ mod-eq_of_lt (omega (arith, lt)) in
+      let wrapped : (r + (2 ^ 32 - p)) % 2 ^ 32 ≡ r - p = ap (λ (n : ℕ). n % 2 ^ 32) (sym split) ∙ mul-add-mod_self_left (2 ^ 32) 1 (r - p)
+      ∙ mod-eq_of_lt (omega (arith, lt)) in
       let test : ltb r ((r + (2 ^ 32 - p)) % 2 ^ 32) ≡ false = ap (ltb r) wrapped ∙ le-ltb r (r - p) (omega arith) in
       ap (λ (b : Bool). cond (top 31 (cond b (2 ^ 32 - 1) 0)) r ((r + (2 ^ 32 - p)) % 2 ^ 32)) test ∙ wrapped ∙ cond_above r p r (r - p) (r - p) above refl)
 ]
 
 pub less_lanes : (p n : ℕ) (v : List ℕ) → p < 2 ^ 32 → length v ≡ n → Each1 (Fits w32) v
-    → sel_l (map (top 31) (zip2 (λ a b. cond (ltb a b) (2 ^ 32 - 1) 0) v (zip2 (λ a b. (a + (2 ^ 32 - b)) % 2 ^ 32) v (replicate n p)))) v (zip2 (λ a b. (a + (2 ^ 32 - b)) % 2 ^ 32) v (replicate n p))
+    → sel_l (map (top 31) (zip2 (λ a b. cond (ltb a b) (2 ^ 32 - 1) 0) v (zip2 (λ a b. (a + (2 ^ 32 - b)) % 2 ^ 32) v (replicate n p)))) v
+    (zip2 (λ a b. (a + (2 ^ 32 - b)) % 2 ^ 32) v (replicate n p))
     ≡ map (λ r. cond (ltb r p) r (r - p)) v
 less_lanes p n [] small l each = refl
 less_lanes p zero (r ∷ v) small l each = absurd (omega (arith, l))
 less_lanes p (suc n) (r ∷ v) small l each = λ i. less_lane p r small each.0.fits i ∷ less_lanes p n v small (omega (arith, l)) each.1 i
 
 -- the sums of residues, lane by lane
-pub sum_lanes : (p : ℕ) (f s : List ℕ) → p < 2 ^ 31 → Each1 (λ r. r < p) f → Each1 (λ r. r < p) s → map (λ r. cond (ltb r p) r (r - p)) (zip2 (λ a b. (a + b) % 2 ^ 32) f s) ≡ zip2 (λ a b. (a + b) % p) f s
+pub sum_lanes : (p : ℕ) (f s : List ℕ) → p < 2 ^ 31 → Each1 (λ r. r < p) f → Each1 (λ r. r < p) s →
+    map (λ r. cond (ltb r p) r (r - p)) (zip2 (λ a b. (a + b) % 2 ^ 32) f s) ≡ zip2 (λ a b. (a + b) % p) f s
 sum_lanes p [] s small h k = refl
 sum_lanes p (a ∷ f) [] small h k = refl
 sum_lanes p (a ∷ f) (b ∷ s) small h k =
@@ -52,13 +57,15 @@ rest_lane w b p a s wide room a_lt s_lt =
     ] in
     let multiple : a * s < w = omega (arith, room, mul-le (a + 1) (s + 1) b b (omega (arith, a_lt, wide)) (omega (arith, s_lt, wide))) in
     let product : q * s < w = omega (arith, room, mul-le (q + 1) (s + 1) b b (omega (arith, q_lt)) (omega (arith, s_lt, wide))) in
-    let taken : ((q * s) % w / b * p) % w ≡ t * p = ap (λ (n : ℕ). (n / b * p) % w) (mod-eq_of_lt product) ∙ mod-eq_of_lt (omega (arith, near.below, multiple)) in
+    let taken : ((q * s) % w / b * p) % w ≡ t * p = ap (λ (n : ℕ). (n / b * p) % w) (mod-eq_of_lt product)
+    ∙ mod-eq_of_lt (omega (arith, near.below, multiple)) in
     let back : w * 1 + (a * s - t * p) ≡ a * s + (w - t * p) = omega (arith, near.below, multiple) in
     ap (λ (n : ℕ). (n + (w - ((q * s) % w / b * p) % w)) % w) (mod-eq_of_lt multiple) ∙ ap (λ (n : ℕ). (a * s + (w - n)) % w) taken
     ∙ ap (λ (n : ℕ). n % w) (sym back) ∙ mul-add-mod_self_left w 1 (a * s - t * p) ∙ mod-eq_of_lt (omega (arith, multiple))
 
 pub rest_lanes : (w b p a q n k : ℕ) (xs : List ℕ) → p ≤ b → b * b ≤ w → a < p → q ≡ a * b / p → length xs ≡ n → Each1 (λ s. s < p) xs → 2 ^ k ≡ b
-    → zip2 (λ c d. (c + (w - d)) % w) (zip2 (λ c d. (c * d) % w) (replicate n a) xs) (zip2 (λ c d. (c * d) % w) (zip2 (λ c d. c / 2 ^ d) (zip2 (λ c d. (c * d) % w) (replicate n q) xs) (replicate n k)) (replicate n p))
+    → zip2 (λ c d. (c + (w - d)) % w) (zip2 (λ c d. (c * d) % w) (replicate n a) xs)
+    (zip2 (λ c d. (c * d) % w) (zip2 (λ c d. c / 2 ^ d) (zip2 (λ c d. (c * d) % w) (replicate n q) xs) (replicate n k)) (replicate n p))
     ≡ map (λ s. a * s - q * s / b * p) xs
 rest_lanes w b p a q zero k [] wide room a_lt is l each e = refl
 rest_lanes w b p a q (suc n) k [] wide room a_lt is l each e = absurd (omega (arith, l))
@@ -66,11 +73,13 @@ rest_lanes w b p a q zero k (s ∷ xs) wide room a_lt is l each e = absurd (omeg
 rest_lanes w b p a q (suc n) k (s ∷ xs) wide room a_lt is l each e =
     let own : ((a * s) % w + (w - ((q * s) % w / 2 ^ k * p) % w)) % w ≡ a * s - q * s / b * p =
     ap (λ (i : ℕ). ((a * s) % w + (w - ((q * s) % w / i * p) % w)) % w) e
-    ∙ ap (λ (i : ℕ). ((a * s) % w + (w - ((i * s) % w / b * p) % w)) % w) is ∙ rest_lane w b p a s wide room a_lt each.0 ∙ ap (λ (i : ℕ). a * s - i * s / b * p) (sym is) in
+    ∙ ap (λ (i : ℕ). ((a * s) % w + (w - ((i * s) % w / b * p) % w)) % w) is ∙ rest_lane w b p a s wide room a_lt each.0
+    ∙ ap (λ (i : ℕ). a * s - i * s / b * p) (sym is) in
     λ i. own i ∷ rest_lanes w b p a q n k xs wide room a_lt is (omega (arith, l)) each.1 e i
 
 -- the remainders of the multiples
-pub remainder_lanes : (b p a q : ℕ) (xs : List ℕ) → p ≤ b → a < p → q ≡ a * b / p → Each1 (λ s. s < p) xs → map (λ r. cond (ltb r p) r (r - p)) (map (λ s. a * s - q * s / b * p) xs) ≡ map (λ s. (a * s) % p) xs
+pub remainder_lanes : (b p a q : ℕ) (xs : List ℕ) → p ≤ b → a < p → q ≡ a * b / p → Each1 (λ s. s < p) xs →
+    map (λ r. cond (ltb r p) r (r - p)) (map (λ s. a * s - q * s / b * p) xs) ≡ map (λ s. (a * s) % p) xs
 remainder_lanes b p a q [] wide a_lt is each = refl
 remainder_lanes b p a q (s ∷ xs) wide a_lt is each =
     let lt : s < p = each.0 in
@@ -81,7 +90,8 @@ remainder_lanes b p a q (s ∷ xs) wide a_lt is each =
     λ i. own i ∷ remainder_lanes b p a q xs wide a_lt is each.1 i
 
 -- what is left of each multiple is below 2p
-pub rest_small : (b p a q : ℕ) (xs : List ℕ) → p ≤ b → a < p → q ≡ a * b / p → Each1 (λ s. s < p) xs → Each1 (λ r. r < 2 * p) (map (λ s. a * s - q * s / b * p) xs)
+pub rest_small : (b p a q : ℕ) (xs : List ℕ) → p ≤ b → a < p → q ≡ a * b / p → Each1 (λ s. s < p) xs →
+    Each1 (λ r. r < 2 * p) (map (λ s. a * s - q * s / b * p) xs)
 rest_small b p a q [] wide a_lt is each = tt
 rest_small b p a q (s ∷ xs) wide a_lt is each =
     let lt : s < p = each.0 in

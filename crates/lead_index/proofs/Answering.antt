@@ -1,5 +1,6 @@
 -- What a tree that agrees with a list answers, and the tree with no word.
-use Rattle.std.proofs.Common.{◌≡◌, ◌≤◌, ℕ, List, [], ◌∷◌, ◌++◌, length, take, drop, refl, sym, ap, ◌∙◌, arith, subst, Option, Some, None, MatchOption, append_assoc, length-append, length-drop}
+use Rattle.std.proofs.Common.{◌≡◌, ◌≤◌, ℕ, List, [], ◌∷◌, ◌++◌, length, take, drop, refl, sym, ap, ◌∙◌, arith, subst, Option, Some, None, MatchOption}
+use Rattle.std.proofs.Common.{append_assoc, length-append, length-drop}
 use Rattle.std.specs.List.{slice_get}
 use Rattle.std.proofs.lemmas.List.{take-append-drop}
 use Rattle.std.proofs.lemmas.List.Elements.{All-nil}
@@ -19,8 +20,10 @@ stands_at word u rest at within joined = record {
   same = ap (take (length u)) joined ∙ take-append_seam u rest;
 }
 
-pub answered : (nodes : List Node) (leads : List Lead) (word letters : List ℕ) (at : ℕ) → IsIndex leads → IsTree nodes leads → at ≤ length word → letters ≡ drop at word → (answer : Option ℕ)
-    → MatchOption answer (IsMissed nodes 0 letters) (λ element. Meets nodes letters element) → MatchOption answer (IsFreeAt leads word at) (λ element. Starts leads word at element)
+pub answered : (nodes : List Node) (leads : List Lead) (word letters : List ℕ) (at : ℕ) → IsIndex leads → IsTree nodes leads →
+    at ≤ length word → letters ≡ drop at word → (answer : Option ℕ)
+    → MatchOption answer (IsMissed nodes 0 letters) (λ element. Meets nodes letters element) →
+    MatchOption answer (IsFreeAt leads word at) (λ element. Starts leads word at element)
 answered nodes leads word letters at index tree within is None missed =
     All-from_members (λ l. OccursAt l.word word at → ⊥) leads
     (λ l among o. missed l.word (drop (length l.word) letters) l.element (tree.listed l among)
@@ -28,7 +31,8 @@ answered nodes leads word letters at index tree within is None missed =
 answered nodes leads word letters at index tree within is (Some element) met =
     let u : List ℕ = tree.before met.n ++ met.node.letter ∷ [] in
     let l : Lead = record { word = u; element = element } in
-    let joined : drop at word ≡ u ++ met.rest = sym is ∙ met.spelled tree.before tree.labelled ∙ sym (append_assoc (tree.before met.n) (met.node.letter ∷ []) met.rest) in
+    let joined : drop at word ≡ u ++ met.rest = sym is ∙ met.spelled tree.before tree.labelled
+    ∙ sym (append_assoc (tree.before met.n) (met.node.letter ∷ []) met.rest) in
     starts_here leads index word at l (tree.ends met.n element met.node met.stands met.is) (stands_at word u met.rest at within joined)
 
 -- no words

@@ -20,7 +20,8 @@ pub record IsFit (w : List ℕ) : Type 0 where
   pub some : w ≢ []
   pub small : length w ≤ 64
 
-pub kept_fit : (weights : List ℕ) (done : ℕ) → AreWeights weights → done ≤ 64 → (f : List Term) → IsKeptElement weights done f → (w : List ℕ) → lead_of f ≡ Some w → IsFit w
+pub kept_fit : (weights : List ℕ) (done : ℕ) → AreWeights weights → done ≤ 64 → (f : List Term) → IsKeptElement weights done f →
+    (w : List ℕ) → lead_of f ≡ Some w → IsFit w
 kept_fit weights done aw le [] k w e = cc e
 kept_fit weights done aw le (t ∷ f) k w e =
     let is : t.word ≡ w = some_same t.word w e in
@@ -37,7 +38,8 @@ module _ (G : List (List Term)) where
   pub none_indexed : IsIndexUpto 0 []
   none_indexed l = (λ m. absurd (Contains-none l m), λ h. absurd (omega (arith, h.0)))
 
-  pub fresh_lead : IsFactorFree G → (n : ℕ) → n < length G → (leads : List Lead) → IsIndexUpto n leads → (w : List ℕ) → lead_of (get_or G n []) ≡ Some w → IsFit w → IsFresh leads w
+  pub fresh_lead : IsFactorFree G → (n : ℕ) → n < length G → (leads : List Lead) → IsIndexUpto n leads → (w : List ℕ) →
+      lead_of (get_or G n []) ≡ Some w → IsFit w → IsFresh leads w
   fresh_lead free n within leads h w e fit = record {
     some = fit.some;
     small = fit.small;
@@ -76,7 +78,8 @@ module _ (G : List (List Term)) where
           | inr from ↦
               let same : n ≡ l.element = omega (arith, from, r.0) in
               let word : t.word ≡ l.word = some_same t.word l.word (sym (ap lead_of e) ∙ ap (λ (i : ℕ). lead_of (get_or G i [])) same ∙ r.1) in
-              subst (Contains (leads ++ own ∷ [])) (λ i. record { word = word i; element = same i }) (Contains-append_right leads (own ∷ []) own (Contains-first own []))
+              subst (Contains (leads ++ own ∷ [])) (λ i. record { word = word i; element = same i })
+              (Contains-append_right leads (own ∷ []) own (Contains-first own []))
         ],
       )
 
@@ -87,7 +90,8 @@ module _ (G : List (List Term)) where
     λ r. (h l).1 (omega (arith, slice_get_within G l.element r.0 r.1, is), ap lead_of (get_or_from_slice_get G l.element r.0 [] r.1) ∙ r.2),
   )
 
-pub with_lead-some : (leads : List Lead) (f : List Term) (n : ℕ) (w : List ℕ) → Some w ≡ lead_of f → with_lead leads f n ≡ leads ++ record { word = w; element = n } ∷ []
+pub with_lead-some : (leads : List Lead) (f : List Term) (n : ℕ) (w : List ℕ) → Some w ≡ lead_of f →
+    with_lead leads f n ≡ leads ++ record { word = w; element = n } ∷ []
 with_lead-some leads [] n w e = cc e
 with_lead-some leads (t ∷ f) n w e = let is : t.word ≡ w = some_same t.word w (sym e) in λ i. leads ++ record { word = is i; element = n } ∷ []
 

@@ -1,5 +1,6 @@
 -- The letters before the nodes of a grown tree.
-use Rattle.std.proofs.Common.{◌≡◌, ◌⊎◌, ◌+◌, ◌-◌, ◌<◌, ◌≤◌, ℕ, List, [], ◌∷◌, ◌++◌, length, take, get_or, refl, sym, ap, ◌∙◌, inl, inr, arith, subst, Some, None, append_assoc}
+use Rattle.std.proofs.Common.{◌≡◌, ◌⊎◌, ◌+◌, ◌-◌, ◌<◌, ◌≤◌, ℕ, List, [], ◌∷◌, ◌++◌, length, take, get_or, refl, sym, ap, ◌∙◌, inl, inr, arith, subst}
+use Rattle.std.proofs.Common.{Some, None, append_assoc}
 use Rattle.std.specs.List.{slice_get}
 use Rattle.std.proofs.lemmas.Bool.{cases_lt}
 use Rattle.std.proofs.lemmas.List.{append-nil, take_more}
@@ -25,7 +26,8 @@ unfolding label
 label_high n start old new (inl lt) h = absurd (omega arith)
 label_high n start old new (inr le) h = refl
 
-module _ (old new : List Node) (leads : List Lead) (front rest letters : List ℕ) (element : ℕ) (tree : IsTree old leads) (grown : IsGrown old new tree.before front rest letters element) where
+module _ (old new : List Node) (leads : List Lead) (front rest letters : List ℕ) (element : ℕ) (tree : IsTree old leads)
+    (grown : IsGrown old new tree.before front rest letters element) where
   pub before : ℕ → List ℕ
   before n = label n (length old) (tree.before n) (front ++ take (n - length old) rest) (cases_lt n (length old))
 
@@ -36,7 +38,8 @@ module _ (old new : List Node) (leads : List Lead) (front rest letters : List �
   pub high : (i : ℕ) → before (length old + i) ≡ front ++ take i rest
   unfolding before
   high i =
-      label_high (length old + i) (length old) (tree.before (length old + i)) (front ++ take (length old + i - length old) rest) (cases_lt (length old + i) (length old)) (omega arith)
+      label_high (length old + i) (length old) (tree.before (length old + i)) (front ++ take (length old + i - length old) rest)
+      (cases_lt (length old + i) (length old)) (omega arith)
       ∙ ap (λ (k : ℕ). front ++ take k rest) (let e : length old + i - length old ≡ i = omega arith in e)
 
   at_start : before (length old) ≡ front
@@ -66,7 +69,8 @@ module _ (old new : List Node) (leads : List Lead) (front rest letters : List �
   ]
 
   -- a link along the path
-  path_child : (i c : ℕ) (later : Node) → i < length rest → IsOnPath (length old + i + 1) rest element i later → later.child ≡ Some c → (i + 1 < length rest) × (c ≡ length old + i + 1)
+  path_child : (i c : ℕ) (later : Node) → i < length rest → IsOnPath (length old + i + 1) rest element i later → later.child ≡ Some c →
+      (i + 1 < length rest) × (c ≡ length old + i + 1)
   path_child i c later lt on e = elim (cases_lt (i + 1) (length rest)) [
     | inl more ↦ (more, let q : Some (length old + i + 1) ≡ Some c = sym (on.child more) ∙ e in cc)
     | inr last ↦ absurd (let q : None ≡ Some c = sym (on.last_child last) ∙ e in cc)
@@ -122,7 +126,8 @@ module _ (old new : List Node) (leads : List Lead) (front rest letters : List �
       | inr new_one ↦
           let on = new_one.3 in
           let q = path_child new_one.0 c later new_one.1 on h in
-          let here : before n ++ later.letter ∷ [] ≡ front ++ take (new_one.0 + 1) rest = ap (λ (m : ℕ). before m ++ later.letter ∷ []) new_one.2 ∙ along new_one.0 later.letter new_one.1 on.letter in
+          let here : before n ++ later.letter ∷ [] ≡ front ++ take (new_one.0 + 1) rest =
+          ap (λ (m : ℕ). before m ++ later.letter ∷ []) new_one.2 ∙ along new_one.0 later.letter new_one.1 on.letter in
           let next : c ≡ length old + (new_one.0 + 1) = let k = q.1 in omega arith in
           ap before next ∙ high (new_one.0 + 1) ∙ sym here
     ];

@@ -1,5 +1,6 @@
 -- Where the words of an index stand in a word.
-use Rattle.std.proofs.Common.{◌≡◌, ◌+◌, ◌-◌, ◌<◌, ◌≤◌, ℕ, zero, suc, List, [], ◌∷◌, ◌++◌, length, length-drop, take, drop, get_or, refl, sym, ap, ◌∙◌, inl, inr, arith, AllPairs, subst}
+use Rattle.std.proofs.Common.{◌≡◌, ◌+◌, ◌-◌, ◌<◌, ◌≤◌, ℕ, zero, suc, List, [], ◌∷◌, ◌++◌, length, length-drop, take, drop, get_or, refl, sym, ap, ◌∙◌}
+use Rattle.std.proofs.Common.{inl, inr, arith, AllPairs, subst}
 use Rattle.std.specs.List.{Contains}
 use Rattle.std.proofs.lemmas.Bool.{cases_lt}
 use Rattle.std.proofs.lemmas.List.{nil_from_length, take-append-drop, take_all}
@@ -35,15 +36,18 @@ apart_at u v w at apart o q = elim (cases_lt (length u) (length v)) [
 abbrev ApartLeads : Lead → Lead → Type 0
 ApartLeads l m = AreApart l.word m.word
 
-same_among : (w : List ℕ) (at : ℕ) (xs : List Lead) → AllPairs ApartLeads xs → (l m : Lead) → Contains xs l → Contains xs m → OccursAt l.word w at → OccursAt m.word w at → l ≡ m
+same_among : (w : List ℕ) (at : ℕ) (xs : List Lead) → AllPairs ApartLeads xs → (l m : Lead) → Contains xs l → Contains xs m →
+    OccursAt l.word w at → OccursAt m.word w at → l ≡ m
 same_among w at [] p l m cl cm o q = absurd (Contains-none l cl)
 same_among w at (x ∷ xs) p l m cl cm o q = elim (Contains-cases x xs l cl) [
   | inl e ↦ elim (Contains-cases x xs m cm) [
     | inl f ↦ sym e ∙ f
-    | inr n ↦ absurd (apart_at x.word m.word w at (All-contains (ApartLeads x) xs m (AllPairs-first ApartLeads x xs p) n) (subst (λ (y : Lead). OccursAt y.word w at) (sym e) o) q)
+    | inr n ↦ absurd (apart_at x.word m.word w at (All-contains (ApartLeads x) xs m (AllPairs-first ApartLeads x xs p) n)
+        (subst (λ (y : Lead). OccursAt y.word w at) (sym e) o) q)
   ]
   | inr k ↦ elim (Contains-cases x xs m cm) [
-    | inl f ↦ absurd (apart_at x.word l.word w at (All-contains (ApartLeads x) xs l (AllPairs-first ApartLeads x xs p) k) (subst (λ (y : Lead). OccursAt y.word w at) (sym f) q) o)
+    | inl f ↦ absurd (apart_at x.word l.word w at (All-contains (ApartLeads x) xs l (AllPairs-first ApartLeads x xs p) k)
+        (subst (λ (y : Lead). OccursAt y.word w at) (sym f) q) o)
     | inr n ↦ same_among w at xs (AllPairs-rest ApartLeads x xs p) l m k n o q
   ]
 ]
@@ -73,7 +77,8 @@ free_from_places leads h w each at = elim (cases_lt at (length w)) [
 ]
 
 -- the first place at which a word stands
-pub first_place : (leads : List Lead) (w : List ℕ) (at element : ℕ) → ((k : ℕ) → k < at → IsFreeAt leads w k) → Starts leads w at element → IsFirstReducer leads w at element
+pub first_place : (leads : List Lead) (w : List ℕ) (at element : ℕ) → ((k : ℕ) → k < at → IsFreeAt leads w k) → Starts leads w at element →
+    IsFirstReducer leads w at element
 first_place leads w at element before s = record {
   starts = s;
   least = λ l k c o. elim (cases_lt k at) [
@@ -83,13 +88,16 @@ first_place leads w at element before s = record {
 }
 
 -- a scan of the list that has come to place i
-pub found_lead : (leads items : List Lead) → IsIndex leads → items ≡ leads → (w : List ℕ) (at i : ℕ) (l : Lead) (u : List ℕ) → i < length items → l ≡ get_or items i l → u ≡ l.word → OccursAt u w at → Starts leads w at l.element
+pub found_lead : (leads items : List Lead) → IsIndex leads → items ≡ leads → (w : List ℕ) (at i : ℕ) (l : Lead) (u : List ℕ) →
+    i < length items → l ≡ get_or items i l → u ≡ l.word → OccursAt u w at → Starts leads w at l.element
 found_lead leads items h e w at i l u lt is same o =
     starts_here leads h w at l (subst (λ (xs : List Lead). Contains xs l) e (i, lt, sym is)) (subst (λ (v : List ℕ). OccursAt v w at) same o)
 
-pub none_more : (items : List Lead) (w : List ℕ) (at i : ℕ) (l : Lead) (u : List ℕ) → i < length items → l ≡ get_or items i l → u ≡ l.word → (OccursAt u w at → ⊥) → IsFreeAt (take i items) w at → IsFreeAt (take (i + 1) items) w at
+pub none_more : (items : List Lead) (w : List ℕ) (at i : ℕ) (l : Lead) (u : List ℕ) → i < length items → l ≡ get_or items i l → u ≡ l.word →
+    (OccursAt u w at → ⊥) → IsFreeAt (take i items) w at → IsFreeAt (take (i + 1) items) w at
 none_more items w at i l u lt is same not h =
-    All-more (λ m. OccursAt m.word w at → ⊥) items i l lt h (λ o. not (subst (λ (v : List ℕ). OccursAt v w at) (ap (λ (m : Lead). m.word) (sym is) ∙ sym same) o))
+    All-more (λ m. OccursAt m.word w at → ⊥) items i l lt h (λ o. not
+    (subst (λ (v : List ℕ). OccursAt v w at) (ap (λ (m : Lead). m.word) (sym is) ∙ sym same) o))
 
 pub none_at_all : (leads items : List Lead) → items ≡ leads → (w : List ℕ) (at i : ℕ) → length items ≤ i → IsFreeAt (take i items) w at → IsFreeAt leads w at
 none_at_all leads items e w at i le h = subst (λ (xs : List Lead). IsFreeAt xs w at) (take_all i items le ∙ e) h

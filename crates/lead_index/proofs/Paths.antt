@@ -22,19 +22,24 @@ slice_get-push [] y (suc n) e = absurd (omega (arith, e))
 slice_get-push (x ∷ xs) y zero e = absurd (omega (arith, e))
 slice_get-push (x ∷ xs) y (suc n) e = slice_get-push xs y n (omega (arith, e))
 
-pub begun_more : (old new more : List Node) (letters : List ℕ) (element i : ℕ) (node : Node) → IsBegun old new letters element i → IsOnPath (length old + i + 1) letters element i node → more ≡ new ++ node ∷ []
+pub begun_more : (old new more : List Node) (letters : List ℕ) (element i : ℕ) (node : Node) → IsBegun old new letters element i →
+    IsOnPath (length old + i + 1) letters element i node → more ≡ new ++ node ∷ []
     → IsBegun old more letters element (i + 1)
 begun_more old new more letters element i node h on e = subst (λ (xs : List Node). IsBegun old xs letters element (i + 1)) (sym e) (record {
   count = let c = h.count in omega (arith, length-append new (node ∷ []));
   kept = λ n lt. slice_get-append new (node ∷ []) n (let c = h.count in omega arith) ∙ h.kept n lt;
   path = λ k lt. elim (cases_lt k i) [
     | inl below ↦ let p = h.path k below in (p.0, slice_get-append new (node ∷ []) (length old + k) (let c = h.count in omega arith) ∙ p.1, p.2)
-    | inr le ↦ let same : i ≡ k = omega arith in
-        (node, slice_get-push new node (length old + k) (let c = h.count in omega arith), subst (λ (m : ℕ). IsOnPath (length old + m + 1) letters element m node) same on)
+    | inr le ↦ let same : i ≡ k = omega arith in (
+      node,
+      slice_get-push new node (length old + k) (let c = h.count in omega arith),
+      subst (λ (m : ℕ). IsOnPath (length old + m + 1) letters element m node) same on,
+    )
   ];
 })
 
-pub begun_all : (old new : List Node) (letters : List ℕ) (element i : ℕ) → i ≡ length letters → IsBegun old new letters element i → HasPath old new letters element
+pub begun_all : (old new : List Node) (letters : List ℕ) (element i : ℕ) → i ≡ length letters → IsBegun old new letters element i →
+    HasPath old new letters element
 begun_all old new letters element i e h = record {
   count = let c = h.count in omega arith;
   kept = h.kept;

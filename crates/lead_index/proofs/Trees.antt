@@ -1,5 +1,6 @@
 -- A grown tree agrees with the list and its new word.
-use Rattle.std.proofs.Common.{◌≡◌, ◌+◌, ◌<◌, ℕ, zero, suc, List, [], ◌∷◌, ◌++◌, length, take, drop, get_or, sym, ap, ◌∙◌, inl, inr, arith, subst, Some, None, append_assoc, length-drop}
+use Rattle.std.proofs.Common.{◌≡◌, ◌+◌, ◌<◌, ℕ, zero, suc, List, [], ◌∷◌, ◌++◌, length, take, drop, get_or, sym, ap, ◌∙◌, inl, inr, arith, subst}
+use Rattle.std.proofs.Common.{Some, None, append_assoc, length-drop}
 use Rattle.std.specs.List.{Contains, slice_get}
 use Rattle.std.proofs.lemmas.Bool.{cases_lt}
 use Rattle.std.proofs.lemmas.List.{drop_more, nil_from_length, take_all, take-append-drop}
@@ -21,7 +22,8 @@ leads_on nodes after ext n word element (below m child node x w e at l is h) =
 leads_on nodes after ext n word element (beside m sibling node x w e at l is h) =
     let k = ext.kept m node at in beside m sibling k.0 x w e k.1 (λ q. l (sym k.2 ∙ q)) (k.5 sibling is) (leads_on nodes after ext sibling (x ∷ w) e h)
 
-module _ (old new : List Node) (leads : List Lead) (front rest letters : List ℕ) (element : ℕ) (tree : IsTree old leads) (grown : IsGrown old new tree.before front rest letters element) where
+module _ (old new : List Node) (leads : List Lead) (front rest letters : List ℕ) (element : ℕ) (tree : IsTree old leads)
+    (grown : IsGrown old new tree.before front rest letters element) where
   abbrev added : Lead
   added = record { word = letters; element = element }
 
@@ -34,12 +36,14 @@ module _ (old new : List Node) (leads : List Lead) (front rest letters : List �
   last_in_new : Contains (leads ++ added ∷ []) added
   last_in_new = Contains-append_right leads (added ∷ []) added (Contains-first added [])
 
-  ended : (n e : ℕ) (later : Node) → slice_get new n ≡ Some later → later.element ≡ Some e → Contains (leads ++ added ∷ []) (record { word = label n ++ later.letter ∷ []; element = e })
+  ended : (n e : ℕ) (later : Node) → slice_get new n ≡ Some later → later.element ≡ Some e →
+      Contains (leads ++ added ∷ []) (record { word = label n ++ later.letter ∷ []; element = e })
   ended n e later at is = elim (kinds old new leads front rest letters element tree grown n later at) [
     | inl old_one ↦
         let lt = old_one.0 in
         let p = old_one.1 in
-        let mine : label n ++ later.letter ∷ [] ≡ tree.before n ++ p.node.letter ∷ [] = (λ i. low old new leads front rest letters element tree grown n lt i ++ p.letter i ∷ []) in
+        let mine : label n ++ later.letter ∷ [] ≡ tree.before n ++ p.node.letter ∷ [] =
+        (λ i. low old new leads front rest letters element tree grown n lt i ++ p.letter i ∷ []) in
         let l : Lead = record { word = tree.before n ++ p.node.letter ∷ []; element = e } in
         let same : l ≡ record { word = label n ++ later.letter ∷ []; element = e } = ap (λ (w : List ℕ). record { word = w; element = e }) (sym mine) in
         subst (λ (m : Lead). Contains (leads ++ added ∷ []) m) same (in_new l (tree.ends n e p.node p.stood (sym p.element ∙ is)))
@@ -52,14 +56,17 @@ module _ (old new : List Node) (leads : List Lead) (front rest letters : List �
               let q : Some element ≡ Some e = sym (on.element_last last) ∙ is in
               let k : element ≡ e = cc in
               let here : label n ++ later.letter ∷ [] ≡ letters =
-              ap (λ (m : ℕ). label m ++ later.letter ∷ []) new_one.2 ∙ along old new leads front rest letters element tree grown i later.letter new_one.1 on.letter ∙ ap (λ (xs : List ℕ). front ++ xs) (take_all (i + 1) rest last) ∙ sym grown.joined in
+              ap (λ (m : ℕ). label m ++ later.letter ∷ []) new_one.2 ∙ along old new leads front rest letters element tree grown i
+              later.letter new_one.1 on.letter ∙ ap (λ (xs : List ℕ). front ++ xs) (take_all (i + 1) rest last) ∙ sym grown.joined in
               let same : added ≡ record { word = label n ++ later.letter ∷ []; element = e } =
-              ap (λ (w : List ℕ). record { word = w; element = element }) (sym here) ∙ ap (λ (x : ℕ). record { word = label n ++ later.letter ∷ []; element = x }) k in
+              ap (λ (w : List ℕ). record { word = w; element = element }) (sym here)
+              ∙ ap (λ (x : ℕ). record { word = label n ++ later.letter ∷ []; element = x }) k in
               subst (λ (m : Lead). Contains (leads ++ added ∷ []) m) same last_in_new
         ]
   ]
 
-  used : (n : ℕ) (later : Node) → slice_get new n ≡ Some later → (l : Lead) × (tail : List ℕ) × Contains (leads ++ added ∷ []) l × (l.word ≡ label n ++ later.letter ∷ tail)
+  used : (n : ℕ) (later : Node) → slice_get new n ≡ Some later → (l : Lead) × (tail : List ℕ) × Contains (leads ++ added ∷ []) l
+      × (l.word ≡ label n ++ later.letter ∷ tail)
   used n later at = elim (kinds old new leads front rest letters element tree grown n later at) [
     | inl old_one ↦
         let lt = old_one.0 in
@@ -70,12 +77,14 @@ module _ (old new : List Node) (leads : List Lead) (front rest letters : List �
         let i = new_one.0 in
         let on = new_one.3 in
         let split : rest ≡ take i rest ++ later.letter ∷ drop (i + 1) rest =
-        sym (take-append-drop i rest) ∙ ap (λ (xs : List ℕ). take i rest ++ xs) (drop_more rest i 0 new_one.1) ∙ ap (λ (x : ℕ). take i rest ++ x ∷ drop (i + 1) rest) (sym on.letter) in (
+        sym (take-append-drop i rest) ∙ ap (λ (xs : List ℕ). take i rest ++ xs) (drop_more rest i 0 new_one.1)
+        ∙ ap (λ (x : ℕ). take i rest ++ x ∷ drop (i + 1) rest) (sym on.letter) in (
           added,
           drop (i + 1) rest,
           last_in_new,
           grown.joined ∙ ap (λ (xs : List ℕ). front ++ xs) split ∙ sym (append_assoc front (take i rest) (later.letter ∷ drop (i + 1) rest))
-              ∙ ap (λ (xs : List ℕ). xs ++ later.letter ∷ drop (i + 1) rest) (sym (high old new leads front rest letters element tree grown i) ∙ ap label (sym new_one.2)),
+              ∙ ap (λ (xs : List ℕ). xs ++ later.letter ∷ drop (i + 1) rest)
+              (sym (high old new leads front rest letters element tree grown i) ∙ ap label (sym new_one.2)),
         )
   ]
 
@@ -89,7 +98,8 @@ module _ (old new : List Node) (leads : List Lead) (front rest letters : List �
       elim (cases_lt (i + 1) (length rest)) [
         | inl more ↦
             let h : Leads new (length old + (i + 1)) (drop (i + 1) rest) element = path_leads k (i + 1) (omega arith) more in
-            let here : Leads new (length old + i + 1) (drop (i + 1) rest) element = subst (λ (m : ℕ). Leads new m (drop (i + 1) rest) element) (omega arith) h in
+            let here : Leads new (length old + i + 1) (drop (i + 1) rest) element =
+            subst (λ (m : ℕ). Leads new m (drop (i + 1) rest) element) (omega arith) h in
             subst (λ (xs : List ℕ). Leads new (length old + i) xs element) (sym split)
             (below (length old + i) (length old + i + 1) p.0 (get_or rest i 0) (drop (i + 1) rest) element p.1 on.letter (on.child more) here)
         | inr last ↦
@@ -103,11 +113,19 @@ module _ (old new : List Node) (leads : List Lead) (front rest letters : List �
     | inl was ↦ leads_on old new grown.extended 0 l.word l.element (tree.listed l was)
     | inr is ↦ elim (Contains-cases added [] l is) [
       | inl same ↦
-          let here : Leads new (length old) rest element = subst (λ (m : ℕ). Leads new m rest element) (let e : length old + 0 ≡ length old = omega arith in e) (path_leads (length rest) 0 (omega arith) grown.some) in
+          let here : Leads new (length old) rest element = subst (λ (m : ℕ). Leads new m rest element)
+          (let e : length old + 0 ≡ length old = omega arith in e) (path_leads (length rest) 0 (omega arith) grown.some) in
           subst (λ (m : Lead). Leads new 0 m.word m.element) same (grown.leads element here)
       | inr none ↦ absurd (Contains-none l none)
     ]
   ]
 
   pub IsTree-grown : IsTree new (leads ++ record { word = letters; element = element } ∷ [])
-  IsTree-grown = record { rising = rising old new leads front rest letters element tree grown; before = label; labelled = labelled old new leads front rest letters element tree grown; ends = ended; used = used; listed = listed }
+  IsTree-grown = record {
+    rising = rising old new leads front rest letters element tree grown;
+    before = label;
+    labelled = labelled old new leads front rest letters element tree grown;
+    ends = ended;
+    used = used;
+    listed = listed;
+  }

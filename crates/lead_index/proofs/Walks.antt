@@ -1,5 +1,6 @@
 -- Walks along the links of a prefix tree.
-use Rattle.std.proofs.Common.{◌≡◌, ◌+◌, ◌<◌, ◌≤◌, ℕ, List, [], ◌∷◌, ◌++◌, length, drop, get_or, refl, sym, ap, ◌∙◌, arith, subst, Some, None, append_assoc, length-drop}
+use Rattle.std.proofs.Common.{◌≡◌, ◌+◌, ◌<◌, ◌≤◌, ℕ, List, [], ◌∷◌, ◌++◌, length, drop, get_or, refl, sym, ap, ◌∙◌, arith, subst, Some, None}
+use Rattle.std.proofs.Common.{append_assoc, length-drop}
 use Rattle.std.specs.List.{slice_get}
 use Rattle.std.proofs.lemmas.List.{drop_more, nil_from_length}
 use Rattle.std.proofs.lemmas.Option.{slice_get_past, slice_get_read}
@@ -59,34 +60,43 @@ missed_same nodes n here y letters stands same_letter no_element next word rest 
     let same : here ≡ node = same_node nodes m here node stands at in
     let first : y ≡ x = cc in absurd (l (ap (λ (k : Node). k.letter) (sym same) ∙ same_letter ∙ first))
 
-missed_on : (nodes : List Node) (n : ℕ) (letters : List ℕ) (place : ℕ) → place < length letters → IsMissed nodes n (get_or letters place 0 ∷ drop (place + 1) letters) → IsMissed nodes n (drop place letters)
+missed_on : (nodes : List Node) (n : ℕ) (letters : List ℕ) (place : ℕ) → place < length letters →
+    IsMissed nodes n (get_or letters place 0 ∷ drop (place + 1) letters) → IsMissed nodes n (drop place letters)
 missed_on nodes n letters place lt h = subst (IsMissed nodes n) (sym (drop_more letters place 0 lt)) h
 
-missed_off : (nodes : List Node) (n : ℕ) (letters : List ℕ) (place : ℕ) → place < length letters → IsMissed nodes n (drop place letters) → IsMissed nodes n (get_or letters place 0 ∷ drop (place + 1) letters)
+missed_off : (nodes : List Node) (n : ℕ) (letters : List ℕ) (place : ℕ) → place < length letters → IsMissed nodes n (drop place letters) →
+    IsMissed nodes n (get_or letters place 0 ∷ drop (place + 1) letters)
 missed_off nodes n letters place lt h = subst (IsMissed nodes n) (drop_more letters place 0 lt) h
 
 -- what is before a sibling and a child
-pub spelled_sibling : (nodes : List Node) (n : ℕ) (here : Node) (sibling : ℕ) (rest word : List ℕ) → slice_get nodes n ≡ Some here → here.sibling ≡ Some sibling → IsSpelled nodes n rest word → IsSpelled nodes sibling rest word
+pub spelled_sibling : (nodes : List Node) (n : ℕ) (here : Node) (sibling : ℕ) (rest word : List ℕ) → slice_get nodes n ≡ Some here →
+    here.sibling ≡ Some sibling → IsSpelled nodes n rest word → IsSpelled nodes sibling rest word
 spelled_sibling nodes n here sibling rest word stands is h before labelled =
     h before labelled ∙ ap (λ (xs : List ℕ). xs ++ rest) (sym (labelled.siblings n sibling here stands is))
 
-pub spelled_child : (nodes : List Node) (n : ℕ) (here : Node) (child : ℕ) (rest word : List ℕ) → slice_get nodes n ≡ Some here → here.child ≡ Some child → IsSpelled nodes n (here.letter ∷ rest) word → IsSpelled nodes child rest word
+pub spelled_child : (nodes : List Node) (n : ℕ) (here : Node) (child : ℕ) (rest word : List ℕ) → slice_get nodes n ≡ Some here →
+    here.child ≡ Some child → IsSpelled nodes n (here.letter ∷ rest) word → IsSpelled nodes child rest word
 spelled_child nodes n here child rest word stands is h before labelled =
-    h before labelled ∙ sym (append_assoc (before n) (here.letter ∷ []) rest) ∙ ap (λ (xs : List ℕ). xs ++ rest) (sym (labelled.children n child here stands is))
+    h before labelled ∙ sym (append_assoc (before n) (here.letter ∷ []) rest)
+    ∙ ap (λ (xs : List ℕ). xs ++ rest) (sym (labelled.children n child here stands is))
 
-pub spelled_here : (nodes : List Node) (n place : ℕ) (letters : List ℕ) (here : Node) → place < length letters → here.letter ≡ get_or letters place 0 → IsSpelled nodes n (drop place letters) letters → IsSpelled nodes n (here.letter ∷ drop (place + 1) letters) letters
+pub spelled_here : (nodes : List Node) (n place : ℕ) (letters : List ℕ) (here : Node) → place < length letters →
+    here.letter ≡ get_or letters place 0 → IsSpelled nodes n (drop place letters) letters →
+    IsSpelled nodes n (here.letter ∷ drop (place + 1) letters) letters
 spelled_here nodes n place letters here lt same h =
     subst (λ (xs : List ℕ). IsSpelled nodes n xs letters) (drop_more letters place 0 lt ∙ ap (λ (x : ℕ). x ∷ drop (place + 1) letters) (sym same)) h
 
 -- the steps of a walk for the first word
-module _ (nodes : List Node) (letters : List ℕ) (n place : ℕ) (here : Node) (rising : IsRising nodes) (walk : IsWalk nodes letters n place) (lt : place < length letters) (stands : slice_get nodes n ≡ Some here) where
+module _ (nodes : List Node) (letters : List ℕ) (n place : ℕ) (here : Node) (rising : IsRising nodes) (walk : IsWalk nodes letters n place)
+    (lt : place < length letters) (stands : slice_get nodes n ≡ Some here) where
   pub walk_sibling : (here.letter ≡ get_or letters place 0 → ⊥) → (sibling : ℕ) → here.sibling ≡ Some sibling → IsWalk nodes letters sibling place
   walk_sibling other sibling is = record {
     within = (rising.siblings n sibling here stands is).1;
     spelled = spelled_sibling nodes n here sibling (drop place letters) letters stands is walk.spelled;
     missed = λ h. walk.missed (missed_on nodes n letters place lt
         (missed_other nodes n here (get_or letters place 0) (drop (place + 1) letters) stands other
-        (λ s e. missed_off nodes s letters place lt (let same : Some sibling ≡ Some s = sym is ∙ e in let k : sibling ≡ s = cc in subst (λ (m : ℕ). IsMissed nodes m (drop place letters)) k h))));
+        (λ s e. missed_off nodes s letters place lt (let same : Some sibling ≡ Some s = sym is ∙ e in let k : sibling ≡ s = cc in
+        subst (λ (m : ℕ). IsMissed nodes m (drop place letters)) k h))));
   }
 
   pub walk_no_sibling : (here.letter ≡ get_or letters place 0 → ⊥) → here.sibling ≡ None → IsMissed nodes 0 letters
@@ -129,4 +139,8 @@ pub missed_none : (nodes : List Node) (letters : List ℕ) → length nodes ≡ 
 missed_none nodes letters none word rest element h joined = missed_nothing nodes 0 word element h (slice_get_past nodes 0 (omega (arith, none)))
 
 pub walk_starts : (nodes : List Node) (letters : List ℕ) → 0 < length nodes → IsWalk nodes letters 0 0
-walk_starts nodes letters some = record { within = some; spelled = λ before labelled. ap (λ (xs : List ℕ). xs ++ letters) (sym labelled.first); missed = λ h. h }
+walk_starts nodes letters some = record {
+  within = some;
+  spelled = λ before labelled. ap (λ (xs : List ℕ). xs ++ letters) (sym labelled.first);
+  missed = λ h. h;
+}

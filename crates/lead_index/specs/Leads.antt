@@ -1,5 +1,6 @@
 -- Leading words with their elements, and where they stand in a word.
-use Rattle.std.specs.Prelude.{ℕ, ◌≡◌, ◌≢◌, ◌≤◌, ◌↔◌, List, [], ◌∷◌, ◌++◌, All, AllPairs, Contains, Some, length, slice_get}
+use Rattle.std.specs.Prelude.{ℕ, ◌≡◌, ◌≢◌, ◌≤◌, ◌↔◌, List, [], ◌∷◌, ◌++◌, All, AllPairs, Contains, Some, length}
+use Rattle.std.specs.Prelude.{slice_get}
 use Rattle.words.specs.Words.{IsFactor, OccursAt}
 use Rattle.free_poly.specs.declared.term.Term.{Term}
 use Rattle.free_poly.specs.Poly.{lead_of}
@@ -23,7 +24,8 @@ pub record IsIndex (leads : List Lead) : Type 0 where
 
 -- the index has exactly the leading words of the elements, each with the place of its element
 abbrev pub IsIndexOf : List (List Term) → List Lead → Type 0
-IsIndexOf G leads = (l : Lead) → Contains leads l ↔ ((g : List Term) × (slice_get G l.element ≡ Some g) × (lead_of g ≡ Some l.word))
+IsIndexOf G leads = (l : Lead) → Contains leads l ↔ ((g : List Term) × (slice_get G l.element ≡ Some g)
+    × (lead_of g ≡ Some l.word))
 
 -- the index with the leading word of one more element, which 0 has not
 abbrev pub with_lead : List Lead → List Term → ℕ → List Lead

@@ -64,7 +64,8 @@ impl LeadIndex {
     pub fn first_reducer(&self, word: &[u8]) -> Option<Place>
         requires { length word.now ≤ 64 }
         ensures index { IsIndex self.now }
-        ensures place { MatchOption result (IsFree self.now word.now) (λ place. IsFirstReducer self.now word.now place.at place.element) }
+        ensures place { MatchOption result (IsFree self.now word.now)
+            (λ place. IsFirstReducer self.now word.now place.at place.element) }
     {
         let _ = &self.leads;
         for at in 0..word.len() {
@@ -83,7 +84,8 @@ impl LeadIndex {
         requires small { length word.now ≤ 64 }
         requires within { at ≤ length word.now }
         ensures index { IsIndex self.now }
-        ensures element { MatchOption result (IsFreeAt self.now word.now at) (λ element. Starts self.now word.now at element) }
+        ensures element { MatchOption result (IsFreeAt self.now word.now at)
+            (λ element. Starts self.now word.now at element) }
     {
         first_element(self.nodes.as_slice(), &word[at..])
     }

@@ -8,7 +8,8 @@ impl LeadIndex {
     /// `first_reducer` by a scan of the list, place after place.
     pub fn scan_reducer(&self, word: &[u8]) -> Option<Place>
         requires { length word.now ≤ 64 }
-        ensures { MatchOption result (IsFree self.now word.now) (λ place. IsFirstReducer self.now word.now place.at place.element) }
+        ensures { MatchOption result (IsFree self.now word.now)
+            (λ place. IsFirstReducer self.now word.now place.at place.element) }
     {
         let leads = self.leads();
         for at in 0..word.len() {

@@ -13,15 +13,19 @@ module _ (K : Field) where
 
   pub add_cancel : (a b c : K.F) → K.add a b ≡ K.add a c → b ≡ c
   add_cancel a b c e =
-      let left : K.add (K.neg a) (K.add a b) ≡ b = sym (K.add_assoc (K.neg a) a b) ∙ ap (λ (s : K.F). K.add s b) (K.add_comm (K.neg a) a ∙ K.add_neg a) ∙ zero_add b in
-      let right : K.add (K.neg a) (K.add a c) ≡ c = sym (K.add_assoc (K.neg a) a c) ∙ ap (λ (s : K.F). K.add s c) (K.add_comm (K.neg a) a ∙ K.add_neg a) ∙ zero_add c in
+      let left : K.add (K.neg a) (K.add a b) ≡ b = sym (K.add_assoc (K.neg a) a b)
+      ∙ ap (λ (s : K.F). K.add s b) (K.add_comm (K.neg a) a ∙ K.add_neg a) ∙ zero_add b in
+      let right : K.add (K.neg a) (K.add a c) ≡ c = sym (K.add_assoc (K.neg a) a c)
+      ∙ ap (λ (s : K.F). K.add s c) (K.add_comm (K.neg a) a ∙ K.add_neg a) ∙ zero_add c in
       sym left ∙ ap (λ (s : K.F). K.add (K.neg a) s) e ∙ right
 
   pub mul_zero : (a : K.F) → K.mul a K.zero ≡ K.zero
-  mul_zero a = add_cancel (K.mul a K.zero) (K.mul a K.zero) K.zero (sym (K.mul_add a K.zero K.zero) ∙ ap (K.mul a) (K.add_zero K.zero) ∙ sym (K.add_zero (K.mul a K.zero)))
+  mul_zero a = add_cancel (K.mul a K.zero) (K.mul a K.zero) K.zero
+      (sym (K.mul_add a K.zero K.zero) ∙ ap (K.mul a) (K.add_zero K.zero) ∙ sym (K.add_zero (K.mul a K.zero)))
 
   pub mul_neg : (a b : K.F) → K.mul a (K.neg b) ≡ K.neg (K.mul a b)
-  mul_neg a b = add_cancel (K.mul a b) (K.mul a (K.neg b)) (K.neg (K.mul a b)) (sym (K.mul_add a b (K.neg b)) ∙ ap (K.mul a) (K.add_neg b) ∙ mul_zero a ∙ sym (K.add_neg (K.mul a b)))
+  mul_neg a b = add_cancel (K.mul a b) (K.mul a (K.neg b)) (K.neg (K.mul a b))
+      (sym (K.mul_add a b (K.neg b)) ∙ ap (K.mul a) (K.add_neg b) ∙ mul_zero a ∙ sym (K.add_neg (K.mul a b)))
 
   module _ (X : Type 0) where
     pub sum_of-append : (cs ds : List (K.F × Vector K X)) (x : X) → sum_of K X (cs ++ ds) x ≡ K.add (sum_of K X cs x) (sum_of K X ds x)

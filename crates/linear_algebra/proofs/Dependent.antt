@@ -22,14 +22,17 @@ module _ (K : Field) (X : Type 0) where
   insert_factor (a ∷ front) c [] = K.zero ∷ insert_factor front c []
   insert_factor (a ∷ front) c (d ∷ cs) = d ∷ insert_factor front c cs
 
-  sum_zip-inserted : (front bs : List V) (p : V) (c : K.F) (cs : List K.F) (y : X) → sum_zip K X (insert_factor front c cs) (front ++ p ∷ bs) y ≡ K.add (K.mul c (p y)) (sum_zip K X cs (front ++ bs) y)
+  sum_zip-inserted : (front bs : List V) (p : V) (c : K.F) (cs : List K.F) (y : X) →
+      sum_zip K X (insert_factor front c cs) (front ++ p ∷ bs) y ≡ K.add (K.mul c (p y)) (sum_zip K X cs (front ++ bs) y)
   sum_zip-inserted [] bs p c cs y = refl
   sum_zip-inserted (a ∷ front) bs p c [] y =
-      ap (λ (n : K.F). K.add n (sum_zip K X (insert_factor front c []) (front ++ p ∷ bs) y)) (K.mul_comm K.zero (a y) ∙ mul_zero K (a y)) ∙ zero_add K _ ∙ sum_zip-inserted front bs p c [] y
+      ap (λ (n : K.F). K.add n (sum_zip K X (insert_factor front c []) (front ++ p ∷ bs) y)) (K.mul_comm K.zero (a y) ∙ mul_zero K (a y))
+      ∙ zero_add K _ ∙ sum_zip-inserted front bs p c [] y
   sum_zip-inserted (a ∷ front) bs p c (d ∷ cs) y =
       ap (K.add (K.mul d (a y))) (sum_zip-inserted front bs p c cs y) ∙ add_left_comm K (K.mul d (a y)) (K.mul c (p y)) (sum_zip K X cs (front ++ bs) y)
 
-  length-inserted : (front bs : List V) (c : K.F) (cs : List K.F) → length cs ≡ length (front ++ bs) → length (insert_factor front c cs) ≡ suc (length (front ++ bs))
+  length-inserted : (front bs : List V) (c : K.F) (cs : List K.F) → length cs ≡ length (front ++ bs) →
+      length (insert_factor front c cs) ≡ suc (length (front ++ bs))
   length-inserted [] bs c cs e = ap suc e
   length-inserted (a ∷ front) bs c [] e = absurd (omega (arith, e))
   length-inserted (a ∷ front) bs c (d ∷ cs) e = ap suc (length-inserted front bs c cs (omega (arith, e)))
@@ -49,7 +52,8 @@ module _ (K : Field) (X : Type 0) where
   sum_zip-nil [] x = refl
   sum_zip-nil (c ∷ cs) x = refl
 
-  sum_zip-zero_first : (f : V) (fs : List V) (x : X) → f x ≡ K.zero → ((cs : List K.F) → sum_zip K X cs fs x ≡ K.zero) → (cs : List K.F) → sum_zip K X cs (f ∷ fs) x ≡ K.zero
+  sum_zip-zero_first : (f : V) (fs : List V) (x : X) → f x ≡ K.zero → ((cs : List K.F) → sum_zip K X cs fs x ≡ K.zero) → (cs : List K.F) →
+      sum_zip K X cs (f ∷ fs) x ≡ K.zero
   sum_zip-zero_first f fs x z all [] = refl
   sum_zip-zero_first f fs x z all (c ∷ ds) =
       ap (λ (n : K.F). K.add (K.mul c n) (sum_zip K X ds fs x)) z ∙ ap (λ (n : K.F). K.add n (sum_zip K X ds fs x)) (mul_zero K c) ∙ zero_add K _ ∙ all ds
@@ -90,7 +94,14 @@ module _ (K : Field) (X : Type 0) where
     | at front bs p is other ↦
         let q : V = λ y. K.mul (K.inv (p x)) (p y) in
         let rest = map (cleared K X x q) (front ++ bs) in
-        let fewer : length xs < length rest = omega (arith, more, ap length is, length-append front (p ∷ bs), length-append front bs, length-map (front ++ bs) (cleared K X x q)) in
+        let fewer : length xs < length rest = omega (
+          arith,
+          more,
+          ap length is,
+          length-append front (p ∷ bs),
+          length-append front bs,
+          length-map (front ++ bs) (cleared K X x q),
+        ) in
         let d = dependent xs rest fewer in
         let c = K.mul (K.neg (sum_zip K X d.factors (front ++ bs) x)) (K.inv (p x)) in
         let all = insert_factor front c d.factors in
@@ -100,7 +111,8 @@ module _ (K : Field) (X : Type 0) where
         ∙ sym (sum_zip-cleared x q d.factors (front ++ bs) y) in
         subst (IsDependent K X (x ∷ xs)) (sym is) (record {
           factors = all;
-          count = length-inserted front bs c d.factors (d.count ∙ length-map (front ++ bs) (cleared K X x q)) ∙ omega (arith, length-append front (p ∷ bs), length-append front bs);
+          count = length-inserted front bs c d.factors (d.count ∙ length-map (front ++ bs) (cleared K X x q))
+              ∙ omega (arith, length-append front (p ∷ bs), length-append front bs);
           other = nonzero-inserted front c d.factors d.other;
           sum = (
             sums x ∙ sum_zip-cleared x q d.factors (front ++ bs) x ∙ cleared_here K X (sum_zip K X d.factors (front ++ bs) x) (q x) (K.mul_inv (p x) other),

@@ -90,7 +90,8 @@ module _ (K : Field) (X : Type 0) where
   AreSameAtLeads [] v w = Unit {0}
   AreSameAtLeads (e ∷ es) v w = (v e.0 ≡ w e.0) × AreSameAtLeads es v w
 
-  same_more : (v w : V) (a : K.F) (q : V) (es : List (X × V)) → IsZeroAtLeads K X q es → AreSameAtLeads es w v → AreSameAtLeads es (λ y. K.add (K.mul a (q y)) (w y)) v
+  same_more : (v w : V) (a : K.F) (q : V) (es : List (X × V)) → IsZeroAtLeads K X q es → AreSameAtLeads es w v →
+      AreSameAtLeads es (λ y. K.add (K.mul a (q y)) (w y)) v
   same_more v w a q [] z s = tt
   same_more v w a q (e ∷ es) z s = (
     ap (λ (n : K.F). K.add (K.mul a n) (w e.0)) z.0 ∙ ap (λ (n : K.F). K.add n (w e.0)) (mul_zero K a) ∙ zero_add K (w e.0) ∙ s.0,
@@ -109,7 +110,8 @@ module _ (K : Field) (X : Type 0) where
 
   -- sums by entries are linear in the entries
   leads-linear : (es : List (X × V)) (v p : V) (a : K.F) (y : X)
-      → sum_of K X (from_leads K X es (λ z. K.add (v z) (K.mul a (p z)))) y ≡ K.add (sum_of K X (from_leads K X es v) y) (K.mul a (sum_of K X (from_leads K X es p) y))
+      → sum_of K X (from_leads K X es (λ z. K.add (v z) (K.mul a (p z)))) y
+      ≡ K.add (sum_of K X (from_leads K X es v) y) (K.mul a (sum_of K X (from_leads K X es p) y))
   leads-linear [] v p a y = sym (ap (K.add K.zero) (mul_zero K a) ∙ K.add_zero K.zero)
   leads-linear (e ∷ es) v p a y =
       let head : K.mul (K.add (v e.0) (K.mul a (p e.0))) (e.1 y) ≡ K.add (K.mul (v e.0) (e.1 y)) (K.mul a (K.mul (p e.0) (e.1 y))) =
@@ -134,7 +136,8 @@ module _ (K : Field) (X : Type 0) where
   add_mul : (a b w : K.F) → K.mul (K.add a b) w ≡ K.add (K.mul a w) (K.mul b w)
   add_mul a b w = K.mul_comm (K.add a b) w ∙ K.mul_add w a b ∙ ap₂ K.add (K.mul_comm w a) (K.mul_comm w b)
 
-  pub cleared_sum : (a u s u' s' w : K.F) → K.add (K.mul a (K.add u (K.mul (K.neg u') w))) (K.add s (K.mul (K.neg s') w)) ≡ K.add (K.add (K.mul a u) s) (K.mul (K.neg (K.add (K.mul a u') s')) w)
+  pub cleared_sum : (a u s u' s' w : K.F) → K.add (K.mul a (K.add u (K.mul (K.neg u') w))) (K.add s (K.mul (K.neg s') w))
+      ≡ K.add (K.add (K.mul a u) s) (K.mul (K.neg (K.add (K.mul a u') s')) w)
   cleared_sum a u s u' s' w =
       ap (λ (n : K.F). K.add n (K.add s (K.mul (K.neg s') w))) (K.mul_add a u (K.mul (K.neg u') w) ∙ ap (K.add (K.mul a u)) (mul_neg_mul a u' w))
       ∙ swapped (K.mul a u) (K.mul (K.neg (K.mul a u')) w) s (K.mul (K.neg s') w)
@@ -143,7 +146,8 @@ module _ (K : Field) (X : Type 0) where
   -- clearing is linear, so a member of the span of gs is cleared to one of the span of the cleared gs
   cleared_parts : (x : X) (p : V) (gs : List V) (cs : List (K.F × V)) → All (λ c. IsOneOf K X gs c.1) cs
       → IsInSpan K X (IsOneOf K X (map (cleared x p) gs)) (cleared x p (sum_of K X cs))
-  cleared_parts x p gs [] each = same_span _ (λ y. K.zero) _ (λ y. sym (zero_add K _ ∙ ap (λ (n : K.F). K.mul n (p y)) (neg_zero) ∙ K.mul_comm K.zero (p y) ∙ mul_zero K (p y))) (IsInSpan-zero K X _)
+  cleared_parts x p gs [] each = same_span _ (λ y. K.zero) _ (λ y. sym
+      (zero_add K _ ∙ ap (λ (n : K.F). K.mul n (p y)) (neg_zero) ∙ K.mul_comm K.zero (p y) ∙ mul_zero K (p y))) (IsInSpan-zero K X _)
     where
       neg_zero : K.neg K.zero ≡ K.zero
       neg_zero = sym (zero_add K (K.neg K.zero)) ∙ K.add_neg K.zero
@@ -151,16 +155,19 @@ module _ (K : Field) (X : Type 0) where
       same_span _ (λ y. K.add (K.mul c.0 (cleared x p c.1 y)) (cleared x p (sum_of K X cs) y)) _
       (λ y. cleared_sum c.0 (c.1 y) (sum_of K X cs y) (c.1 x) (sum_of K X cs x) (p y))
       (IsInSpan-add K X _ _ _
-      (IsInSpan-scaled K X _ c.0 (cleared x p c.1) (IsInSpan-one K X _ (cleared x p c.1) (map_one_of (cleared x p) gs c.1 (All-head (λ (d : K.F × V). IsOneOf K X gs d.1) c cs each))))
+      (IsInSpan-scaled K X _ c.0 (cleared x p c.1) (IsInSpan-one K X _ (cleared x p c.1)
+      (map_one_of (cleared x p) gs c.1 (All-head (λ (d : K.F × V). IsOneOf K X gs d.1) c cs each))))
       (cleared_parts x p gs cs (All-tail (λ (d : K.F × V). IsOneOf K X gs d.1) c cs each)))
 
   pub cleared_member : (x : X) (p : V) (gs : List V) (v : V) → Sp gs v → Sp (map (cleared x p) gs) (cleared x p v)
   cleared_member x p gs v s =
-      same_span _ (cleared x p (sum_of K X s.parts)) (cleared x p v) (λ y. ap₂ (λ (m n : K.F). K.add m (K.mul (K.neg n) (p y))) (sym (s.sum y)) (sym (s.sum x))) (cleared_parts x p gs s.parts s.each)
+      same_span _ (cleared x p (sum_of K X s.parts)) (cleared x p v)
+      (λ y. ap₂ (λ (m n : K.F). K.add m (K.mul (K.neg n) (p y))) (sym (s.sum y)) (sym (s.sum x))) (cleared_parts x p gs s.parts s.each)
 
   -- a vector is the cleared one and its entry at x times p
   uncleared : (x : X) (p v : V) (y : X) → K.add (K.mul (v x) (p y)) (cleared x p v y) ≡ v y
-  uncleared x p v y = add_left_comm K (K.mul (v x) (p y)) (v y) (K.mul (K.neg (v x)) (p y)) ∙ ap (K.add (v y)) (ap (K.add (K.mul (v x) (p y))) (neg_mul (v x) (p y)) ∙ K.add_neg (K.mul (v x) (p y))) ∙ K.add_zero (v y)
+  uncleared x p v y = add_left_comm K (K.mul (v x) (p y)) (v y) (K.mul (K.neg (v x)) (p y))
+      ∙ ap (K.add (v y)) (ap (K.add (K.mul (v x) (p y))) (neg_mul (v x) (p y)) ∙ K.add_neg (K.mul (v x) (p y))) ∙ K.add_zero (v y)
 
   AreSameAt-map : (xs : List X) (v w v' w' : V) → ((y : X) → v y ≡ w y → v' y ≡ w' y) → AreSameAt K X xs v w → AreSameAt K X xs v' w'
   AreSameAt-map [] v w v' w' h s = tt
@@ -191,7 +198,8 @@ module _ (K : Field) (X : Type 0) where
   leads-cleared : (es : List (X × V)) (p q : V) → AreSameAtLeads es q p → IsZeroAtLeads K X (λ y. K.add (p y) (K.mul (K.neg K.one) (q y))) es
   leads-cleared [] p q s = tt
   leads-cleared (e ∷ es) p q s = (
-    ap (λ (n : K.F). K.add (p e.0) (K.mul (K.neg K.one) n)) s.0 ∙ ap (K.add (p e.0)) (neg_mul K.one (p e.0) ∙ ap K.neg (K.mul_comm K.one (p e.0) ∙ K.mul_one (p e.0))) ∙ K.add_neg (p e.0),
+    ap (λ (n : K.F). K.add (p e.0) (K.mul (K.neg K.one) n)) s.0 ∙ ap (K.add (p e.0))
+        (neg_mul K.one (p e.0) ∙ ap K.neg (K.mul_comm K.one (p e.0) ∙ K.mul_one (p e.0))) ∙ K.add_neg (p e.0),
     leads-cleared es p q s.1,
   )
 
@@ -214,19 +222,26 @@ module _ (K : Field) (X : Type 0) where
         let p_inside : Sp gs p = IsInSpan-scaled K X _ (K.inv (g x)) g (IsInSpan-one K X _ g is) in
         let p_one : p x ≡ K.one = K.mul_inv (g x) other in
         let hs = map (cleared x p) gs in
-        let hs_zero : (h : V) → IsOneOf K X hs h → h x ≡ K.zero = λ h m. let o = one_of_map (cleared x p) gs h m in ap (λ (u : V). u x) o.2 ∙ cleared_here (o.0 x) (p x) p_one in
+        let hs_zero : (h : V) → IsOneOf K X hs h → h x ≡ K.zero = λ h m. let o = one_of_map (cleared x p) gs h m in ap (λ (u : V). u x) o.2
+        ∙ cleared_here (o.0 x) (p x) p_one in
         let hs_inside : (v : V) → Sp hs v → Sp gs v = IsInSpan-trans _ _ (λ h m. let o = one_of_map (cleared x p) gs h m in
-        same_span _ (cleared x p o.0) h (λ y. ap (λ (u : V). u y) (sym o.2)) (IsInSpan-add K X _ o.0 _ (IsInSpan-one K X _ o.0 o.1) (IsInSpan-scaled K X _ (K.neg (o.0 x)) p p_inside))) in
+        same_span _ (cleared x p o.0) h (λ y. ap (λ (u : V). u y) (sym o.2))
+        (IsInSpan-add K X _ o.0 _ (IsInSpan-one K X _ o.0 o.1) (IsInSpan-scaled K X _ (K.neg (o.0 x)) p p_inside))) in
         let r = eliminated xs hs in
         let zero = AreZeroAt-from_span x hs r.0 hs_zero r.1.inside in
         let below : V = sum_of K X (from_leads K X r.0 p) in
         let q : V = λ y. K.add (p y) (K.mul (K.neg K.one) (below y)) in
         let below_zero : below x ≡ K.zero = leads-zero x r.0 p zero in
-        let q_one : q x ≡ K.one = ap (λ (n : K.F). K.add (p x) (K.mul (K.neg K.one) n)) below_zero ∙ ap (K.add (p x)) (mul_zero K (K.neg K.one)) ∙ K.add_zero (p x) ∙ p_one in (
+        let q_one : q x ≡ K.one = ap (λ (n : K.F). K.add (p x) (K.mul (K.neg K.one) n)) below_zero
+        ∙ ap (K.add (p x)) (mul_zero K (K.neg K.one)) ∙ K.add_zero (p x) ∙ p_one in (
           (x, q) ∷ r.0,
           record {
             reduced = lead x xs q r.0 q_one zero (leads-cleared r.0 p below (own_entries xs r.0 p r.1.reduced)) r.1.reduced;
-            inside = (IsInSpan-add K X _ p _ p_inside (IsInSpan-scaled K X _ (K.neg K.one) below (hs_inside below (leads-inside hs r.0 p r.1.inside))), AreInSpan-map gs hs r.0 hs_inside r.1.inside);
+            inside = (
+              IsInSpan-add K X _ p _ p_inside (IsInSpan-scaled K X _ (K.neg K.one) below
+                  (hs_inside below (leads-inside hs r.0 p r.1.inside))),
+              AreInSpan-map gs hs r.0 hs_inside r.1.inside,
+            );
             coordinates = λ v s. (
               sym (ap₂ K.add (ap (K.mul (v x)) q_one ∙ K.mul_one (v x)) (leads-zero x r.0 v zero) ∙ K.add_zero (v x)),
               AreSameAt-map xs _ _ v _ (regained x r.0 p v) (r.1.coordinates (cleared x p v) (cleared_member x p gs v s)),

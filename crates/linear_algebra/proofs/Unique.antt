@@ -46,7 +46,8 @@ module _ (K : Field) (X : Type 0) where
   nothing_from_zeros [] v y z = refl
   nothing_from_zeros (f ∷ fs) v y z =
       ap (λ (n : K.F). K.add (K.mul n (f.1 y)) (sum_of K X (from_leads K X fs v) y)) z.0
-      ∙ ap (λ (n : K.F). K.add n (sum_of K X (from_leads K X fs v) y)) (K.mul_comm K.zero (f.1 y) ∙ mul_zero K (f.1 y)) ∙ zero_add K _ ∙ nothing_from_zeros fs v y z.1
+      ∙ ap (λ (n : K.F). K.add n (sum_of K X (from_leads K X fs v) y)) (K.mul_comm K.zero (f.1 y) ∙ mul_zero K (f.1 y)) ∙ zero_add K _
+      ∙ nothing_from_zeros fs v y z.1
 
   same_more : (x : X) (xs : List X) (es fs : List (X × V)) → AreZeroAt K X x es → AreZeroAt K X x fs → AreSameRows K X xs es fs → AreSameRows K X (x ∷ xs) es fs
   same_more x xs [] [] z w s = tt
@@ -54,9 +55,11 @@ module _ (K : Field) (X : Type 0) where
   same_more x xs (e ∷ es) [] z w s = absurd s
   same_more x xs (e ∷ es) (f ∷ fs) z w s = (s.0, (z.0 ∙ sym w.0, s.1), same_more x xs es fs z.1 w.1 s.2)
 
-  pub one_basis : (xs : List X) (es fs : List (X × V)) → IsReduced K X xs es → IsReduced K X xs fs → AreHadFrom xs es fs → AreHadFrom xs fs es → AreSameRows K X xs es fs
+  pub one_basis : (xs : List X) (es fs : List (X × V)) → IsReduced K X xs es → IsReduced K X xs fs → AreHadFrom xs es fs →
+      AreHadFrom xs fs es → AreSameRows K X xs es fs
   one_basis [] es fs done done h g = tt
-  one_basis xs es fs (skip x ys es' z r) (skip x' ys' fs' w q) h g = same_more x ys es fs z w (one_basis ys es fs r q (had_tail x ys es fs h) (had_tail x ys fs es g))
+  one_basis xs es fs (skip x ys es' z r) (skip x' ys' fs' w q) h g =
+      same_more x ys es fs z w (one_basis ys es fs r q (had_tail x ys es fs h) (had_tail x ys fs es g))
   one_basis xs es fs (skip x ys es' z r) (lead x' ys' v fs' one w wl q) h g = absurd (one_is_not_zero (sym one ∙ h.0.0 ∙ leads-zero K X x es v z))
   one_basis xs es fs (lead x ys u es' one z zl r) (skip x' ys' fs' w q) h g = absurd (one_is_not_zero (sym one ∙ g.0.0 ∙ leads-zero K X x fs u w))
   one_basis xs es fs (lead x ys u es' one z zl r) (lead x' ys' v fs' one' w wl q) h g =
@@ -67,7 +70,8 @@ module _ (K : Field) (X : Type 0) where
       (refl, same, same_more x ys es' fs' z w rest)
 
   -- rows of one span are had from those of another that has the same vectors
-  had_from_basis : (xs : List X) (gs hs : List V) (es fs : List (X × V)) → IsBasis K X xs gs es → ((v : V) → IsInSpan K X (IsOneOf K X hs) v → IsInSpan K X (IsOneOf K X gs) v)
+  had_from_basis : (xs : List X) (gs hs : List V) (es fs : List (X × V)) → IsBasis K X xs gs es →
+      ((v : V) → IsInSpan K X (IsOneOf K X hs) v → IsInSpan K X (IsOneOf K X gs) v)
       → AreInSpan K X hs fs → AreHadFrom xs es fs
   had_from_basis xs gs hs es [] b within inside = tt
   had_from_basis xs gs hs es (f ∷ fs) b within inside = (b.coordinates f.1 (within f.1 inside.0), had_from_basis xs gs hs es fs b within inside.1)
@@ -76,4 +80,5 @@ module _ (K : Field) (X : Type 0) where
   pub one_form : (xs : List X) (gs hs : List V) → ((v : V) → IsInSpan K X (IsOneOf K X gs) v ↔ IsInSpan K X (IsOneOf K X hs) v)
       → (es fs : List (X × V)) → IsBasis K X xs gs es → IsBasis K X xs hs fs → AreSameRows K X xs es fs
   one_form xs gs hs same es fs b c =
-      one_basis xs es fs b.reduced c.reduced (had_from_basis xs gs hs es fs b (λ v. (same v).1) c.inside) (had_from_basis xs hs gs fs es c (λ v. (same v).0) b.inside)
+      one_basis xs es fs b.reduced c.reduced (had_from_basis xs gs hs es fs b (λ v. (same v).1) c.inside)
+      (had_from_basis xs hs gs fs es c (λ v. (same v).0) b.inside)

@@ -19,11 +19,14 @@ module _ (K : Field) (X : Type 0) where
   IsZeroAtLeads v [] = Unit {0}
   IsZeroAtLeads v (e ∷ es) = (v e.0 ≡ K.zero) × IsZeroAtLeads v es
 
-  -- By the columns in their order: a column leads no row, and is 0 in all later ones, or it leads one, which is 1 there and 0 at the later leading columns
+  -- By the columns in their order: a column leads no row, and is 0 in all later ones, or it leads one, which is 1
+  -- there and 0 at the later leading columns
   pub data IsReduced : List X → List (X × Vector K X) → Type 0 where
     done : IsReduced [] []
     skip : (x : X) (xs : List X) (es : List (X × Vector K X)) → AreZeroAt x es → IsReduced xs es → IsReduced (x ∷ xs) es
-    lead : (x : X) (xs : List X) (v : Vector K X) (es : List (X × Vector K X)) → v x ≡ K.one → AreZeroAt x es → IsZeroAtLeads v es → IsReduced xs es → IsReduced (x ∷ xs) ((x, v) ∷ es)
+    lead : (x : X) (xs : List X) (v : Vector K X) (es : List (X × Vector K X)) → v x ≡ K.one → AreZeroAt x es →
+        IsZeroAtLeads v es →
+        IsReduced xs es → IsReduced (x ∷ xs) ((x, v) ∷ es)
 
   -- the vector with these entries at the leading columns
   abbrev pub from_leads : List (X × Vector K X) → Vector K X → List (K.F × Vector K X)

@@ -1,4 +1,5 @@
--- Laws of linear algebra over the residues of a field modulus, for vectors with an entry at each value of a type and columns of this type in an order.
+-- Laws of linear algebra over the residues of a field modulus, for vectors with an entry at each value of a type and
+-- columns of this type in an order.
 use Rattle.std.specs.Prelude.{ℕ, ◌<◌, ◌↔◌, List, length}
 use Rattle.field_table.specs.Residues.{IsFieldModulus}
 use Rattle.linear_algebra.specs.Spans.{Vector, IsInSpan}
@@ -17,12 +18,18 @@ HasElimination X = (p : ℕ) (modulus : IsFieldModulus p) (columns : List X) (ve
 
 -- two lists of vectors with one span have the same reduced basis
 abbrev pub HasOneForm : Type 0 → Type 0
-HasOneForm X = (p : ℕ) (modulus : IsFieldModulus p) (columns : List X) (vectors others : List (ResidueVector p modulus X))
-    → ((v : ResidueVector p modulus X) → IsInSpan (residue_field p modulus) X (IsOneOf (residue_field p modulus) X vectors) v ↔ IsInSpan (residue_field p modulus) X (IsOneOf (residue_field p modulus) X others) v)
-    → (first second : List (X × ResidueVector p modulus X)) → IsBasis (residue_field p modulus) X columns vectors first → IsBasis (residue_field p modulus) X columns others second
+HasOneForm X = (p : ℕ) (modulus : IsFieldModulus p) (columns : List X)
+    (vectors others : List (ResidueVector p modulus X))
+    → ((v : ResidueVector p modulus X) → IsInSpan (residue_field p modulus) X
+    (IsOneOf (residue_field p modulus) X vectors) v ↔ IsInSpan
+    (residue_field p modulus) X (IsOneOf (residue_field p modulus) X others) v)
+    → (first second : List (X × ResidueVector p modulus X)) →
+    IsBasis (residue_field p modulus) X columns vectors first →
+    IsBasis (residue_field p modulus) X columns others second
     → AreSameRows (residue_field p modulus) X columns first second
 
 -- more vectors than columns are dependent on these columns
 abbrev pub IsDependentWhenMore : Type 0 → Type 0
-IsDependentWhenMore X = (p : ℕ) (modulus : IsFieldModulus p) (columns : List X) (vectors : List (ResidueVector p modulus X))
+IsDependentWhenMore X = (p : ℕ) (modulus : IsFieldModulus p) (columns : List X)
+    (vectors : List (ResidueVector p modulus X))
     → length columns < length vectors → IsDependent (residue_field p modulus) X columns vectors

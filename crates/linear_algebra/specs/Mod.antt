@@ -1,6 +1,8 @@
 -- Residues of p as a field.
-use Rattle.std.proofs.Common.{◌≡◌, ℕ, ◌+◌, ◌-◌, ◌*◌, ◌%◌, ◌<◌, ◌≤◌, ◌==◌, zero, suc, false, true, sym, ap, ◌∙◌, arith, add_assoc, add_comm, add-zero}
-use Rattle.std.proofs.Math.Nat.{mod-eq_of_lt, mod-lt, mul_comm, mul_assoc, mul-add, mul-one, add-mod, mod_self, zero-mod, mod-add-mod, add-mod-mod}
+use Rattle.std.proofs.Common.{◌≡◌, ℕ, ◌+◌, ◌-◌, ◌*◌, ◌%◌, ◌<◌, ◌≤◌, ◌==◌, zero, suc, false, true, sym, ap, ◌∙◌, arith}
+use Rattle.std.proofs.Common.{add_assoc, add_comm, add-zero}
+use Rattle.std.proofs.Math.Nat.{mod-eq_of_lt, mod-lt, mul_comm, mul_assoc, mul-add, mul-one, add-mod, mod_self}
+use Rattle.std.proofs.Math.Nat.{zero-mod, mod-add-mod, add-mod-mod}
 use Rattle.std.proofs.lemmas.Nat.{mul-mod_first, mul-mod_second}
 use Rattle.std.proofs.lemmas.Bool.{eqb-true}
 use mathlib.Core.HLevel.{Σ_prop_path}
@@ -42,7 +44,8 @@ module _ (p : ℕ) (two : 2 ≤ p) (inverse : (a : ℕ) → 0 < a → a < p → 
   inverse_is (suc a) lt e = ap (λ (n : ℕ). n % p) (mul_comm _ (suc a)) ∙ (inverse (suc a) (suc-positive a) lt).2
 
   pub sum-assoc : (a b c : Residue p) → of ((a.0 + b.0) % p + c.0) ≡ of (a.0 + (b.0 + c.0) % p)
-  sum-assoc a b c = same_residue p _ _ (mod-add-mod (a.0 + b.0) p c.0 ∙ ap (λ (n : ℕ). n % p) (add_assoc a.0 b.0 c.0) ∙ sym (add-mod-mod a.0 (b.0 + c.0) p))
+  sum-assoc a b c = same_residue p _ _ (mod-add-mod (a.0 + b.0) p c.0
+      ∙ ap (λ (n : ℕ). n % p) (add_assoc a.0 b.0 c.0) ∙ sym (add-mod-mod a.0 (b.0 + c.0) p))
 
   pub sum-comm : (a b : Residue p) → of (a.0 + b.0) ≡ of (b.0 + a.0)
   sum-comm a b = same_residue p _ _ (ap (λ (n : ℕ). n % p) (add_comm a.0 b.0))
@@ -51,10 +54,13 @@ module _ (p : ℕ) (two : 2 ≤ p) (inverse : (a : ℕ) → 0 < a → a < p → 
   sum-zero a = same_residue p _ _ (add-mod-mod a.0 0 p ∙ ap (λ (n : ℕ). n % p) (add-zero a.0) ∙ mod-eq_of_lt a.1)
 
   pub sum-negative : (a : Residue p) → of (a.0 + (p - a.0) % p) ≡ of 0
-  sum-negative a = same_residue p _ _ (add-mod-mod a.0 (p - a.0) p ∙ ap (λ (n : ℕ). n % p) (omega (arith, a.1)) ∙ mod_self p ∙ sym (zero-mod p))
+  sum-negative a = same_residue p _ _ (add-mod-mod a.0 (p - a.0) p ∙ ap (λ (n : ℕ). n % p) (omega (arith, a.1))
+      ∙ mod_self p ∙ sym (zero-mod p))
 
   pub product-assoc : (a b c : Residue p) → of ((a.0 * b.0) % p * c.0) ≡ of (a.0 * ((b.0 * c.0) % p))
-  product-assoc a b c = same_residue p _ _ (mul-mod_first (a.0 * b.0) c.0 p ∙ ap (λ (n : ℕ). n % p) (mul_assoc a.0 b.0 c.0) ∙ sym (mul-mod_second a.0 (b.0 * c.0) p))
+  product-assoc a b c = same_residue p _ _ (mul-mod_first (a.0 * b.0) c.0 p
+      ∙ ap (λ (n : ℕ). n % p) (mul_assoc a.0 b.0 c.0)
+      ∙ sym (mul-mod_second a.0 (b.0 * c.0) p))
 
   pub product-comm : (a b : Residue p) → of (a.0 * b.0) ≡ of (b.0 * a.0)
   product-comm a b = same_residue p _ _ (ap (λ (n : ℕ). n % p) (mul_comm a.0 b.0))
@@ -66,7 +72,8 @@ module _ (p : ℕ) (two : 2 ≤ p) (inverse : (a : ℕ) → 0 < a → a < p → 
   product-one a = same_residue p _ _ (mul-mod_second a.0 1 p ∙ ap (λ (n : ℕ). n % p) (mul-one a.0) ∙ mod-eq_of_lt a.1)
 
   pub product-sum : (a b c : Residue p) → of (a.0 * ((b.0 + c.0) % p)) ≡ of ((a.0 * b.0) % p + (a.0 * c.0) % p)
-  product-sum a b c = same_residue p _ _ (mul-mod_second a.0 (b.0 + c.0) p ∙ ap (λ (n : ℕ). n % p) (mul-add a.0 b.0 c.0) ∙ add-mod (a.0 * b.0) (a.0 * c.0) p)
+  product-sum a b c = same_residue p _ _ (mul-mod_second a.0 (b.0 + c.0) p
+      ∙ ap (λ (n : ℕ). n % p) (mul-add a.0 b.0 c.0) ∙ add-mod (a.0 * b.0) (a.0 * c.0) p)
 
   pub product-inverse : (a : Residue p) → (a.0 == 0) ≡ false → of ((inverse_of a.0 a.1).0 * a.0) ≡ of 1
   product-inverse a e = same_residue p _ _ (inverse_is a.0 a.1 e ∙ sym one_is)

@@ -1,5 +1,6 @@
 -- The words that one letter begins, and where words of an index stand in them.
-use Rattle.std.proofs.Common.{◌≡◌, ◌+◌, ◌<◌, ◌≤◌, ℕ, zero, suc, Bool, true, false, cond, List, [], ◌∷◌, ◌++◌, Err, Result, length, take, get_or, refl, sym, ap, ◌∙◌, inl, inr, arith, All, AllPairs, subst, bytes_eq, append_assoc, length-append}
+use Rattle.std.proofs.Common.{◌≡◌, ◌+◌, ◌<◌, ◌≤◌, ℕ, zero, suc, Bool, true, false, cond, List, [], ◌∷◌, ◌++◌, Err, Result, length, take, get_or, refl}
+use Rattle.std.proofs.Common.{sym, ap, ◌∙◌, inl, inr, arith, All, AllPairs, subst, bytes_eq, append_assoc, length-append}
 use Rattle.std.specs.List.{Contains, flat_map}
 use Rattle.std.proofs.lemmas.Bool.{cases_Bool, cases_lt}
 use Rattle.std.proofs.lemmas.Grind.{flat_map-append}
@@ -11,7 +12,8 @@ use Rattle.std.proofs.lemmas.Slice.Eq.{bytes_eq-Decides}
 use Rattle.words.specs.Order.{IsLetterwiseGreater}
 use Rattle.words.specs.Words.{AreWeights, OccursAt}
 use Rattle.words.proofs.Degrees.{letterwise_later}
-use Rattle.words.proofs.Members.{AllPairs-flat_map, AllPairs-nil, All-from_members, Contains-cases, Contains-first, Contains-flat_map, Contains-flat_map_cases, Contains-none}
+use Rattle.words.proofs.Members.{AllPairs-flat_map, AllPairs-nil, All-from_members, Contains-cases, Contains-first, Contains-flat_map}
+use Rattle.words.proofs.Members.{Contains-flat_map_cases, Contains-none}
 use Rattle.lead_index.specs.declared.lead.Lead.{Lead}
 use Rattle.lead_index.specs.Leads.{IsFree, IsFreeAt, Starts}
 use Rattle.normal_words.specs.Block.{begins, block, unless_begins}
@@ -50,7 +52,8 @@ begins_free (k ∷ leads) w h = elim (cases_Bool (bytes_eq (take (length k.word)
 ]
 
 pub free_of_begins : (leads : List Lead) (w : List ℕ) → begins leads w ≡ false → IsFreeAt leads w 0
-free_of_begins leads w e = All-from_members (λ (m : Lead). OccursAt m.word w 0 → ⊥) leads (λ l m o. let t : begins leads w ≡ true = begins_of leads w l m o in cc)
+free_of_begins leads w e = All-from_members (λ (m : Lead). OccursAt m.word w 0 → ⊥) leads
+    (λ l m o. let t : begins leads w ≡ true = begins_of leads w l m o in cc)
 
 pub unless-started : (leads : List Lead) (w : List ℕ) (element : ℕ) → Starts leads w 0 element → unless_begins leads w ≡ []
 unless-started leads w element h = ap (λ (b : Bool). cond b [] (w ∷ [])) (begins_of leads w h.lead h.among h.here)
@@ -68,7 +71,8 @@ IsFree-cons leads x w h r (suc k) =
 pub IsFree-tail : (leads : List Lead) (x : ℕ) (w : List ℕ) → IsFree leads (x ∷ w) → IsFree leads w
 IsFree-tail leads x w h k =
     All-from_members (λ (m : Lead). OccursAt m.word w k → ⊥) leads
-    (λ l c o. All-contains (λ (m : Lead). OccursAt m.word (x ∷ w) (suc k) → ⊥) leads l (h (suc k)) c (record { within = omega (arith, o.within); same = o.same }))
+    (λ l c o. All-contains (λ (m : Lead). OccursAt m.word (x ∷ w) (suc k) → ⊥) leads l (h (suc k)) c
+    (record { within = omega (arith, o.within); same = o.same }))
 
 module _ (leads : List Lead) (x : ℕ) where
   -- a word of the block
@@ -93,14 +97,16 @@ module _ (leads : List Lead) (x : ℕ) where
 
   pub in_block : (tails : List (List ℕ)) (v : List ℕ) → Contains tails v → begins leads (x ∷ v) ≡ false → Contains (block leads x tails) (x ∷ v)
   in_block tails v m e =
-      let here : Contains (unless_begins leads (x ∷ v)) (x ∷ v) = subst (λ (b : Bool). Contains (cond b [] ((x ∷ v) ∷ [])) (x ∷ v)) (sym e) (Contains-first (x ∷ v) []) in
+      let here : Contains (unless_begins leads (x ∷ v)) (x ∷ v) = subst (λ (b : Bool). Contains (cond b [] ((x ∷ v) ∷ [])) (x ∷ v)) (sym e)
+      (Contains-first (x ∷ v) []) in
       Contains-flat_map (λ u. unless_begins leads (x ∷ u)) tails v (x ∷ v) m here
 
   one_falling : (b : Bool) (v : List ℕ) → AllPairs IsLetterwiseGreater (cond b [] (v ∷ []))
   one_falling true v = AllPairs-nil IsLetterwiseGreater
   one_falling false v = AllPairs-cons IsLetterwiseGreater v [] (All-nil (IsLetterwiseGreater v)) (AllPairs-nil IsLetterwiseGreater)
 
-  pub block-falling : (weights : List ℕ) → AreWeights weights → (tails : List (List ℕ)) → AllPairs IsLetterwiseGreater tails → AllPairs IsLetterwiseGreater (block leads x tails)
+  pub block-falling : (weights : List ℕ) → AreWeights weights → (tails : List (List ℕ)) → AllPairs IsLetterwiseGreater tails →
+      AllPairs IsLetterwiseGreater (block leads x tails)
   block-falling weights aw tails h =
       AllPairs-flat_map (λ v. unless_begins leads (x ∷ v)) IsLetterwiseGreater IsLetterwiseGreater (λ v. one_falling (begins leads (x ∷ v)) (x ∷ v))
       (λ a b u v g m n.
@@ -110,7 +116,8 @@ module _ (leads : List Lead) (x : ℕ) where
       tails h
 
   -- one more tail
-  pub block-more : (tails : List (List ℕ)) (i : ℕ) (v : List ℕ) → i < length tails → v ≡ get_or tails i v → block leads x (take (i + 1) tails) ≡ block leads x (take i tails) ++ unless_begins leads (x ∷ v)
+  pub block-more : (tails : List (List ℕ)) (i : ℕ) (v : List ℕ) → i < length tails → v ≡ get_or tails i v →
+      block leads x (take (i + 1) tails) ≡ block leads x (take i tails) ++ unless_begins leads (x ∷ v)
   block-more tails i v lt e =
       ap (block leads x) (take_more tails i v lt ∙ ap (λ (u : List ℕ). take i tails ++ u ∷ []) (sym e))
       ∙ flat_map-append (λ u. unless_begins leads (x ∷ u)) (take i tails) (v ∷ [])
@@ -127,7 +134,8 @@ module _ (leads : List Lead) (x : ℕ) where
   pub block-longer : (old words : List (List ℕ)) (tails : List (List ℕ)) (i most : ℕ) (v w : List ℕ) → i < length tails → v ≡ get_or tails i v → w ≡ x ∷ v
       → words ≡ old ++ block leads x (take i tails) → most < length (words ++ unless_begins leads w) → most < length (old ++ block leads x tails)
   block-longer old words tails i most v w lt e is so_far more =
-      let one : length (unless_begins leads w) ≡ length (unless_begins leads (x ∷ get_or tails i v)) = ap (λ (u : List ℕ). length (unless_begins leads u)) (is ∙ ap (λ (u : List ℕ). x ∷ u) e) in
+      let one : length (unless_begins leads w) ≡ length (unless_begins leads (x ∷ get_or tails i v)) =
+      ap (λ (u : List ℕ). length (unless_begins leads u)) (is ∙ ap (λ (u : List ℕ). x ∷ u) e) in
       omega (
         arith,
         ap length so_far,

@@ -1,5 +1,6 @@
 -- The words that one letter begins.
-use Rattle.std.specs.Prelude.{ℕ, Bool, true, false, cond, leb, ◌-◌, List, [], ◌∷◌, length, take, slice_index_or, bytes_eq}
+use Rattle.std.specs.Prelude.{ℕ, Bool, true, false, cond, leb, ◌-◌, List, [], ◌∷◌, length, take, slice_index_or}
+use Rattle.std.specs.Prelude.{bytes_eq}
 use Rattle.std.specs.List.{flat_map}
 use Rattle.lead_index.specs.declared.lead.Lead.{Lead}
 use Rattle.normal_words.specs.Normal.{WordsOfDegree}
@@ -23,4 +24,5 @@ words_at before i = (slice_index_or before i (record { degree = 0; words = [] })
 
 -- the block of a letter of this weight in the degree that follows those before
 abbrev pub block_at : List Lead → List WordsOfDegree → ℕ → ℕ → List (List ℕ)
-block_at leads before letter weight = cond (leb weight (length before)) (block leads letter (words_at before (length before - weight))) []
+block_at leads before letter weight = cond (leb weight (length before))
+    (block leads letter (words_at before (length before - weight))) []

@@ -23,5 +23,6 @@ next_of (n ∷ ns) = n.degree + length (n ∷ ns)
 -- the normal words of one or more consecutive degrees
 pub record AreBefore (weights : List ℕ) (leads : List Lead) (before : List WordsOfDegree) : Type 0 where
   pub some : 0 < length before
-  pub consecutive : (i : ℕ) (n : WordsOfDegree) → i < length before → (slice_index_or before i n).degree + length before ≡ next_of before + i
+  pub consecutive : (i : ℕ) (n : WordsOfDegree) → i < length before →
+      (slice_index_or before i n).degree + length before ≡ next_of before + i
   pub each : All (λ n. AreNormal weights leads n.degree n.words) before

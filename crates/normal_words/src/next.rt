@@ -41,7 +41,9 @@ pub fn next_degree(
     ensures words { IfOk result (λ n. AreNormal alphabet.now.weights index.now (next_of before.now) n.words) }
     ensures within { IfOk result (λ n. length n.words ≤ most) }
 
-    ensures many { IsErrOf result NormalFault.TooMany → (words : List (List ℕ)) × AreNormal alphabet.now.weights index.now (next_of before.now) words × (most < length words) }
+    ensures many { IsErrOf result NormalFault.TooMany →
+        (words : List (List ℕ)) × AreNormal alphabet.now.weights index.now (next_of before.now) words
+        × (most < length words) }
 {
     let count = before.len();
     let letters = alphabet.len();
@@ -70,7 +72,8 @@ fn push_letter(
 
     ensures block { OnOk result (words.new.items ≡ words.old.items ++ block_at index.now before.now letter weight) }
     ensures within { OnOk result (length words.new.items ≤ most) }
-    ensures many { IsErrOf result NormalFault.TooMany → most < length (words.old.items ++ block_at index.now before.now letter weight) }
+    ensures many { IsErrOf result NormalFault.TooMany →
+        most < length (words.old.items ++ block_at index.now before.now letter weight) }
 {
     if weight as usize > before.len() {
         return Ok(());
@@ -93,7 +96,8 @@ fn push_block(
 
     ensures block { OnOk result (words.new.items ≡ words.old.items ++ block index.now letter tails.now) }
     ensures within { OnOk result (length words.new.items ≤ most) }
-    ensures many { IsErrOf result NormalFault.TooMany → most < length (words.old.items ++ block index.now letter tails.now) }
+    ensures many { IsErrOf result NormalFault.TooMany →
+        most < length (words.old.items ++ block index.now letter tails.now) }
 {
     let mut letters = Vec::new(alloc);
     for tail in tails {
@@ -126,7 +130,8 @@ fn push_word(
 
     ensures word { OnOk result (words.new.items ≡ words.old.items ++ unless_begins index.now letters.now) }
     ensures within { OnOk result (length words.new.items ≤ most) }
-    ensures many { IsErrOf result NormalFault.TooMany → most < length (words.old.items ++ unless_begins index.now letters.now) }
+    ensures many { IsErrOf result NormalFault.TooMany →
+        most < length (words.old.items ++ unless_begins index.now letters.now) }
 {
     match index.starts(letters, 0) {
         Some(_) => Ok(()),

@@ -1,5 +1,6 @@
 -- The obstructions of degree d have one list, and it is as long as the walk's.
-use Rattle.std.proofs.Common.{ap₂, ◌≡◌, ◌≢◌, ◌⊎◌, ◌-◌, ◌<◌, ◌≤◌, ℕ, List, [], ◌∷◌, ◌++◌, length, map, take, drop, sym, ap, ◌∙◌, inl, inr, arith, All, AllPairs, subst, length-append, append_assoc}
+use Rattle.std.proofs.Common.{ap₂, ◌≡◌, ◌≢◌, ◌⊎◌, ◌-◌, ◌<◌, ◌≤◌, ℕ, List, [], ◌∷◌, ◌++◌, length, map, take, drop, sym, ap, ◌∙◌, inl, inr, arith, All}
+use Rattle.std.proofs.Common.{AllPairs, subst, length-append, append_assoc}
 use Rattle.std.specs.List.{Contains, range_with_len}
 use Rattle.std.proofs.lemmas.Bool.{cases_lt}
 use Rattle.std.proofs.lemmas.List.{append-nil, append_cancel_left, length-take-le}
@@ -42,7 +43,8 @@ module _ (b : Elements) (kept : IsKept b) (free : IsFactorFree b.elements) (d : 
       let whole_q : overlap_word q ≡ q.before ++ w = append_assoc q.before q.shared q.behind ∙ ap (λ (r : List ℕ). q.before ++ r) (sym lq.right_lead) in
       let joined : o.before ++ v ≡ q.before ++ w = sym whole_o ∙ word ∙ whole_q in
       let r = suffix o.before v q.before w joined lt in
-      let place = factor_free b kept free q.right o.right lq.right_within lo.right_within (record { before = r.0; after = []; joined = r.1 ∙ sym (append-nil (r.0 ++ w)) }) in
+      let place = factor_free b kept free q.right o.right lq.right_within lo.right_within
+      (record { before = r.0; after = []; joined = r.1 ∙ sym (append-nil (r.0 ++ w)) }) in
       omega (arith, r.2, ap length r.1, length-append r.0 w, ap (λ (n : ℕ). length (lead_word G n)) place)
     where
       suffix : (a v c w : List ℕ) → a ++ v ≡ c ++ w → length a < length c → (x : List ℕ) × (v ≡ x ++ w) × (0 < length x)
@@ -64,10 +66,12 @@ module _ (b : Elements) (kept : IsKept b) (free : IsFactorFree b.elements) (d : 
       ] in
       let lead : o.before ++ o.shared ≡ q.before ++ q.shared = sym lo.left_lead ∙ ap (lead_word G) left ∙ lq.left_lead in
       let before : o.before ≡ q.before = sym (front_of o.before o.shared) ∙ ap₂ (λ (n : ℕ) (w : List ℕ). take n w) size lead ∙ front_of q.before q.shared in
-      let shared : o.shared ≡ q.shared = sym (behind_front o.before o.shared) ∙ ap₂ (λ (n : ℕ) (w : List ℕ). drop n w) size lead ∙ behind_front q.before q.shared in
+      let shared : o.shared ≡ q.shared = sym (behind_front o.before o.shared) ∙ ap₂ (λ (n : ℕ) (w : List ℕ). drop n w) size lead
+      ∙ behind_front q.before q.shared in
       let behind : o.behind ≡ q.behind = append_cancel_left (q.before ++ q.shared) o.behind q.behind (ap (λ (w : List ℕ). w ++ o.behind) (sym lead) ∙ word) in
       let right_word : lead_word G o.right ≡ lead_word G q.right = lo.right_lead ∙ ap₂ (λ (u v : List ℕ). u ++ v) shared behind ∙ sym lq.right_lead in
-      let right : o.right ≡ q.right = factor_free b kept free o.right q.right lo.right_within lq.right_within (record { before = []; after = []; joined = sym right_word ∙ sym (append-nil (lead_word G o.right)) }) in
+      let right : o.right ≡ q.right = factor_free b kept free o.right q.right lo.right_within lq.right_within
+      (record { before = []; after = []; joined = sym right_word ∙ sym (append-nil (lead_word G o.right)) }) in
       λ i. record { left = left i; right = right i; before = before i; shared = shared i; behind = behind i }
 
   abbrev Differ : Overlap → Overlap → Type 0
@@ -76,11 +80,13 @@ module _ (b : Elements) (kept : IsKept b) (free : IsFactorFree b.elements) (d : 
   block_apart : (left before : ℕ) → AllPairs Differ (block b.weights G left before (rest_of b kept free d left before))
   block_apart left before =
       AllPairs-filter Differ (meets b.weights G (rest_of b kept free d left before)) (map (overlap_at G left before) (range_with_len 0 (length G)))
-      (AllPairs-map (overlap_at G left before) (λ x y. x < y) Differ (λ x y lt e. omega (arith, lt, ap (λ (o : Overlap). o.right) e)) (range_with_len 0 (length G)) (range-rising 0 (length G)))
+      (AllPairs-map (overlap_at G left before) (λ x y. x < y) Differ (λ x y lt e. omega (arith, lt, ap (λ (o : Overlap). o.right) e))
+      (range_with_len 0 (length G)) (range-rising 0 (length G)))
 
   blocks_apart : (left : ℕ) → AllPairs Differ (blocks b.weights G d left)
   blocks_apart left =
-      AllPairs-flat_map (λ before. block b.weights G left before (rest_of b kept free d left before)) Under Differ (block_apart left) across (range_with_len 1 (length (lead_word G left) - 1)) rises
+      AllPairs-flat_map (λ before. block b.weights G left before (rest_of b kept free d left before)) Under Differ (block_apart left) across
+      (range_with_len 1 (length (lead_word G left) - 1)) rises
     where
       Under : ℕ → ℕ → Type 0
       Under x y = (x < y) × (y ≤ length (lead_word G left))
@@ -93,18 +99,27 @@ module _ (b : Elements) (kept : IsKept b) (free : IsFactorFree b.elements) (d : 
           let second = get_or-range_with_len 1 n j e (omega (arith, within, size)) in
           (omega (arith, before, first, second), omega (arith, within, size, second))
 
-      across : (x y : ℕ) (o q : Overlap) → Under x y → Contains (block b.weights G left x (rest_of b kept free d left x)) o → Contains (block b.weights G left y (rest_of b kept free d left y)) q → Differ o q
+      across : (x y : ℕ) (o q : Overlap) → Under x y → Contains (block b.weights G left x (rest_of b kept free d left x)) o →
+          Contains (block b.weights G left y (rest_of b kept free d left y)) q → Differ o q
       across x y o q u m n e =
           let r = of_block b kept free d left x o m in
           let s = of_block b kept free d left y q n in
-          omega (arith, u.0, u.1, ap (λ (p : Overlap). length p.before) (r.is ∙ e ∙ sym s.is), length-take-le x (lead_word G left) (omega (arith, u.0, u.1)), length-take-le y (lead_word G left) u.1)
+          omega (
+            arith,
+            u.0,
+            u.1,
+            ap (λ (p : Overlap). length p.before) (r.is ∙ e ∙ sym s.is),
+            length-take-le x (lead_word G left) (omega (arith, u.0, u.1)),
+            length-take-le y (lead_word G left) u.1,
+          )
 
   all_apart : AllPairs Differ (all_blocks b.weights G d)
   all_apart = AllPairs-flat_map (blocks b.weights G d) (λ x y. x < y) Differ blocks_apart across (range_with_len 0 (length G)) (range-rising 0 (length G))
     where
       left_of : (left : ℕ) (o : Overlap) → Contains (blocks b.weights G d left) o → left ≡ o.left
       left_of left o m =
-          let k = Contains-flat_map_cases (λ before. block b.weights G left before (rest_of b kept free d left before)) (range_with_len 1 (length (lead_word G left) - 1)) o m in
+          let k = Contains-flat_map_cases (λ before. block b.weights G left before (rest_of b kept free d left before))
+          (range_with_len 1 (length (lead_word G left) - 1)) o m in
           ap (λ (p : Overlap). p.left) (of_block b kept free d left k.0 o k.2).is
 
       across : (x y : ℕ) (o q : Overlap) → x < y → Contains (blocks b.weights G d x) o → Contains (blocks b.weights G d y) q → Differ o q

@@ -1,5 +1,6 @@
 -- The overlaps with one left element and one number of letters before the right one, place by place.
-use Rattle.std.proofs.Common.{◌≡◌, ◌≢◌, ◌⊎◌, ◌+◌, ◌-◌, ◌<◌, ◌≤◌, ◌==◌, ◌&&◌, ℕ, zero, suc, Bool, true, false, cond, List, [], ◌∷◌, ◌++◌, length, map, take, refl, sym, ap, ◌∙◌, inl, inr, arith, subst, bytes_eq, length-append, eq-eqb}
+use Rattle.std.proofs.Common.{◌≡◌, ◌≢◌, ◌⊎◌, ◌+◌, ◌-◌, ◌<◌, ◌≤◌, ◌==◌, ◌&&◌, ℕ, zero, suc, Bool, true, false, cond, List, [], ◌∷◌, ◌++◌, length, map}
+use Rattle.std.proofs.Common.{take, refl, sym, ap, ◌∙◌, inl, inr, arith, subst, bytes_eq, length-append, eq-eqb}
 use Rattle.std.specs.List.{filter, range_with_len}
 use Rattle.std.proofs.lemmas.Bool.{cases_Bool, cases_lt, eqb-true}
 use Rattle.std.proofs.lemmas.List.{append-nil}
@@ -54,7 +55,10 @@ module _ (weights : List ℕ) (G : List (List Term)) (left before rest : ℕ) wh
     where
       by_tests : (a : Bool) → bytes_eq (take (length shared) (lead_word G right)) shared ≡ a → (b : Bool) → (degree_of weights (lead_word G right) == rest) ≡ b
           → (take (length shared) (lead_word G right) ≡ shared) × (degree_of weights (lead_word G right) ≡ rest)
-      by_tests true f true g = ((bytes_eq-Decides (take (length shared) (lead_word G right)) shared).0 f, eqb-true (degree_of weights (lead_word G right)) rest g)
+      by_tests true f true g = (
+        (bytes_eq-Decides (take (length shared) (lead_word G right)) shared).0 f,
+        eqb-true (degree_of weights (lead_word G right)) rest g,
+      )
       by_tests false f b g = absurd (let h : false ≡ true = rw f at e in cc h)
       by_tests true f false g = absurd (let h : (true && false) ≡ true = sym (λ i. f i && g i) ∙ e in cc h)
 
@@ -73,13 +77,20 @@ module _ (weights : List ℕ) (G : List (List Term)) (left before rest : ℕ) wh
   block_upto-longer (suc n) right =
       let next : right + suc n ≡ (right + n) + 1 = omega arith in
       let more = filter_of_map_range_with_len_more (meets weights G rest) (overlap_at G left before) 0 (right + n) (right + n) (omega arith) in
-      omega (arith, block_upto-longer n right, ap (λ (k : ℕ). length (block_upto k)) next, ap length more, length-append (block_upto (right + n)) (cond (met (right + n)) (at (right + n) ∷ []) []))
+      omega (
+        arith,
+        block_upto-longer n right,
+        ap (λ (k : ℕ). length (block_upto k)) next,
+        ap length more,
+        length-append (block_upto (right + n)) (cond (met (right + n)) (at (right + n) ∷ []) []),
+      )
 
   -- places without one
   pub block_upto-skip : (n right : ℕ) → ((k : ℕ) → right ≤ k → k < right + n → met k ≡ false) → block_upto (right + n) ≡ block_upto right
   block_upto-skip zero right none = ap block_upto (omega arith)
   block_upto-skip (suc n) right none =
-      ap block_upto (let next : right + suc n ≡ (right + n) + 1 = omega arith in next) ∙ block_upto-none (right + n) (none (right + n) (omega arith) (omega arith))
+      ap block_upto (let next : right + suc n ≡ (right + n) + 1 = omega arith in next)
+      ∙ block_upto-none (right + n) (none (right + n) (omega arith) (omega arith))
       ∙ block_upto-skip n right (λ k from under. none k from (omega (arith, under)))
 
   pub block_upto-same : (right end : ℕ) → right ≤ end → ((k : ℕ) → right ≤ k → k < end → met k ≡ false) → block_upto end ≡ block_upto right
@@ -87,7 +98,8 @@ module _ (weights : List ℕ) (G : List (List Term)) (left before rest : ℕ) wh
       let whole : right + (end - right) ≡ end = omega (arith, le) in
       ap block_upto (sym whole) ∙ block_upto-skip (end - right) right (λ k from under. none k from (omega (arith, under, whole)))
 
-module _ (b : Elements) (kept : IsKept b) (left before rest first end : ℕ) (is_first : first ≡ count_below b.weights rest b.elements) (is_end : end ≡ count_upto b.weights rest b.elements) (fits : end ≤ length b.elements) where
+module _ (b : Elements) (kept : IsKept b) (left before rest first end : ℕ) (is_first : first ≡ count_below b.weights rest b.elements)
+    (is_end : end ≡ count_upto b.weights rest b.elements) (fits : end ≤ length b.elements) where
   abbrev c : List ℕ
   c = shared_at b.elements left before
 
@@ -95,8 +107,10 @@ module _ (b : Elements) (kept : IsKept b) (left before rest first end : ℕ) (is
   upto right = block_upto b.weights b.elements left before rest right
 
   outside : (k : ℕ) → k < length b.elements → (k < first) ⊎ (end ≤ k) → meets b.weights b.elements rest (overlap_at b.elements left before k) ≡ false
-  outside k within (inl under) = meets-other b.weights b.elements left before rest k (λ e. omega (arith, e, before_degree b kept rest k within (omega (arith, under, is_first))))
-  outside k within (inr from) = meets-other b.weights b.elements left before rest k (λ e. omega (arith, e, behind_degree b kept rest k within (omega (arith, from, is_end))))
+  outside k within (inl under) = meets-other b.weights b.elements left before rest k
+      (λ e. omega (arith, e, before_degree b kept rest k within (omega (arith, under, is_first))))
+  outside k within (inr from) = meets-other b.weights b.elements left before rest k
+      (λ e. omega (arith, e, behind_degree b kept rest k within (omega (arith, from, is_end))))
 
   -- before the first place that does not stand above there is none
   pub none_before : (start : ℕ) → start ≤ end → ((k : ℕ) → first ≤ k → k < start → IsAbove c (lead_word b.elements k)) → upto start ≡ []
@@ -105,7 +119,8 @@ module _ (b : Elements) (kept : IsKept b) (left before rest first end : ℕ) (is
       none : (k : ℕ) → 0 ≤ k → k < start → meets b.weights b.elements rest (overlap_at b.elements left before k) ≡ false
       none k from under = elim (cases_lt k first) [
         | inl before_first ↦ outside k (omega (arith, under, le, fits)) (inl before_first)
-        | inr there ↦ meets-apart b.weights b.elements left before rest k (λ e. letterwise-apart (take (length c) (lead_word b.elements k)) c (above k there under) e)
+        | inr there ↦ meets-apart b.weights b.elements left before rest k
+            (λ e. letterwise-apart (take (length c) (lead_word b.elements k)) c (above k there under) e)
       ]
 
   -- at the end all have been met
@@ -113,9 +128,11 @@ module _ (b : Elements) (kept : IsKept b) (left before rest first end : ℕ) (is
   upto_end = sym (block_upto-same b.weights b.elements left before rest end (length b.elements) fits (λ k from within. outside k within (inr from)))
 
   -- and also where the first one stands that does not begin with what is shared
-  pub upto_other : (right : ℕ) → first ≤ right → right < end → (IsAbove c (lead_word b.elements right) → ⊥) → (take (length c) (lead_word b.elements right) ≡ c → ⊥)
+  pub upto_other : (right : ℕ) → first ≤ right → right < end → (IsAbove c (lead_word b.elements right) → ⊥) →
+      (take (length c) (lead_word b.elements right) ≡ c → ⊥)
       → upto right ≡ block b.weights b.elements left before rest
-  upto_other right from under low other = sym (block_upto-same b.weights b.elements left before rest right (length b.elements) (omega (arith, under, fits)) none)
+  upto_other right from under low other = sym (block_upto-same b.weights b.elements left before rest right (length b.elements)
+      (omega (arith, under, fits)) none)
     where
       none : (k : ℕ) → right ≤ k → k < length b.elements → meets b.weights b.elements rest (overlap_at b.elements left before k) ≡ false
       none k later within = elim (cases_lt k end) [
@@ -127,13 +144,16 @@ module _ (b : Elements) (kept : IsKept b) (left before rest first end : ℕ) (is
         ])
       ]
 
-  pub upto_met : (right : ℕ) → first ≤ right → right < end → take (length c) (lead_word b.elements right) ≡ c → upto (right + 1) ≡ upto right ++ overlap_at b.elements left before right ∷ []
+  pub upto_met : (right : ℕ) → first ≤ right → right < end → take (length c) (lead_word b.elements right) ≡ c →
+      upto (right + 1) ≡ upto right ++ overlap_at b.elements left before right ∷ []
   upto_met right from under e =
       block_upto-one b.weights b.elements left before rest right
-      (meets-both b.weights b.elements left before rest right e (in_degree b kept rest right (omega (arith, from, is_first)) (omega (arith, under, is_end)) (omega (arith, under, fits))))
+      (meets-both b.weights b.elements left before rest right e (in_degree b kept rest right (omega (arith, from, is_first))
+      (omega (arith, under, is_end)) (omega (arith, under, fits))))
 
   -- where one more is met, the block is longer
-  pub upto_longer : (right : ℕ) → first ≤ right → right < end → take (length c) (lead_word b.elements right) ≡ c → length (upto right) < length (block b.weights b.elements left before rest)
+  pub upto_longer : (right : ℕ) → first ≤ right → right < end → take (length c) (lead_word b.elements right) ≡ c →
+      length (upto right) < length (block b.weights b.elements left before rest)
   upto_longer right from under e =
       let whole : (right + 1) + (length b.elements - (right + 1)) ≡ length b.elements = omega (arith, under, fits) in
       omega (

@@ -1,11 +1,14 @@
--- The overlaps of degree d, walked by left elements, letters before the right one and right elements, are exactly its obstructions.
-use Rattle.std.proofs.Common.{ap₂, ◌≡◌, ◌≢◌, ◌⊎◌, ◌-◌, ◌<◌, ◌≤◌, ℕ, Bool, true, false, cond, List, [], ◌∷◌, ◌++◌, length, map, take, drop, get_or, refl, sym, ap, ◌∙◌, inl, inr, arith, Some, subst, length-append, length-drop}
+-- The overlaps of degree d, walked by left elements, letters before the right one and right elements, are exactly its
+-- obstructions.
+use Rattle.std.proofs.Common.{ap₂, ◌≡◌, ◌≢◌, ◌⊎◌, ◌-◌, ◌<◌, ◌≤◌, ℕ, Bool, true, false, cond, List, [], ◌∷◌, ◌++◌, length, map, take, drop, get_or}
+use Rattle.std.proofs.Common.{refl, sym, ap, ◌∙◌, inl, inr, arith, Some, subst, length-append, length-drop}
 use Rattle.std.specs.List.{Contains, filter, range_with_len, slice_get}
 use Rattle.std.proofs.lemmas.List.{append-nil, length-take-le, take-append-drop}
 use Rattle.std.proofs.lemmas.Option.{get_or_from_slice_get, slice_get-get_or, slice_get_within}
 use Rattle.words.specs.Words.{IsFactor, degree_of}
 use Rattle.words.proofs.Degrees.{Contains-range, range-bounds}
-use Rattle.words.proofs.Members.{Contains-cases, Contains-first, Contains-flat_map, Contains-flat_map_cases, Contains-map, Contains-map_cases, Contains-more, Contains-none}
+use Rattle.words.proofs.Members.{Contains-cases, Contains-first, Contains-flat_map, Contains-flat_map_cases, Contains-map, Contains-map_cases}
+use Rattle.words.proofs.Members.{Contains-more, Contains-none}
 use Rattle.words.proofs.Weights.{degree_of-append}
 use Rattle.free_poly.specs.declared.term.Term.{Term}
 use Rattle.free_poly.specs.Poly.{lead_of, lead_or_none}
@@ -22,7 +25,8 @@ module _ {X : Type 0} (p : X → Bool) where
   in_filter [] x m e = absurd (Contains-none x m)
   in_filter (y ∷ xs) x m e = by_test (p y) refl (Contains-cases y xs x m) (λ n. in_filter xs x n e)
     where
-      by_test : (b : Bool) → p y ≡ b → (y ≡ x) ⊎ Contains xs x → (Contains xs x → Contains (filter p xs) x) → Contains (cond b (y ∷ filter p xs) (filter p xs)) x
+      by_test : (b : Bool) → p y ≡ b → (y ≡ x) ⊎ Contains xs x → (Contains xs x → Contains (filter p xs) x) →
+          Contains (cond b (y ∷ filter p xs) (filter p xs)) x
       by_test true f (inl is) rest = subst (Contains (y ∷ filter p xs)) is (Contains-first y (filter p xs))
       by_test true f (inr n) rest = Contains-more y (filter p xs) x (rest n)
       by_test false f (inl is) rest = absurd (let g : true ≡ false = sym e ∙ ap p (sym is) ∙ f in cc g)
@@ -32,7 +36,8 @@ module _ {X : Type 0} (p : X → Bool) where
   filter-says [] x m = absurd (Contains-none x m)
   filter-says (y ∷ xs) x m = by_test (p y) refl m (λ n. filter-says xs x n)
     where
-      by_test : (b : Bool) → p y ≡ b → Contains (cond b (y ∷ filter p xs) (filter p xs)) x → (Contains (filter p xs) x → Contains xs x × (p x ≡ true)) → Contains (y ∷ xs) x × (p x ≡ true)
+      by_test : (b : Bool) → p y ≡ b → Contains (cond b (y ∷ filter p xs) (filter p xs)) x →
+          (Contains (filter p xs) x → Contains xs x × (p x ≡ true)) → Contains (y ∷ xs) x × (p x ≡ true)
       by_test true f n rest = elim (Contains-cases y (filter p xs) x n) [
         | inl is ↦ (subst (Contains (y ∷ xs)) is (Contains-first y xs), ap p (sym is) ∙ f)
         | inr k ↦ let r = rest k in (Contains-more y xs x r.0, r.1)
@@ -58,7 +63,8 @@ module _ (b : Elements) (kept : IsKept b) (free : IsFactorFree b.elements) where
 
   -- of two leading words none is a factor of the other
   pub factor_free : (i j : ℕ) → i < length G → j < length G → IsFactor (lead_word G i) (lead_word G j) → i ≡ j
-  factor_free i j li lj f = free i j (get_or G i []) (get_or G j []) (lead_word G i) (lead_word G j) (place_of i li) (place_of j lj) (lead_at i li) (lead_at j lj) f
+  factor_free i j li lj f = free i j (get_or G i []) (get_or G j []) (lead_word G i) (lead_word G j) (place_of i li) (place_of j lj)
+      (lead_at i li) (lead_at j lj) f
 
   module _ (d : ℕ) where
     abbrev pub Obs : Overlap → Type 0
@@ -69,7 +75,8 @@ module _ (b : Elements) (kept : IsKept b) (free : IsFactorFree b.elements) where
 
     -- two elements that meet are an obstruction
     met_is : (left before right : ℕ) → left < length G → right < length G → 1 ≤ before → before < length (lead_word G left)
-        → take (length (shared_at G left before)) (lead_word G right) ≡ shared_at G left before → degree_of b.weights (lead_word G right) ≡ rest_of left before → Obs (overlap_at G left before right)
+        → take (length (shared_at G left before)) (lead_word G right) ≡ shared_at G left before →
+        degree_of b.weights (lead_word G right) ≡ rest_of left before → Obs (overlap_at G left before right)
     met_is left before right ll lr from under begins deg =
         let v = lead_word G left in
         let w = lead_word G right in
@@ -91,7 +98,8 @@ module _ (b : Elements) (kept : IsKept b) (free : IsFactorFree b.elements) where
           some_shared = longer-some c (omega (arith, size_c, under));
           some_behind = λ none.
               let same : w ≡ c = second ∙ ap (λ (u : List ℕ). c ++ u) none ∙ append-nil c in
-              let place : right ≡ left = factor_free right left lr ll (record { before = a; after = []; joined = whole ∙ ap (λ (u : List ℕ). a ++ u) (sym same) ∙ sym (append-nil (a ++ w)) }) in
+              let place : right ≡ left = factor_free right left lr ll (record
+              { before = a; after = []; joined = whole ∙ ap (λ (u : List ℕ). a ++ u) (sym same) ∙ sym (append-nil (a ++ w)) }) in
               omega (arith, ap length same, ap (λ (n : ℕ). length (lead_word G n)) place, size_c, from, under);
           degree =
               let total = degree_of-append b.weights (a ++ c) z in
@@ -121,7 +129,8 @@ module _ (b : Elements) (kept : IsKept b) (free : IsFactorFree b.elements) where
         let k = Contains-flat_map_cases (λ before. block b.weights G l.0 before (rest_of l.0 before)) (range_with_len 1 (length (lead_word G l.0) - 1)) o l.2 in
         let r = of_block l.0 k.0 o k.2 in
         let within = range-bounds 1 (length (lead_word G l.0) - 1) k.0 k.1 in
-        subst Obs r.is (met_is l.0 k.0 r.right (omega (arith, (range-bounds 0 (length G) l.0 l.1).1)) r.within within.0 (omega (arith, within.0, within.1)) r.begins r.degree)
+        subst Obs r.is (met_is l.0 k.0 r.right (omega (arith, (range-bounds 0 (length G) l.0 l.1).1)) r.within within.0
+        (omega (arith, within.0, within.1)) r.begins r.degree)
 
     -- the two leading words of an obstruction
     pub record HasLeads (o : Overlap) : Type 0 where
@@ -146,7 +155,8 @@ module _ (b : Elements) (kept : IsKept b) (free : IsFactorFree b.elements) where
         let shared : shared_at G o.left k ≡ o.shared = ap (drop k) l.left_lead ∙ behind_front o.before o.shared in
         let begins : take (length (shared_at G o.left k)) (lead_word G o.right) ≡ shared_at G o.left k =
         ap₂ (λ (n : ℕ) (w : List ℕ). take n w) (ap length shared) l.right_lead ∙ front_of o.shared o.behind ∙ sym shared in
-        let behind : drop (length (shared_at G o.left k)) (lead_word G o.right) ≡ o.behind = ap₂ (λ (n : ℕ) (w : List ℕ). drop n w) (ap length shared) l.right_lead ∙ behind_front o.shared o.behind in
+        let behind : drop (length (shared_at G o.left k)) (lead_word G o.right) ≡ o.behind =
+        ap₂ (λ (n : ℕ) (w : List ℕ). drop n w) (ap length shared) l.right_lead ∙ behind_front o.shared o.behind in
         let is : overlap_at G o.left k o.right ≡ o = λ i. record { left = o.left; right = o.right; before = cut i; shared = shared i; behind = behind i } in
         let degree : degree_of b.weights (lead_word G o.right) ≡ rest_of o.left k =
         omega (
@@ -164,7 +174,10 @@ module _ (b : Elements) (kept : IsKept b) (free : IsFactorFree b.elements) where
         in_filter (meets b.weights G (rest_of o.left k)) (map (overlap_at G o.left k) all) (overlap_at G o.left k o.right)
         (Contains-map (overlap_at G o.left k) all o.right (Contains-range 0 (length G) o.right (omega arith) (omega (arith, l.right_within)))) met in
         let sizes = ap length l.left_lead ∙ length-append o.before o.shared in
-        let in_blocks = Contains-flat_map (λ before. block b.weights G o.left before (rest_of o.left before)) (range_with_len 1 (length (lead_word G o.left) - 1)) k (overlap_at G o.left k o.right)
-        (Contains-range 1 (length (lead_word G o.left) - 1) k (omega (arith, some-longer o.before h.some_before)) (omega (arith, sizes, some-longer o.shared h.some_shared, some-longer o.before h.some_before))) in_block in
+        let in_blocks = Contains-flat_map (λ before. block b.weights G o.left before (rest_of o.left before))
+        (range_with_len 1 (length (lead_word G o.left) - 1)) k (overlap_at G o.left k o.right)
+        (Contains-range 1 (length (lead_word G o.left) - 1) k (omega (arith, some-longer o.before h.some_before))
+        (omega (arith, sizes, some-longer o.shared h.some_shared, some-longer o.before h.some_before))) in_block in
         subst (Contains (all_blocks b.weights G d)) is
-        (Contains-flat_map (blocks b.weights G d) all o.left (overlap_at G o.left k o.right) (Contains-range 0 (length G) o.left (omega arith) (omega (arith, l.left_within))) in_blocks)
+        (Contains-flat_map (blocks b.weights G d) all o.left (overlap_at G o.left k o.right)
+        (Contains-range 0 (length G) o.left (omega arith) (omega (arith, l.left_within))) in_blocks)

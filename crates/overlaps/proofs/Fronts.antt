@@ -1,5 +1,6 @@
 -- The first letters of words that fall.
-use Rattle.std.proofs.Common.{ap₂, ◌≡◌, ◌⊎◌, ◌-◌, ◌<◌, ℕ, zero, suc, List, [], ◌∷◌, ◌++◌, length, take, drop, refl, sym, ap, ◌∙◌, inl, inr, arith, subst, append_assoc, length-append}
+use Rattle.std.proofs.Common.{ap₂, ◌≡◌, ◌⊎◌, ◌-◌, ◌<◌, ℕ, zero, suc, List, [], ◌∷◌, ◌++◌, length, take, drop, refl, sym, ap, ◌∙◌, inl, inr, arith}
+use Rattle.std.proofs.Common.{subst, append_assoc, length-append}
 use Rattle.std.proofs.Common.{length-drop}
 use Rattle.std.proofs.lemmas.Bool.{cases_lt}
 use Rattle.std.proofs.lemmas.Cmp.{by_ranked, ranked}
@@ -69,7 +70,8 @@ front_of (a ∷ u) r = ap (λ (s : List ℕ). a ∷ s) (front_of u r)
 -- a factor stands in a word behind what is before it
 pub occurs_inside : (u w : List ℕ) (f : IsFactor u w) → OccursAt u w (length f.before)
 occurs_inside u w f =
-    let rest : drop (length f.before) w ≡ u ++ f.after = ap (drop (length f.before)) (f.joined ∙ append_assoc f.before u f.after) ∙ behind_front f.before (u ++ f.after) in
+    let rest : drop (length f.before) w ≡ u ++ f.after = ap (drop (length f.before)) (f.joined ∙ append_assoc f.before u f.after)
+    ∙ behind_front f.before (u ++ f.after) in
     record {
       within = omega (arith, ap length f.joined, length-append (f.before ++ u) f.after, length-append f.before u);
       same = ap (take (length u)) rest ∙ front_of u f.after;

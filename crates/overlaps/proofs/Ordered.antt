@@ -36,7 +36,8 @@ module _ {X : Type 0} (R : X → X → Type 0) (trans : (x y z : X) → R x y �
         says = λ z m. Contains-cases x (y ∷ xs) z m;
         has = Contains-first x (y ∷ xs);
         more = λ z m. Contains-more x (y ∷ xs) z m;
-        ordered = AllPairs-cons R x (y ∷ xs) (All-cons (R x) y xs first (All-from_members (R x) xs (λ z m. trans x y z first (All-contains (R y) xs z (AllPairs-first R y xs up) m)))) up;
+        ordered = AllPairs-cons R x (y ∷ xs) (All-cons (R x) y xs first
+            (All-from_members (R x) xs (λ z m. trans x y z first (All-contains (R y) xs z (AllPairs-first R y xs up) m)))) up;
       }
       by_answer (inr later) rest = record {
         list = y ∷ rest.list;
@@ -71,7 +72,8 @@ module _ {X : Type 0} (R : X → X → Type 0) (trans : (x y z : X) → R x y �
   order [] h = record { list = []; size = refl; says = λ z m. m; has = λ z m. m; ordered = AllPairs-nil R }
   order (x ∷ xs) h =
       let rest = order xs (AllPairs-rest Compares x xs h) in
-      let i = insert x rest.list rest.ordered (All-from_members (Compares x) rest.list (λ z m. All-contains (Compares x) xs z (AllPairs-first Compares x xs h) (rest.says z m))) in
+      let i = insert x rest.list rest.ordered (All-from_members (Compares x) rest.list
+      (λ z m. All-contains (Compares x) xs z (AllPairs-first Compares x xs h) (rest.says z m))) in
       record {
         list = i.list;
         size = i.size ∙ ap suc rest.size;

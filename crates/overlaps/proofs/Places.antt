@@ -26,7 +26,8 @@ module _ {X : Type 0} (key : X → ℕ) where
 
   below-more : (d : ℕ) (x : X) (xs : List X) → key x < d → below d (x ∷ xs) ≡ suc (below d xs)
   below-more d x xs lt =
-      let one : below d (x ∷ []) ≡ 1 = count_by-all (λ y. ltb (key y) d) (x ∷ []) (All-cons (λ y. ltb (key y) d ≡ true) x [] (lt-ltb (key x) d lt) (All-nil (λ y. ltb (key y) d ≡ true))) in
+      let one : below d (x ∷ []) ≡ 1 = count_by-all (λ y. ltb (key y) d) (x ∷ [])
+      (All-cons (λ y. ltb (key y) d ≡ true) x [] (lt-ltb (key x) d lt) (All-nil (λ y. ltb (key y) d ≡ true))) in
       omega (arith, count_by-append (λ y. ltb (key y) d) (x ∷ []) xs, one)
 
   below-rest : (d : ℕ) (x : X) (xs : List X) → Rises (x ∷ xs) → d ≤ key x → below d (x ∷ xs) ≡ 0
@@ -110,7 +111,12 @@ module _ (b : Elements) (kept : IsKept b) where
 
   pub behind_degree : (d i : ℕ) → i < length G → count_upto b.weights d G ≤ i → d < degree_of b.weights (lead_word G i)
   behind_degree d i within from =
-      omega (arith, key_from (lead_degree b.weights) (suc d) G i [] rises within (omega (arith, from, below-suc (lead_degree b.weights) d G)), lead_degree-is b.weights (get_or G i []))
+      omega (
+        arith,
+        key_from (lead_degree b.weights) (suc d) G i [] rises within
+            (omega (arith, from, below-suc (lead_degree b.weights) d G)),
+        lead_degree-is b.weights (get_or G i []),
+      )
 
   -- and fall there
   pub falls_in_degree : (d : ℕ) → count_upto b.weights d G ≤ length G → IsFalling G (count_below b.weights d G) (count_upto b.weights d G)
@@ -128,4 +134,5 @@ module _ (b : Elements) (kept : IsKept b) where
   ]
     where
       falls : (f g : List Term) → HasGreaterLead f g → IsLetterwiseGreater (lead_or_none f) (lead_or_none g)
-      falls f g h = subst (λ (w : List ℕ). IsLetterwiseGreater w (lead_or_none g)) (sym (lead-is f h.of_f h.leads_f)) (subst (IsLetterwiseGreater h.of_f) (sym (lead-is g h.of_g h.leads_g)) h.greater)
+      falls f g h = subst (λ (w : List ℕ). IsLetterwiseGreater w (lead_or_none g)) (sym (lead-is f h.of_f h.leads_f))
+          (subst (IsLetterwiseGreater h.of_f) (sym (lead-is g h.of_g h.leads_g)) h.greater)

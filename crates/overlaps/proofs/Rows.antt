@@ -1,5 +1,6 @@
 -- The row of an obstruction.
-use Rattle.std.proofs.Common.{ap₂, ◌≡◌, ◌-◌, ◌%◌, ◌<◌, ℕ, List, [], ◌∷◌, ◌++◌, Ok, Err, Result, IfOk, length, map, take, drop, get_or, refl, sym, ap, ◌∙◌, arith, All, subst, length-append, append_assoc}
+use Rattle.std.proofs.Common.{ap₂, ◌≡◌, ◌-◌, ◌%◌, ◌<◌, ℕ, List, [], ◌∷◌, ◌++◌, Ok, Err, Result, IfOk, length, map, take, drop, get_or, refl, sym, ap}
+use Rattle.std.proofs.Common.{◌∙◌, arith, All, subst, length-append, append_assoc}
 use Rattle.std.specs.List.{AllZip, Contains}
 use Rattle.std.proofs.lemmas.List.{get_or_default}
 use Rattle.std.proofs.lemmas.List.Elements.{All-map}
@@ -32,7 +33,8 @@ module _ (b : Elements) (kept : IsKept b) where
   pub no_prefix : (i : ℕ) (f : List Term) → i < length G → f ≡ get_or G i f → HasNoPrefix f
   no_prefix i f lt is =
       subst HasNoPrefix (sym (is ∙ get_or_default G i f [] lt))
-      (has_no_prefix_in_degree b.weights kept.weights (get_or G i []) (HasOneDegree-from b.weights (lead_degree b.weights (get_or G i [])) (get_or G i []) (element_kept b kept i lt).degree))
+      (has_no_prefix_in_degree b.weights kept.weights (get_or G i [])
+      (HasOneDegree-from b.weights (lead_degree b.weights (get_or G i [])) (get_or G i []) (element_kept b kept i lt).degree))
 
   module _ (x : Obstruction) (of : IsOf b.weights G x) where
     pub left_within : x.left < length G
@@ -48,13 +50,15 @@ module _ (b : Elements) (kept : IsKept b) where
     pub before : take (length (lead_word G x.left) - x.shared) x.word ≡ o.before
     pub behind : drop (length (lead_word G x.left)) x.word ≡ o.behind
 
-  pub parts : (x : Obstruction) (d : ℕ) (o : Overlap) → x ≡ obstruction_of o → (h : IsObstruction b.weights G d o.left o.right o.before o.shared o.behind) → HasParts x d o h
+  pub parts : (x : Obstruction) (d : ℕ) (o : Overlap) → x ≡ obstruction_of o →
+      (h : IsObstruction b.weights G d o.left o.right o.before o.shared o.behind) → HasParts x d o h
   parts x d o shown h =
       let left : x.left ≡ o.left = ap (λ (y : Obstruction). y.left) shown in
       let right : x.right ≡ o.right = ap (λ (y : Obstruction). y.right) shown in
       let word : x.word ≡ overlap_word o = ap (λ (y : Obstruction). y.word) shown in
       let shared : x.shared ≡ length o.shared = ap (λ (y : Obstruction). y.shared) shown in
-      let lead : lead_word G x.left ≡ o.before ++ o.shared = ap (lead_word G) left ∙ ap lead_or_none (get_or_from_slice_get G o.left h.first [] h.at_left) ∙ lead-is h.first (o.before ++ o.shared) h.first_lead in
+      let lead : lead_word G x.left ≡ o.before ++ o.shared = ap (lead_word G) left
+      ∙ ap lead_or_none (get_or_from_slice_get G o.left h.first [] h.at_left) ∙ lead-is h.first (o.before ++ o.shared) h.first_lead in
       let size = ap length lead ∙ length-append o.before o.shared in
       let front : length (lead_word G x.left) - x.shared ≡ length o.before = omega (arith, size, shared) in
       record {
@@ -65,19 +69,24 @@ module _ (b : Elements) (kept : IsKept b) where
       }
 
   -- the sum of the two products is the row
-  pub is_row : (p a : ℕ) (x : Obstruction) (first second : List Term) (u v : List ℕ) (f g : List Term) → a ≡ p - 1 → f ≡ get_or G x.left f → g ≡ get_or G x.right g
-      → u ≡ take (length (lead_word G x.left) - x.shared) x.word → v ≡ drop (length (lead_word G x.left)) x.word → first ≡ product [] f v → second ≡ product u g []
+  pub is_row : (p a : ℕ) (x : Obstruction) (first second : List Term) (u v : List ℕ) (f g : List Term) → a ≡ p - 1 → f ≡ get_or G x.left f →
+      g ≡ get_or G x.right g
+      → u ≡ take (length (lead_word G x.left) - x.shared) x.word → v ≡ drop (length (lead_word G x.left)) x.word → first ≡ product [] f v →
+      second ≡ product u g []
       → (row : List Term) → IsSame p row (first ++ scaled a second) → IsPolynomial row → HasResidues p row
       → (d : ℕ) (o : Overlap) → x ≡ obstruction_of o → IsObstruction b.weights G d o.left o.right o.before o.shared o.behind → IsRowOf p b.weights G d o row
   is_row p a x first second u v f g is_a is_f is_g is_u is_v is_first is_second row sum form residues d o shown h =
       let q = parts x d o shown h in
-      let one : first ≡ product [] h.first o.behind = is_first ∙ ap₂ (λ (k : List Term) (w : List ℕ). product [] k w) (q.left_element f is_f) (is_v ∙ q.behind) in
-      let two : second ≡ product o.before h.second [] = is_second ∙ ap₂ (λ (k : List Term) (w : List ℕ). product w k []) (q.right_element g is_g) (is_u ∙ q.before) in
+      let one : first ≡ product [] h.first o.behind = is_first ∙ ap₂ (λ (k : List Term) (w : List ℕ). product [] k w)
+      (q.left_element f is_f) (is_v ∙ q.behind) in
+      let two : second ≡ product o.before h.second [] = is_second ∙ ap₂ (λ (k : List Term) (w : List ℕ). product w k [])
+      (q.right_element g is_g) (is_u ∙ q.before) in
       let whole : first ++ scaled a second ≡ obstruction_row p h.first o.behind o.before h.second = λ i. one i ++ scaled (is_a i) (two i) in
       record { obstruction = h; form = form; residues = residues; same = λ w. sum w ∙ ap (λ (k : List Term). total_at k w % p) whole }
 
 -- a product of an element has its residues
-pub residues-product : (p : ℕ) (G : List (List Term)) (i : ℕ) (f g : List Term) (u v : List ℕ) → All (HasResidues p) G → i < length G → f ≡ get_or G i f → g ≡ product u f v → HasResidues p g
+pub residues-product : (p : ℕ) (G : List (List Term)) (i : ℕ) (f g : List Term) (u v : List ℕ) → All (HasResidues p) G → i < length G →
+    f ≡ get_or G i f → g ≡ product u f v → HasResidues p g
 residues-product p G i f g u v all lt is made = subst (HasResidues p) (sym made) (HasResidues-product p u f v (subst (HasResidues p) (sym is) (all i f lt)))
 
 -- each item of a list of obstructions is one
@@ -92,17 +101,20 @@ each_is weights G d found h =
     }))
 
 -- their rows, behind the relations of the degree, are the rows of the degree
-pub are_rows : (p : ℕ) (weights : List ℕ) (relations G : List (List Term)) (d : ℕ) (found : List Obstruction) (rows : List (List Term)) → AreListed weights G d found
+pub are_rows : (p : ℕ) (weights : List ℕ) (relations G : List (List Term)) (d : ℕ) (found : List Obstruction) (rows : List (List Term)) →
+    AreListed weights G d found
     → AllZip (IsRowFor p weights G) found rows → AreRows p weights relations G d (of_degree weights d relations ++ rows)
 are_rows p weights relations G d found rows h each = record {
   overlaps = h.overlaps;
   overlap_rows = rows;
   are_obstructions = h.are_obstructions;
-  each = rows_of h.overlaps rows (λ o m. (h.are_obstructions.exactly o).0 m) (subst (λ (xs : List Obstruction). AllZip (IsRowFor p weights G) xs rows) h.shown each);
+  each = rows_of h.overlaps rows (λ o m. (h.are_obstructions.exactly o).0 m)
+      (subst (λ (xs : List Obstruction). AllZip (IsRowFor p weights G) xs rows) h.shown each);
   joined = refl;
 }
   where
-    rows_of : (os : List Overlap) (fs : List (List Term)) → ((o : Overlap) → Contains os o → IsObstruction weights G d o.left o.right o.before o.shared o.behind)
+    rows_of : (os : List Overlap) (fs : List (List Term)) → ((o : Overlap) → Contains os o →
+        IsObstruction weights G d o.left o.right o.before o.shared o.behind)
         → AllZip (IsRowFor p weights G) (map obstruction_of os) fs → AllZip (IsRowOf p weights G d) os fs
     rows_of [] [] all z = z
     rows_of [] (f ∷ fs) all z = absurd z

@@ -40,10 +40,12 @@ letters_equal w = self (letterwise_cmp w w) (letterwise_total.antisymm w w)
     self Greater e = cc e
 
 number_less : (m n : ℕ) → m < n → nat_cmp m n ≡ Less
-number_less m n lt = by_ranked (m < n) (m ≡ n) (n < m) (nat_cmp m n) (ranked m n (nat_cmp m n) refl) (λ is below. is) (λ is same. absurd (omega (arith, lt, same))) (λ is above. absurd (omega (arith, lt, above)))
+number_less m n lt = by_ranked (m < n) (m ≡ n) (n < m) (nat_cmp m n) (ranked m n (nat_cmp m n) refl) (λ is below. is)
+    (λ is same. absurd (omega (arith, lt, same))) (λ is above. absurd (omega (arith, lt, above)))
 
 before_precedes : (o q : Overlap) → OverlapsBefore o q → Precedes (obstruction_of o) (obstruction_of q)
-before_precedes o q (inl g) = ap (λ (r : Ordering). ordering_then r (nat_cmp o.left q.left)) (letterwise_total.antisymm (overlap_word q) (overlap_word o) ∙ ap ordering_reverse g)
+before_precedes o q (inl g) = ap (λ (r : Ordering). ordering_then r (nat_cmp o.left q.left))
+    (letterwise_total.antisymm (overlap_word q) (overlap_word o) ∙ ap ordering_reverse g)
 before_precedes o q (inr e) =
     ap (λ (w : List ℕ). ordering_then (letterwise_cmp (overlap_word q) w) (nat_cmp o.left q.left)) e.0
     ∙ ap (λ (r : Ordering). ordering_then r (nat_cmp o.left q.left)) (letters_equal (overlap_word q)) ∙ number_less o.left q.left e.1
@@ -63,7 +65,9 @@ tied_both x y = ap is_eq (found_total.antisymm x y) ∙ turned (found_cmp y x)
 strictly : (xs : List Obstruction) → IsSorted found_cmp xs → IsDistinct AreTied xs → AllPairs Precedes xs
 strictly xs sorted apart i j e before within =
     less (found_cmp (get_or xs i e) (get_or xs j e)) (apart_from_distinct AreTied xs i j e apart before within)
-    (ap is_lt (sym (found_total.antisymm (get_or xs j e) (get_or xs i e))) ∙ sorted_far (λ x y. is_lt (found_cmp x y)) (ranks_by found_total (λ (x : Obstruction). x)) xs sorted i j e (omega (arith, before)) within)
+    (ap is_lt (sym (found_total.antisymm (get_or xs j e) (get_or xs i e)))
+    ∙ sorted_far (λ x y. is_lt (found_cmp x y)) (ranks_by found_total (λ (x : Obstruction). x)) xs sorted i j e (omega (arith, before))
+    within)
   where
     less : (r : Ordering) → is_eq r ≡ false → is_lt (ordering_reverse r) ≡ false → r ≡ Less
     less Less f g = refl
@@ -82,25 +86,34 @@ module _ (b : Elements) (kept : IsKept b) (free : IsFactorFree b.elements) (d : 
   untied o q (inr h) = tied_both (obstruction_of o) (obstruction_of q) ∙ ap is_eq (before_precedes q o h)
 
   apart : IsDistinct AreTied (map obstruction_of walked)
-  apart = IsDistinct-from_apart AreTied (map obstruction_of walked) (AllPairs-map obstruction_of (λ o q. OverlapsBefore o q ⊎ OverlapsBefore q o) (λ x y. AreTied x y ≡ false) untied walked (all_compare b kept free d))
+  apart = IsDistinct-from_apart AreTied (map obstruction_of walked)
+      (AllPairs-map obstruction_of (λ o q. OverlapsBefore o q ⊎ OverlapsBefore q o) (λ x y. AreTied x y ≡ false) untied walked
+      (all_compare b kept free d))
 
-  there : (found sorted : List Obstruction) → found ≡ map obstruction_of walked → IsPermutation found sorted → (x : Obstruction) → Contains sorted x → Contains (map obstruction_of listed) x
+  there : (found sorted : List Obstruction) → found ≡ map obstruction_of walked → IsPermutation found sorted → (x : Obstruction) →
+      Contains sorted x → Contains (map obstruction_of listed) x
   there found sorted is moved x m =
-      let r = Contains-map_cases obstruction_of walked x (subst (λ (xs : List Obstruction). Contains xs x) is (Contains-permutation sorted found x (IsPermutation-sym found sorted moved) m)) in
+      let r = Contains-map_cases obstruction_of walked x (subst (λ (xs : List Obstruction). Contains xs x) is
+      (Contains-permutation sorted found x (IsPermutation-sym found sorted moved) m)) in
       subst (Contains (map obstruction_of listed)) r.2 (Contains-map obstruction_of listed r.0 ((in_order b kept free d).has r.0 r.1))
 
-  back : (found sorted : List Obstruction) → found ≡ map obstruction_of walked → IsPermutation found sorted → (x : Obstruction) → Contains (map obstruction_of listed) x → Contains sorted x
+  back : (found sorted : List Obstruction) → found ≡ map obstruction_of walked → IsPermutation found sorted → (x : Obstruction) →
+      Contains (map obstruction_of listed) x → Contains sorted x
   back found sorted is moved x m =
       let r = Contains-map_cases obstruction_of listed x m in
-      Contains-permutation found sorted x moved (subst (λ (xs : List Obstruction). Contains xs x) (sym is) (subst (Contains (map obstruction_of walked)) r.2 (Contains-map obstruction_of walked r.0 ((in_order b kept free d).says r.0 r.1))))
+      Contains-permutation found sorted x moved (subst (λ (xs : List Obstruction). Contains xs x) (sym is)
+      (subst (Contains (map obstruction_of walked)) r.2 (Contains-map obstruction_of walked r.0
+      ((in_order b kept free d).says r.0 r.1))))
 
   -- the obstructions of the walk, sorted, are those of degree d in their order
-  pub sorted_listed : (found sorted : List Obstruction) → found ≡ map obstruction_of walked → IsPermutation found sorted → IsSorted found_cmp sorted → AreListed b.weights b.elements d sorted
+  pub sorted_listed : (found sorted : List Obstruction) → found ≡ map obstruction_of walked → IsPermutation found sorted →
+      IsSorted found_cmp sorted → AreListed b.weights b.elements d sorted
   sorted_listed found sorted is moved up = record {
     overlaps = listed;
     are_obstructions = are_obstructions b kept free d;
     shown =
         let distinct = IsDistinct-IsPermutation AreTied tied_both found sorted moved (subst (IsDistinct AreTied) (sym is) apart) in
         same_lists Precedes precedes_itself found_total.trans sorted (map obstruction_of listed) (strictly sorted up distinct)
-        (AllPairs-map obstruction_of OverlapsBefore Precedes before_precedes listed (in_order b kept free d).ordered) (there found sorted is moved) (back found sorted is moved);
+        (AllPairs-map obstruction_of OverlapsBefore Precedes before_precedes listed (in_order b kept free d).ordered)
+        (there found sorted is moved) (back found sorted is moved);
   }

@@ -19,9 +19,11 @@ pub record AreListed (weights : List ℕ) (G : List (List Term)) (d : ℕ) (foun
 pub record IsOf (weights : List ℕ) (G : List (List Term)) (found : Obstruction) : Type 0 where
   pub degree : ℕ
   pub overlap : Overlap
-  pub obstruction : IsObstruction weights G degree overlap.left overlap.right overlap.before overlap.shared overlap.behind
+  pub obstruction : IsObstruction weights G degree overlap.left overlap.right overlap.before overlap.shared
+      overlap.behind
   pub shown : found ≡ obstruction_of overlap
 
 -- the row of the overlap that this shows
 abbrev pub IsRowFor : ℕ → List ℕ → List (List Term) → Obstruction → List Term → Type 0
-IsRowFor p weights G found row = (d : ℕ) (o : Overlap) → found ≡ obstruction_of o → IsObstruction weights G d o.left o.right o.before o.shared o.behind → IsRowOf p weights G d o row
+IsRowFor p weights G found row = (d : ℕ) (o : Overlap) → found ≡ obstruction_of o →
+    IsObstruction weights G d o.left o.right o.before o.shared o.behind → IsRowOf p weights G d o row

@@ -1,5 +1,6 @@
 -- The overlaps of elements by their left element, the letters before the right one, and the right one.
-use Rattle.std.specs.Prelude.{ℕ, ◌-◌, ◌<◌, ◌≤◌, Bool, ◌&&◌, ◌==◌, List, [], length, map, take, drop, slice_index_or, bytes_eq}
+use Rattle.std.specs.Prelude.{ℕ, ◌-◌, ◌<◌, ◌≤◌, Bool, ◌&&◌, ◌==◌, List, [], length, map, take, drop, slice_index_or}
+use Rattle.std.specs.Prelude.{bytes_eq}
 use Rattle.std.specs.List.{filter, flat_map, range_with_len}
 use Rattle.std.specs.Ordering.{nat_cmp, ordering_then}
 use Rattle.std.specs.declared.cmp.Ordering.{Ordering}
@@ -30,15 +31,19 @@ overlap_at G left before right = record {
 
 -- whether the right leading word begins with what is shared, and has this degree
 abbrev pub meets : List ℕ → List (List Term) → ℕ → Overlap → Bool
-meets weights G rest o = bytes_eq (take (length o.shared) (lead_word G o.right)) o.shared && (degree_of weights (lead_word G o.right) == rest)
+meets weights G rest o = bytes_eq (take (length o.shared) (lead_word G o.right)) o.shared &&
+    (degree_of weights (lead_word G o.right) == rest)
 
 -- the overlaps with this left element, so many letters before the right one, and a right element of degree rest
 abbrev pub block : List ℕ → List (List Term) → ℕ → ℕ → ℕ → List Overlap
-block weights G left before rest = filter (meets weights G rest) (map (overlap_at G left before) (range_with_len 0 (length G)))
+block weights G left before rest = filter (meets weights G rest)
+    (map (overlap_at G left before) (range_with_len 0 (length G)))
 
 -- the overlaps of degree d with this left element
 abbrev pub blocks : List ℕ → List (List Term) → ℕ → ℕ → List Overlap
-blocks weights G d left = flat_map (λ before. block weights G left before (d - degree_of weights (take before (lead_word G left)))) (range_with_len 1 (length (lead_word G left) - 1))
+blocks weights G d left = flat_map (λ before. block weights G left before
+    (d - degree_of weights (take before (lead_word G left))))
+    (range_with_len 1 (length (lead_word G left) - 1))
 
 -- the overlaps of degree d
 abbrev pub all_blocks : List ℕ → List (List Term) → ℕ → List Overlap

@@ -1,4 +1,5 @@
-ghost use Rattle.std.specs.Prelude.{◌≡◌, ◌+◌, ◌++◌, ◌-◌, ◌<◌, ◌≤◌, ◌∷◌, [], List, IfOk, IsErrOf, OnOk, length, map, take};
+ghost use Rattle.std.specs.Prelude.{◌≡◌, ◌+◌, ◌++◌, ◌-◌, ◌<◌, ◌≤◌, ◌∷◌, [], List, IfOk, IsErrOf, OnOk, length, map};
+ghost use Rattle.std.specs.Prelude.{take};
 ghost use Rattle.std.specs.List.Sorted.{IsPermutation, IsSorted};
 ghost use Rattle.words.specs.Words.{OccursAt, degree_of};
 ghost use Rattle.ideal_laws.specs.Closure.{AreObstructions, IsFactorFree, Overlap};
@@ -41,7 +42,9 @@ pub fn obstructions(
     ensures listed { IfOk result (λ found. AreListed basis.now.weights basis.now.elements d found.items) }
     ensures within { IfOk result (λ found. length found.items ≤ most) }
 
-    ensures many { IsErrOf result OverlapFault.TooMany → (overlaps : List Overlap) × AreObstructions basis.now.weights basis.now.elements d overlaps × (most < length overlaps) }
+    ensures many { IsErrOf result OverlapFault.TooMany →
+        (overlaps : List Overlap) × AreObstructions basis.now.weights basis.now.elements d overlaps
+        × (most < length overlaps) }
 {
     let _done = basis.done();
     let mut found = Vec::new(alloc);
@@ -64,9 +67,11 @@ fn push_element(
     requires place { left < length basis.now.elements }
     requires few { length found.old.items ≤ most }
 
-    ensures blocks { OnOk result (found.new.items ≡ found.old.items ++ map obstruction_of (blocks basis.now.weights basis.now.elements d left)) }
+    ensures blocks { OnOk result (found.new.items ≡ found.old.items
+        ++ map obstruction_of (blocks basis.now.weights basis.now.elements d left)) }
     ensures within { OnOk result (length found.new.items ≤ most) }
-    ensures many { IsErrOf result OverlapFault.TooMany → most < length found.old.items + length (blocks basis.now.weights basis.now.elements d left) }
+    ensures many { IsErrOf result OverlapFault.TooMany →
+        most < length found.old.items + length (blocks basis.now.weights basis.now.elements d left) }
 {
     let lead = lead_at(basis, left);
     let mut degree = 0;
@@ -93,9 +98,11 @@ fn push_block(
     requires split { before < length (lead_word basis.now.elements left) }
     requires few { length found.old.items ≤ most }
 
-    ensures block { OnOk result (found.new.items ≡ found.old.items ++ map obstruction_of (block basis.now.weights basis.now.elements left before rest)) }
+    ensures block { OnOk result (found.new.items ≡ found.old.items
+        ++ map obstruction_of (block basis.now.weights basis.now.elements left before rest)) }
     ensures within { OnOk result (length found.new.items ≤ most) }
-    ensures many { IsErrOf result OverlapFault.TooMany → most < length found.old.items + length (block basis.now.weights basis.now.elements left before rest) }
+    ensures many { IsErrOf result OverlapFault.TooMany →
+        most < length found.old.items + length (block basis.now.weights basis.now.elements left before rest) }
 {
     let shared = &lead_at(basis, left)[before..];
     let (first, end) = basis.of_degree(rest);
@@ -124,7 +131,8 @@ fn push_overlap(
     requires right_place { right < length basis.now.elements }
     requires split { before < length (lead_word basis.now.elements left) }
     requires meets { OccursAt (shared_at basis.now.elements left before) (lead_word basis.now.elements right) 0 }
-    ensures { OnOk result (found.new.items ≡ found.old.items ++ obstruction_of (overlap_at basis.now.elements left before right) ∷ []) }
+    ensures { OnOk result (found.new.items ≡ found.old.items
+        ++ obstruction_of (overlap_at basis.now.elements left before right) ∷ []) }
 {
     let lead = lead_at(basis, left);
     let shared = (lead.len() - before) as u32;

@@ -36,11 +36,13 @@ few_distinct xs n apart below =
     subst (λ (k : ℕ). k < n) (sym (eqb-true q f.1 f.4)) lt))
 
 -- calls that differ in a number below n are at most n
-pub few_by : (h : Call → ℕ) (n : ℕ) (calls : List Call) → All (λ k. h k < n) calls → ((i j : ℕ) → i < j → j < length calls → h (get_or calls i no_call) ≡ h (get_or calls j no_call) → ⊥) → length calls ≤ n
+pub few_by : (h : Call → ℕ) (n : ℕ) (calls : List Call) → All (λ k. h k < n) calls →
+    ((i j : ℕ) → i < j → j < length calls → h (get_or calls i no_call) ≡ h (get_or calls j no_call) → ⊥) → length calls ≤ n
 few_by h n calls below apart =
     let at : (i d : ℕ) → i < length calls → get_or (map h calls) i d ≡ h (get_or calls i no_call) =
     λ i d lt. get_or-map h calls i no_call d lt in
     let few = few_distinct (map h calls) n
-    (λ i j d lt within e. apart i j lt (omega (arith, within, length-map calls h)) (sym (at i d (omega (arith, lt, within, length-map calls h))) ∙ e ∙ at j d (omega (arith, within, length-map calls h))))
+    (λ i j d lt within e. apart i j lt (omega (arith, within, length-map calls h))
+    (sym (at i d (omega (arith, lt, within, length-map calls h))) ∙ e ∙ at j d (omega (arith, within, length-map calls h))))
     (All-map (λ (x : ℕ). x < n) h calls below) in
     omega (arith, few, length-map calls h)

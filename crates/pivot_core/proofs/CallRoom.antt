@@ -49,7 +49,8 @@ module _ (problem : Problem) (crew : ℕ) (setting : IsSetting problem crew) (s 
   by_claim phase.Fresh is claims = absurd claims
   by_claim (phase.Looking row column) is claims = absurd claims
   by_claim (phase.Putting row column at) is claims = absurd claims
-  by_claim (phase.Claiming row column) is claims = few_calls (called_at problem v (word_at problem s (spot_of v.phase)) row column is) (ap (is_next kind.Claim) is)
+  by_claim (phase.Claiming row column) is claims = few_calls (called_at problem v (word_at problem s (spot_of v.phase)) row column is)
+      (ap (is_next kind.Claim) is)
   by_claim (phase.Reading row column holder at) is claims = absurd claims
   by_claim phase.Ended is claims = absurd claims
 

@@ -34,8 +34,15 @@ answers_stay problem s t keeps k (answer.Lost row stamp) h = (
   h.3,
 )
 
-pub call_stays : (problem : Problem) (s t : State) → KeepsHeld problem s t → (seat before after : ℕ) → before ≤ after → (k : Call) → IsCall problem s seat before k → IsCall problem t seat after k
-call_stays problem s t keeps seat before after le k h = record { own = h.own; column = h.column; row = h.row; stamp = omega (arith, h.stamp, le); answered = answers_stay problem s t keeps k k.answer h.answered }
+pub call_stays : (problem : Problem) (s t : State) → KeepsHeld problem s t → (seat before after : ℕ) → before ≤ after → (k : Call) →
+    IsCall problem s seat before k → IsCall problem t seat after k
+call_stays problem s t keeps seat before after le k h = record {
+  own = h.own;
+  column = h.column;
+  row = h.row;
+  stamp = omega (arith, h.stamp, le);
+  answered = answers_stay problem s t keeps k k.answer h.answered;
+}
 
 -- a column with a call is held
 pub call_held : (problem : Problem) (s : State) (seat clock : ℕ) (k : Call) → IsCall problem s seat clock k → IsHeld problem s k.column
@@ -65,7 +72,8 @@ module _ (problem : Problem) (crew : ℕ) (s t : State) (seat : ℕ) (w : Sight)
     silent : w.calls ≡ v.calls → v.clock ≤ w.clock → IsCalling
     called : (k : Call) → IsNewCall k → IsCalling
 
-  module _ (ranges : Ranges problem crew s) (keeps : KeepsHeld problem s t) (published : PublishedPrefix problem crew s) (unclaimed : IsUnclaimed v.phase v.calls) where
+  module _ (ranges : Ranges problem crew s) (keeps : KeepsHeld problem s t) (published : PublishedPrefix problem crew s)
+      (unclaimed : IsUnclaimed v.phase v.calls) where
     unclaimed_at : (row column : ℕ) → v.phase ≡ phase.Claiming row column → All (λ l. l.column ≢ column) v.calls
     unclaimed_at row column is = subst (λ (f : Phase). IsUnclaimed f v.calls) is unclaimed
 
@@ -79,7 +87,11 @@ module _ (problem : Problem) (crew : ℕ) (s t : State) (seat : ℕ) (w : Sight)
             column = numbers.1;
             row = numbers.0;
             stamp = omega (arith, m.later.clock);
-            answered = (won_held problem crew s t seat w a x c ranges published m, won_holder problem crew s t seat w a x c ranges m, won_stamp problem crew s t seat w a x c ranges m);
+            answered = (
+              won_held problem crew s t seat w a x c ranges published m,
+              won_holder problem crew s t seat w a x c ranges m,
+              won_stamp problem crew s t seat w a x c ranges m,
+            );
           };
           later = omega arith;
           clock = m.later.clock;
@@ -88,17 +100,29 @@ module _ (problem : Problem) (crew : ℕ) (s t : State) (seat : ℕ) (w : Sight)
 
     lost_call : IsLostClaim problem v old w a x → IsCalling
     lost_call m =
-        let numbers : IsPhase problem.m problem.n (phase.Claiming m.row m.column) = subst (IsPhase problem.m problem.n) m.was (ranges.views seat c.below).numbers in
+        let numbers : IsPhase problem.m problem.n (phase.Claiming m.row m.column) =
+        subst (IsPhase problem.m problem.n) m.was (ranges.views seat c.below).numbers in
         let met : claim_at problem s m.column ≡ old = ap (word_at problem s) (sym m.spot) in
         let held : IsHeld problem s m.column = record { below = numbers.1; some = λ e. m.held (sym met ∙ e) } in
-        called (record { seat = v.seat; stamp = max v.clock (stamp_in old) + 1; column = m.column; row = m.row; answer = answer.Lost (row_in old) (stamp_in old) }) (record {
+        called (record {
+          seat = v.seat;
+          stamp = max v.clock (stamp_in old) + 1;
+          column = m.column;
+          row = m.row;
+          answer = answer.Lost (row_in old) (stamp_in old);
+        }) (record {
           calls = m.later.calls;
           is = record {
             own = ranges.seats seat c.below;
             column = numbers.1;
             row = numbers.0;
             stamp = omega (arith, m.later.clock);
-            answered = (held_after problem s t m.column keeps held, ap row_in (keeps.claims m.column held ∙ met), ap stamp_in (keeps.claims m.column held ∙ met), omega arith);
+            answered = (
+              held_after problem s t m.column keeps held,
+              ap row_in (keeps.claims m.column held ∙ met),
+              ap stamp_in (keeps.claims m.column held ∙ met),
+              omega arith,
+            );
           };
           later = omega arith;
           clock = m.later.clock;
@@ -122,14 +146,19 @@ module _ (problem : Problem) (crew : ℕ) (s t : State) (seat : ℕ) (w : Sight)
 
   module _ (keeps : KeepsHeld problem s t) (each : All (IsCall problem s seat v.clock) v.calls) where
     pub own_each : IsCalling → All (IsCall problem t seat w.clock) w.calls
-    own_each (silent same le) = subst (All (IsCall problem t seat w.clock)) (sym same) (All-weaker (IsCall problem s seat v.clock) (IsCall problem t seat w.clock) (call_stays problem s t keeps seat v.clock w.clock le) v.calls each)
+    own_each (silent same le) = subst (All (IsCall problem t seat w.clock)) (sym same)
+        (All-weaker (IsCall problem s seat v.clock) (IsCall problem t seat w.clock) (call_stays problem s t keeps seat v.clock w.clock le)
+        v.calls each)
     own_each (called k h) = subst (All (IsCall problem t seat w.clock)) (sym h.calls)
-        (All-push (IsCall problem t seat w.clock) v.calls k (All-weaker (IsCall problem s seat v.clock) (IsCall problem t seat w.clock) (call_stays problem s t keeps seat v.clock w.clock (omega (arith, h.later, h.clock))) v.calls each) h.is)
+        (All-push (IsCall problem t seat w.clock) v.calls k (All-weaker (IsCall problem s seat v.clock) (IsCall problem t seat w.clock)
+        (call_stays problem s t keeps seat v.clock w.clock (omega (arith, h.later, h.clock))) v.calls each) h.is)
 
     pub own_columns : IsCalling → AllPairs (λ k l. k.column ≢ l.column) v.calls → AllPairs (λ k l. k.column ≢ l.column) w.calls
     own_columns (silent same le) apart = subst (AllPairs (λ k l. k.column ≢ l.column)) (sym same) apart
-    own_columns (called k h) apart = subst (AllPairs (λ k l. k.column ≢ l.column)) (sym h.calls) (all_pairs_push (λ k l. k.column ≢ l.column) v.calls k apart (λ i d lt. h.column i d lt))
+    own_columns (called k h) apart = subst (AllPairs (λ k l. k.column ≢ l.column)) (sym h.calls)
+        (all_pairs_push (λ k l. k.column ≢ l.column) v.calls k apart (λ i d lt. h.column i d lt))
 
     pub own_rising : IsCalling → AllPairs (λ k l. k.stamp < l.stamp) v.calls → AllPairs (λ k l. k.stamp < l.stamp) w.calls
     own_rising (silent same le) rising = subst (AllPairs (λ k l. k.stamp < l.stamp)) (sym same) rising
-    own_rising (called k h) rising = subst (AllPairs (λ k l. k.stamp < l.stamp)) (sym h.calls) (all_pairs_push (λ k l. k.stamp < l.stamp) v.calls k rising (λ i d lt. omega (arith, (each i d lt).stamp, h.later)))
+    own_rising (called k h) rising = subst (AllPairs (λ k l. k.stamp < l.stamp)) (sym h.calls)
+        (all_pairs_push (λ k l. k.stamp < l.stamp) v.calls k rising (λ i d lt. omega (arith, (each i d lt).stamp, h.later)))

@@ -24,7 +24,8 @@ pub record IsChange (problem : Problem) (crew : ℕ) (s t : State) (seat : ℕ) 
   pub word_count : length t.words ≡ length s.words
   pub view_count : length t.views ≡ length s.views
 
-pub changed : (problem : Problem) (crew : ℕ) (s : State) (seat : ℕ) (w : Sight) (a : Spot) (x : ℕ) → Ranges problem crew s → seat < crew → IsSpot problem.m problem.n a
+pub changed : (problem : Problem) (crew : ℕ) (s : State) (seat : ℕ) (w : Sight) (a : Spot) (x : ℕ) → Ranges problem crew s → seat < crew →
+    IsSpot problem.m problem.n a
     → IsChange problem crew s (record { words = set s.words (index_of problem.m a) x; views = set s.views seat w }) seat w a x
 changed problem crew s seat w a x ranges below there = record {
   below = below;
@@ -40,7 +41,8 @@ changed problem crew s seat w a x ranges below there = record {
 
 module _ (problem : Problem) (crew : ℕ) (s t : State) (seat : ℕ) (w : Sight) (a : Spot) (x : ℕ) (c : IsChange problem crew s t seat w a x) where
   -- what holds of the new view, and of each other view that stays, holds of all
-  pub each_view : (Q : ℕ → Sight → Type 0) → Q seat w → ((i : ℕ) → i < crew → i ≢ seat → Q i (view_at problem s i)) → (i : ℕ) → i < crew → Q i (view_at problem t i)
+  pub each_view : (Q : ℕ → Sight → Type 0) → Q seat w → ((i : ℕ) → i < crew → i ≢ seat → Q i (view_at problem s i)) → (i : ℕ) → i < crew →
+      Q i (view_at problem t i)
   each_view Q own other i lt = elim (cases_eq i seat) [
     | inl is ↦ subst (λ (j : ℕ). Q j (view_at problem t j)) (sym is) (subst (Q seat) (sym c.now) own)
     | inr apart ↦ subst (Q i) (sym (c.others i apart)) (other i lt apart)

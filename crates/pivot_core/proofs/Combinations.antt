@@ -15,12 +15,14 @@ module _ (F : Field) where
   cancelled : (u b r : F.F) → F.add (F.add u (F.mul b r)) (F.mul (F.neg b) r) ≡ u
   cancelled u b r =
       let negative : F.mul (F.neg b) r ≡ F.neg (F.mul b r) = F.mul_comm (F.neg b) r ∙ mul_neg F r b ∙ ap F.neg (F.mul_comm r b) in
-      F.add_assoc u (F.mul b r) (F.mul (F.neg b) r) ∙ ap (λ (k : F.F). F.add u (F.add (F.mul b r) k)) negative ∙ ap (F.add u) (F.add_neg (F.mul b r)) ∙ F.add_zero u
+      F.add_assoc u (F.mul b r) (F.mul (F.neg b) r) ∙ ap (λ (k : F.F). F.add u (F.add (F.mul b r) k)) negative
+      ∙ ap (F.add u) (F.add_neg (F.mul b r)) ∙ F.add_zero u
 
   -- u from a * u + r
   pub solved : (a g u r : F.F) → F.is_zero a ≡ false → g ≡ F.add (F.mul a u) r → u ≡ F.add (F.mul (F.inv a) g) (F.mul (F.neg (F.inv a)) r)
   solved a g u r other e =
-      let own : F.mul (F.inv a) (F.mul a u) ≡ u = sym (F.mul_assoc (F.inv a) a u) ∙ ap (λ (k : F.F). F.mul k u) (F.mul_inv a other) ∙ F.mul_comm F.one u ∙ F.mul_one u in
+      let own : F.mul (F.inv a) (F.mul a u) ≡ u = sym (F.mul_assoc (F.inv a) a u) ∙ ap (λ (k : F.F). F.mul k u) (F.mul_inv a other)
+      ∙ F.mul_comm F.one u ∙ F.mul_one u in
       sym (
       ap (λ (k : F.F). F.add (F.mul (F.inv a) k) (F.mul (F.neg (F.inv a)) r)) e
       ∙ ap (λ (k : F.F). F.add k (F.mul (F.neg (F.inv a)) r)) (F.mul_add (F.inv a) (F.mul a u) r ∙ ap (λ (k : F.F). F.add k (F.mul (F.inv a) r)) own)
@@ -30,7 +32,8 @@ module _ (F : Field) where
   pub restored : (x h : F.F) → F.add (F.add x (F.mul (F.neg F.one) h)) h ≡ x
   restored x h =
       let negative : F.mul (F.neg F.one) h ≡ F.neg h = F.mul_comm (F.neg F.one) h ∙ mul_neg F h F.one ∙ ap F.neg (F.mul_one h) in
-      F.add_assoc x (F.mul (F.neg F.one) h) h ∙ ap (λ (k : F.F). F.add x (F.add k h)) negative ∙ ap (F.add x) (F.add_comm (F.neg h) h ∙ F.add_neg h) ∙ F.add_zero x
+      F.add_assoc x (F.mul (F.neg F.one) h) h ∙ ap (λ (k : F.F). F.add x (F.add k h)) negative
+      ∙ ap (F.add x) (F.add_comm (F.neg h) h ∙ F.add_neg h) ∙ F.add_zero x
 
   -- a * (b * z + h) + r
   pub regrouped : (a b z h r : F.F) → F.add (F.mul a (F.add (F.mul b z) h)) r ≡ F.add (F.mul (F.mul a b) z) (F.add (F.mul a h) r)
@@ -49,8 +52,10 @@ other_tested k other = by_answer (k == 0) refl
 -- a product of residues other than 0 is other than 0
 pub product-other : (p a b i : ℕ) → 0 < a → a < p → product_of p b i ≡ 1 → (a * b) % p ≢ 0
 product-other p a b i some small one zero_is =
-    let left : (a * b * i) % p ≡ 0 = sym (mul-mod_first (a * b) i p) ∙ ap (λ (n : ℕ). (n * i) % p) zero_is ∙ ap (λ (n : ℕ). n % p) (let none : 0 * i ≡ 0 = omega arith in none) ∙ zero-mod p in
-    let right : (a * b * i) % p ≡ a = ap (λ (n : ℕ). n % p) (mul_assoc a b i) ∙ sym (mul-mod_second a (b * i) p) ∙ ap (λ (n : ℕ). (a * n) % p) one ∙ ap (λ (n : ℕ). n % p) (omega arith) ∙ mod-eq_of_lt small in
+    let left : (a * b * i) % p ≡ 0 = sym (mul-mod_first (a * b) i p) ∙ ap (λ (n : ℕ). (n * i) % p) zero_is
+    ∙ ap (λ (n : ℕ). n % p) (let none : 0 * i ≡ 0 = omega arith in none) ∙ zero-mod p in
+    let right : (a * b * i) % p ≡ a = ap (λ (n : ℕ). n % p) (mul_assoc a b i) ∙ sym (mul-mod_second a (b * i) p)
+    ∙ ap (λ (n : ℕ). (a * n) % p) one ∙ ap (λ (n : ℕ). n % p) (omega arith) ∙ mod-eq_of_lt small in
     omega (arith, left, right, some)
 
 module _ (p : ℕ) (modulus : IsFieldModulus p) where
@@ -69,7 +74,8 @@ module _ (p : ℕ) (modulus : IsFieldModulus p) where
       same_residue p _ _ (mod-mod (p - 1) p ∙ ap (λ (k : ℕ). (p - k) % p) (sym one))
 
   -- a row is its leading entry times itself made monic
-  pub vec-made_monic : (y : List ℕ) (c : ℕ) → 0 < get_or y (lead_at y) 0 → get_or y (lead_at y) 0 < p → vec p modulus y c ≡ Kp.mul (res p modulus (get_or y (lead_at y) 0)) (vec p modulus (made_monic p y) c)
+  pub vec-made_monic : (y : List ℕ) (c : ℕ) → 0 < get_or y (lead_at y) 0 → get_or y (lead_at y) 0 < p →
+      vec p modulus y c ≡ Kp.mul (res p modulus (get_or y (lead_at y) 0)) (vec p modulus (made_monic p y) c)
   vec-made_monic y c some small =
       let b : ℕ = get_or y (lead_at y) 0 in
       let i : ℕ = inverse_of p b in

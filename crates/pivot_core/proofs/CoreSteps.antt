@@ -1,5 +1,6 @@
 -- The machine after the step of an event.
-use Rattle.std.proofs.Common.{All, ◌≡◌, ◌+◌, ◌-◌, ◌<◌, ◌≤◌, ◌++◌, ◌∷◌, [], ℕ, true, List, Vec, Global, Some, length, map, min, set, get_or, sym, ap, ◌∙◌, arith, subst}
+use Rattle.std.proofs.Common.{All, ◌≡◌, ◌+◌, ◌-◌, ◌<◌, ◌≤◌, ◌++◌, ◌∷◌, [], ℕ, true, List, Vec, Global, Some, length, map, min, set, get_or, sym, ap}
+use Rattle.std.proofs.Common.{◌∙◌, arith, subst}
 use Rattle.std.specs.List.{sum_by}
 use Rattle.std.specs.Vec.{vec_capacity}
 use Rattle.std.proofs.lemmas.List.{get_or-set_same, length-map, length-set, map-set}
@@ -47,7 +48,8 @@ module _ (core : Inside) (e : Event) (v : View) (turn : IsTurn core e v) where
       → (k ≤ core.going) × (core.going - k + sum_by one_ended (map sight_of (set views e.seat w)) ≡ length (set views e.seat w))
   count_after w found k there_is counts =
       let seats : e.seat < length (map sight_of views) = omega (arith, there, length-map views sight_of) in
-      let moved : sum_by one_ended (map sight_of (set views e.seat w)) ≡ sum_by one_ended (set (map sight_of views) e.seat (sight_of w)) = ap (sum_by one_ended) (map-set sight_of views e.seat w) in
+      let moved : sum_by one_ended (map sight_of (set views e.seat w)) ≡ sum_by one_ended (set (map sight_of views) e.seat (sight_of w)) =
+      ap (sum_by one_ended) (map-set sight_of views e.seat w) in
       let sums = sum_by-set one_ended (map sight_of views) e.seat (sight_of w) (fresh problem.m e.seat) seats in
       let before : one_ended (view_at problem s e.seat) ≡ 0 = ap one_ended is_own ∙ none_ended v.phase (goes_on core e v turn) in
       let most = at_most_all (map sight_of (set views e.seat w)) in
@@ -74,8 +76,12 @@ module _ (core : Inside) (e : Event) (v : View) (turn : IsTurn core e v) where
 
     pub state_made : state_of after (set views e.seat w) ≡ after_event problem s e
     state_made =
-        let at : set words (met_at problem v.phase) made.word ≡ set words (met_at problem (view_at problem s e.seat).phase) made.word = ap (λ (z : Sight). set words (met_at problem z.phase) made.word) (sym is_own) in
-        let moved : state_of after (set views e.seat w) ≡ record { words = set words (met_at problem (view_at problem s e.seat).phase) made.word; views = set (map sight_of views) e.seat (sight_of w) } =
+        let at : set words (met_at problem v.phase) made.word ≡ set words (met_at problem (view_at problem s e.seat).phase) made.word =
+        ap (λ (z : Sight). set words (met_at problem z.phase) made.word) (sym is_own) in
+        let moved : state_of after (set views e.seat w) ≡ record {
+          words = set words (met_at problem (view_at problem s e.seat).phase) made.word;
+          views = set (map sight_of views) e.seat (sight_of w);
+        } =
         λ i. record { words = (made.leaves ∙ at) i; views = map-set sight_of views e.seat w i } in
         moved ∙ sym (makes_state problem s e t seated own_next own_gives)
 
@@ -90,11 +96,14 @@ module _ (core : Inside) (e : Event) (v : View) (turn : IsTurn core e v) where
           setting = subst (IsSetting problem) (sym size) turn.run.setting;
           same = turn.run.same;
           events = turn.run.events ++ e ∷ [];
-          reached = same ∙ state_made ∙ ap (λ (z : State). after_event problem z e) turn.run.reached ∙ sym (after_events-append problem (opening problem (length views)) turn.run.events (e ∷ []))
+          reached = same ∙ state_made ∙ ap (λ (z : State). after_event problem z e) turn.run.reached
+              ∙ sym (after_events-append problem (opening problem (length views)) turn.run.events (e ∷ []))
               ∙ ap (λ (n : ℕ). state_after problem n (turn.run.events ++ e ∷ [])) (sym size);
-          ended = subst (λ (zs : List View). core.going - k + sum_by one_ended (map sight_of zs) ≡ length zs) (sym seen_is) (count_after w found k there_is counts).1;
+          ended = subst (λ (zs : List View). core.going - k + sum_by one_ended (map sight_of zs) ≡ length zs) (sym seen_is)
+              (count_after w found k there_is counts).1;
           room = subst (All (λ (z : View). min problem.n problem.m ≤ vec_capacity z.calls)) (sym seen_is)
-              (All-set (λ (z : View). min problem.n problem.m ≤ vec_capacity z.calls) views e.seat w (omega (arith, own_room core e v turn, wide)) turn.run.room);
+              (All-set (λ (z : View). min problem.n problem.m ≤ vec_capacity z.calls) views e.seat w
+              (omega (arith, own_room core e v turn, wide)) turn.run.room);
           no_logs = turn.run.no_logs;
           room_for_logs = omega (arith, turn.run.room_for_logs, size);
         }

@@ -40,7 +40,9 @@ pub record IsTurn (core : Inside) (e : Event) (v : View) : Type 0 where
   pub next : is_next e.kind v.phase ≡ true
 
 -- as the code sees it, which has looked twice at the view
-pub turn_by : (core : Inside) (e : Event) (v first : View) → IsRun core → e.seat < length core.views.items → v ≡ get_or core.views.items e.seat v → first ≡ get_or core.views.items e.seat first → true ≡ is_next e.kind first.phase → IsTurn core e v
+pub turn_by : (core : Inside) (e : Event) (v first : View) → IsRun core → e.seat < length core.views.items →
+    v ≡ get_or core.views.items e.seat v → first ≡ get_or core.views.items e.seat first → true ≡ is_next e.kind first.phase →
+    IsTurn core e v
 turn_by core e v first run there is was next = record {
   run = run;
   there = there;
@@ -75,7 +77,8 @@ module _ (core : Inside) (e : Event) (v : View) (turn : IsTurn core e v) where
 
   met_within : met_at problem v.phase < length words
   met_within =
-      let numbers : IsPhase problem.m problem.n v.phase = subst (λ (z : Sight). IsPhase problem.m problem.n z.phase) own (rule.ranges.views e.seat there).numbers in
+      let numbers : IsPhase problem.m problem.n v.phase = subst (λ (z : Sight). IsPhase problem.m problem.n z.phase) own
+      (rule.ranges.views e.seat there).numbers in
       omega (arith, rule.ranges.words, spot_within problem.m problem.n (spot_of v.phase) (meets_spot problem.m problem.n v.phase numbers))
 
   met_may : problem.n < 2 ^ 32 → problem.m < 2 ^ 32 → MayMeet problem (sight_of v) (met_in problem words v.phase)
@@ -83,7 +86,8 @@ module _ (core : Inside) (e : Event) (v : View) (turn : IsTurn core e v) where
       (may_meet problem (length views) turn.run.setting s rule e.seat there rows columns (λ ended. goes_on (ap (λ (z : Sight). z.phase) (sym own) ∙ ended)))
 
   met_count : problem.n < 2 ^ 32 → v.phase ≡ phase.Fresh → met_in problem words v.phase < 2 ^ 64 - 1
-  met_count rows = subst (λ (z : Sight). z.phase ≡ phase.Fresh → word_at problem s (spot_of z.phase) < 2 ^ 64 - 1) own (λ f. counter_small problem (length views) turn.run.setting s rule e.seat there f rows)
+  met_count rows = subst (λ (z : Sight). z.phase ≡ phase.Fresh → word_at problem s (spot_of z.phase) < 2 ^ 64 - 1) own
+      (λ f. counter_small problem (length views) turn.run.setting s rule e.seat there f rows)
 
   -- the view has room for all its calls
   pub own_room : min problem.n problem.m ≤ vec_capacity v.calls
@@ -92,7 +96,8 @@ module _ (core : Inside) (e : Event) (v : View) (turn : IsTurn core e v) where
   met_room : IsClaiming v.phase → length v.calls.items < vec_capacity v.calls
   met_room claims =
       let few : length v.calls.items < min problem.n problem.m =
-      subst (λ (z : Sight). IsClaiming z.phase → length z.calls < min problem.n problem.m) own (room_for_call problem (length views) turn.run.setting s rule e.seat there) claims in
+      subst (λ (z : Sight). IsClaiming z.phase → length z.calls < min problem.n problem.m) own
+      (room_for_call problem (length views) turn.run.setting s rule e.seat there) claims in
       omega (arith, few, own_room)
 
   pub may_step : problem.n < 2 ^ 32 → problem.m < 2 ^ 32 → MayStep problem words v

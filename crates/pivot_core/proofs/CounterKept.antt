@@ -10,7 +10,8 @@ use Rattle.pivot_core.specs.Phases.{is_ended}
 use Rattle.pivot_core.specs.Rule.{CounterSum}
 use Rattle.pivot_core.proofs.Changes.{IsChange}
 use Rattle.pivot_core.proofs.Effects.{counter_cases}
-use Rattle.pivot_core.proofs.Moves.{IsDraw, IsEnd, IsMove, IsSettling, given_up, goes_on, draws, ends, looks_free, looks_held, puts, wins, loses, reads_more, reads_last}
+use Rattle.pivot_core.proofs.Moves.{IsDraw, IsEnd, IsMove, IsSettling, given_up, goes_on, draws, ends, looks_free, looks_held, puts, wins, loses}
+use Rattle.pivot_core.proofs.Moves.{reads_more, reads_last}
 
 -- a row that settles leaves a view that has not ended
 not_ended : (problem : Problem) (y : List ℕ) (row : ℕ) (w : Sight) → IsSettling problem y row w → is_ended w.phase ≡ 0
@@ -37,7 +38,8 @@ module _ (problem : Problem) (crew : ℕ) (s t : State) (seat : ℕ) (w : Sight)
   ended_sum = c.sums (λ (z : Sight). is_ended z.phase)
 
   -- a move that draws no row and ends no view
-  other_counter_sum : word_at problem t counter ≡ word_at problem s counter → w.drawn ≡ v.drawn → is_ended w.phase ≡ is_ended v.phase → CounterSum problem s → CounterSum problem t
+  other_counter_sum : word_at problem t counter ≡ word_at problem s counter → w.drawn ≡ v.drawn → is_ended w.phase ≡ is_ended v.phase →
+      CounterSum problem s → CounterSum problem t
   other_counter_sum same drawn ended r = record {
     counts = omega (arith, same, r.counts, drawn_sum, ended_sum, drawn, ended);
     few = omega (arith, r.few, drawn_sum, drawn);

@@ -55,20 +55,25 @@ module _ (problem : Problem) (crew : ℕ) (s : State) (ranges : Ranges problem c
         (all_views (λ (z : Sight). sum_by (is_won_at d) z.calls ≡ 0)
         (λ i lt. sum_by-none (is_won_at d) (view_at problem s i).calls
         (λ j e within. is_won_at-other d (get_or (view_at problem s i).calls j e)
-        (λ is. (call_held problem s i (view_at problem s i).clock (get_or (view_at problem s i).calls j e) (each i lt j e within)).some (ap (claim_at problem s) is ∙ free)))))
+        (λ is. (call_held problem s i (view_at problem s i).clock (get_or (view_at problem s i).calls j e) (each i lt j e within)).some
+        (ap (claim_at problem s) is ∙ free)))))
 
     module _ (columns : (i : ℕ) → i < crew → AllPairs (λ k l. k.column ≢ l.column) (view_at problem s i).calls) (apart : DisjointRows problem crew s) where
       -- a view has at most as many calls as columns, and as rows
       pub calls_below_columns : (i : ℕ) → i < crew → length (view_at problem s i).calls ≤ problem.m
-      calls_below_columns i lt = few_by (λ k. k.column) problem.m (view_at problem s i).calls (λ j d within. (each i lt j d within).column) (λ j l before within e. columns i lt j l no_call before within e)
+      calls_below_columns i lt = few_by (λ k. k.column) problem.m (view_at problem s i).calls (λ j d within. (each i lt j d within).column)
+          (λ j l before within e. columns i lt j l no_call before within e)
 
       pub calls_below_rows : (i : ℕ) → i < crew → length (view_at problem s i).calls ≤ problem.n
       calls_below_rows i lt =
           let calls = (view_at problem s i).calls in
-          let held : (j : ℕ) (d : Call) → j < length calls → IsHeld problem s (get_or calls j d).column = λ j d within. call_held problem s i (view_at problem s i).clock (get_or calls j d) (each i lt j d within) in
+          let held : (j : ℕ) (d : Call) → j < length calls → IsHeld problem s (get_or calls j d).column =
+          λ j d within. call_held problem s i (view_at problem s i).clock (get_or calls j d) (each i lt j d within) in
           few_by (λ k. holder_of problem s k.column) problem.n calls
           (λ j d within. omega (arith, apart.holders_drawn (get_or calls j d).column (held j d within)))
-          (λ j l before within e. columns i lt j l no_call before within (apart.holders_apart (get_or calls j no_call).column (get_or calls l no_call).column (held j no_call (omega (arith, before, within))) (held l no_call within) e))
+          (λ j l before within e. columns i lt j l no_call before within
+          (apart.holders_apart (get_or calls j no_call).column (get_or calls l no_call).column
+          (held j no_call (omega (arith, before, within))) (held l no_call within) e))
 
       -- so at most 8192
       pub calls_few : (i : ℕ) → i < crew → length (view_at problem s i).calls ≤ 8192
@@ -77,13 +82,15 @@ module _ (problem : Problem) (crew : ℕ) (s : State) (ranges : Ranges problem c
           bounded : (k : ℕ) → k ≤ problem.n → k ≤ problem.m → k ≤ 8192
           bounded k rows columns = elim (cases_lt 8192 k) [
             | inl many ↦ (
-                let least : 8193 * 8193 ≤ problem.n * problem.m = mul-le 8193 8193 problem.n problem.m (omega (arith, many, rows)) (omega (arith, many, columns)) in
+                let least : 8193 * 8193 ≤ problem.n * problem.m = mul-le 8193 8193 problem.n problem.m (omega (arith, many, rows))
+                (omega (arith, many, columns)) in
                 absurd (omega (arith, least, problem.few)))
             | inr few ↦ few
           ]
 
       pub call_count-few : crew ≤ 64 → call_count s ≤ 524288
       call_count-few small =
-          let le : call_count s ≤ length s.views * 8192 = sum_by-le (λ (z : Sight). length z.calls) 8192 s.views (all_views (λ (z : Sight). length z.calls ≤ 8192) calls_few) in
+          let le : call_count s ≤ length s.views * 8192 = sum_by-le (λ (z : Sight). length z.calls) 8192 s.views
+          (all_views (λ (z : Sight). length z.calls ≤ 8192) calls_few) in
           let most : length s.views * 8192 ≤ 64 * 8192 = mul-le (length s.views) 8192 64 8192 (omega (arith, small, ranges.count)) (omega arith) in
           omega (arith, le, most)

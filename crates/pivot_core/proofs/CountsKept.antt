@@ -20,7 +20,8 @@ use Rattle.pivot_core.proofs.CallsKept.{IsCalling, call_held, called, silent}
 use Rattle.pivot_core.proofs.Changes.{IsChange}
 use Rattle.pivot_core.proofs.Counts.{differ_tested, one_if, same_tested, won_count-free}
 use Rattle.pivot_core.proofs.Effects.{claims_cases, held_before, won_elsewhere, won_free}
-use Rattle.pivot_core.proofs.Moves.{IsMove, IsSettling, IsWonClaim, given_up, goes_on, draws, ends, looks_free, looks_held, puts, wins, loses, reads_more, reads_last}
+use Rattle.pivot_core.proofs.Moves.{IsMove, IsSettling, IsWonClaim, given_up, goes_on, draws, ends, looks_free, looks_held, puts, wins, loses}
+use Rattle.pivot_core.proofs.Moves.{reads_more, reads_last}
 use Rattle.pivot_core.proofs.Rows.{won_stamp}
 
 module _ (problem : Problem) (crew : ℕ) (s t : State) (seat : ℕ) (w : Sight) (a : Spot) (x : ℕ) (c : IsChange problem crew s t seat w a x) where
@@ -56,9 +57,23 @@ module _ (problem : Problem) (crew : ℕ) (s t : State) (seat : ℕ) (w : Sight)
   won_as_before (puts m) d held = same_won d m.later.calls
   won_as_before (wins m) d held =
       let other : m.column ≢ d = λ is. held.some (ap (claim_at problem s) (sym is) ∙ won_free problem crew s t seat w a x c m) in
-      omega (arith, one_more_won d (record { seat = v.seat; stamp = v.clock + 1; column = m.column; row = m.row; answer = answer.Won }) m.later.calls, ap one_if (differ_tested m.column d other))
+      omega (
+        arith,
+        one_more_won d (record { seat = v.seat; stamp = v.clock + 1; column = m.column; row = m.row; answer = answer.Won })
+            m.later.calls,
+        ap one_if (differ_tested m.column d other),
+      )
   won_as_before (loses m) d held =
-      omega (arith, one_more_won d (record { seat = v.seat; stamp = max v.clock (stamp_in old) + 1; column = m.column; row = m.row; answer = answer.Lost (row_in old) (stamp_in old) }) m.later.calls)
+      omega (
+        arith,
+        one_more_won d (record {
+          seat = v.seat;
+          stamp = max v.clock (stamp_in old) + 1;
+          column = m.column;
+          row = m.row;
+          answer = answer.Lost (row_in old) (stamp_in old);
+        }) m.later.calls,
+      )
   won_as_before (reads_more m) d held = same_won d m.later.calls
   won_as_before (reads_last m) d held = same_won d m.later.calls
 
@@ -80,9 +95,11 @@ module _ (problem : Problem) (crew : ℕ) (s t : State) (seat : ℕ) (w : Sight)
 
     -- a column that is found free has no call of the view
     found_free : (column : ℕ) → claim_at problem s column ≡ 0 → All (λ k. k.column ≢ column) v.calls
-    found_free column free j d within is = (call_held problem s seat v.clock (get_or v.calls j d) (each seat c.below j d within)).some (ap (claim_at problem s) is ∙ free)
+    found_free column free j d within is = (call_held problem s seat v.clock (get_or v.calls j d) (each seat c.below j d within)).some
+        (ap (claim_at problem s) is ∙ free)
 
-  module _ (ranges : Ranges problem crew s) (clock : v.clock ≤ call_count s) (stamps : (d : ℕ) → d < problem.m → stamp_in (claim_at problem s d) ≤ call_count s) where
+  module _ (ranges : Ranges problem crew s) (clock : v.clock ≤ call_count s)
+      (stamps : (d : ℕ) → d < problem.m → stamp_in (claim_at problem s d) ≤ call_count s) where
     own_stamp : (f : Phase) (column : ℕ) → v.phase ≡ f → a ≡ claim_of column → column < problem.m → stamp_in old ≤ call_count s
     own_stamp f column is spot lt = subst (λ (b : Spot). stamp_in (word_at problem s b) ≤ call_count s) (sym spot) (stamps column lt)
 
@@ -97,26 +114,36 @@ module _ (problem : Problem) (crew : ℕ) (s t : State) (seat : ℕ) (w : Sight)
     own_clock (ends m) = omega (arith, m.later.clock, clock, count_same m.later.calls)
     own_clock (looks_free m) = omega (arith, m.later.clock, clock, count_same m.later.calls)
     own_clock (looks_held m) =
-        let numbers : IsPhase problem.m problem.n (phase.Looking m.row m.column) = subst (IsPhase problem.m problem.n) m.was (ranges.views seat c.below).numbers in
+        let numbers : IsPhase problem.m problem.n (phase.Looking m.row m.column) =
+        subst (IsPhase problem.m problem.n) m.was (ranges.views seat c.below).numbers in
         omega (arith, m.later.clock, clock, count_same m.later.calls, own_stamp (phase.Looking m.row m.column) m.column m.was m.spot numbers.1)
     own_clock (puts m) = omega (arith, m.later.clock, clock, count_same m.later.calls)
     own_clock (wins m) = omega (arith, m.later.clock, clock, count_by_one _ m.later.calls)
     own_clock (loses m) =
-        let numbers : IsPhase problem.m problem.n (phase.Claiming m.row m.column) = subst (IsPhase problem.m problem.n) m.was (ranges.views seat c.below).numbers in
+        let numbers : IsPhase problem.m problem.n (phase.Claiming m.row m.column) =
+        subst (IsPhase problem.m problem.n) m.was (ranges.views seat c.below).numbers in
         omega (arith, m.later.clock, clock, count_by_one _ m.later.calls, own_stamp (phase.Claiming m.row m.column) m.column m.was m.spot numbers.1)
     own_clock (reads_more m) = omega (arith, m.later.clock, clock, count_same m.later.calls)
     own_clock (reads_last m) = omega (arith, m.later.clock, clock, count_same m.later.calls)
 
-    pub stamps_kept : IsCalling problem crew s t seat w a x c → IsMove problem v old w a x → (d : ℕ) → d < problem.m → stamp_in (claim_at problem t d) ≤ call_count t
+    pub stamps_kept : IsCalling problem crew s t seat w a x c → IsMove problem v old w a x → (d : ℕ) → d < problem.m →
+        stamp_in (claim_at problem t d) ≤ call_count t
     stamps_kept calling move d lt = elim (claims_cases problem crew s t seat w a x c move) [
       | inr stay ↦ omega (arith, ap stamp_in (stay d lt), stamps d lt, call_count-rises calling)
       | inl m ↦ elim (cases_eq d m.column) [
-        | inl is ↦ omega (arith, ap (λ (e : ℕ). stamp_in (claim_at problem t e)) is, won_stamp problem crew s t seat w a x c ranges m, clock, count_by_one _ m.later.calls)
+        | inl is ↦ omega (
+          arith,
+          ap (λ (e : ℕ). stamp_in (claim_at problem t e)) is,
+          won_stamp problem crew s t seat w a x c ranges m,
+          clock,
+          count_by_one _ m.later.calls,
+        )
         | inr other ↦ omega (arith, ap stamp_in (won_elsewhere problem crew s t seat w a x c m d lt other), stamps d lt, call_count-rises calling)
       ]
     ]
 
-  module _ (ranges : Ranges problem crew s) (each : (i : ℕ) → i < crew → All (IsCall problem s i (view_at problem s i).clock) (view_at problem s i).calls) (was : IsUnclaimed v.phase v.calls) where
+  module _ (ranges : Ranges problem crew s) (each : (i : ℕ) → i < crew →
+      All (IsCall problem s i (view_at problem s i).clock) (view_at problem s i).calls) (was : IsUnclaimed v.phase v.calls) where
     now_at : (f : Phase) → w.phase ≡ f → IsUnclaimed f w.calls → IsUnclaimed w.phase w.calls
     now_at f is h = subst (λ (g : Phase). IsUnclaimed g w.calls) (sym is) h
 

@@ -35,7 +35,8 @@ module _ (problem : Problem) (crew : ℕ) (s t : State) (seat : ℕ) (w : Sight)
     rises : word_at problem s counter ≤ word_at problem t counter
     rises = counter_rises problem crew s t seat w a x c move
 
-    drawn_row : (i r : ℕ) → i < crew → (i ≡ seat) × IsDraw problem v old w a x × (r ≡ old) ⊎ HasRow (view_at problem s i).phase r → r < min (word_at problem t counter) problem.n
+    drawn_row : (i r : ℕ) → i < crew → (i ≡ seat) × IsDraw problem v old w a x × (r ≡ old) ⊎ HasRow (view_at problem s i).phase r →
+        r < min (word_at problem t counter) problem.n
     drawn_row i r lt (inl here) = omega (arith, here.2, here.1.some, (drawn_is problem crew s t seat w a x c here.1).1)
     drawn_row i r lt (inr there) = omega (arith, d.drawn i r lt there, rises)
 
@@ -46,20 +47,26 @@ module _ (problem : Problem) (crew : ℕ) (s t : State) (seat : ℕ) (w : Sight)
     views_still_apart : (i j r : ℕ) → i < crew → j < crew → (i ≡ seat) × IsDraw problem v old w a x × (r ≡ old) ⊎ HasRow (view_at problem s i).phase r
         → (j ≡ seat) × IsDraw problem v old w a x × (r ≡ old) ⊎ HasRow (view_at problem s j).phase r → i ≡ j
     views_still_apart i j r li lj (inl here) (inl here') = here.0 ∙ sym here'.0
-    views_still_apart i j r li lj (inl here) (inr there') = absurd (omega (arith, d.drawn j r lj there', here.2, (drawn_is problem crew s t seat w a x c here.1).0))
-    views_still_apart i j r li lj (inr there) (inl here') = absurd (omega (arith, d.drawn i r li there, here'.2, (drawn_is problem crew s t seat w a x c here'.1).0))
+    views_still_apart i j r li lj (inl here) (inr there') = absurd
+        (omega (arith, d.drawn j r lj there', here.2, (drawn_is problem crew s t seat w a x c here.1).0))
+    views_still_apart i j r li lj (inr there) (inl here') = absurd
+        (omega (arith, d.drawn i r li there, here'.2, (drawn_is problem crew s t seat w a x c here'.1).0))
     views_still_apart i j r li lj (inr there) (inr there') = d.views_apart i j r li lj there there'
 
     holders_still_apart : (e f : ℕ) → IsHolder e → IsHolder f → holder_of problem t e ≡ holder_of problem t f → e ≡ f
     holders_still_apart e f (won m is same) (won m' is' same') eq = is ∙ same_column m.column m'.column (sym m.spot ∙ m'.spot) ∙ sym is'
-    holders_still_apart e f (won m is same) (held there same') eq = absurd (d.both_apart seat f c.below there (subst (HasRow v.phase) (sym same ∙ eq ∙ same') (winner problem v old w a x m)))
-    holders_still_apart e f (held there same) (won m is same') eq = absurd (d.both_apart seat e c.below there (subst (HasRow v.phase) (sym same' ∙ sym eq ∙ same) (winner problem v old w a x m)))
+    holders_still_apart e f (won m is same) (held there same') eq =
+        absurd (d.both_apart seat f c.below there (subst (HasRow v.phase) (sym same ∙ eq ∙ same') (winner problem v old w a x m)))
+    holders_still_apart e f (held there same) (won m is same') eq =
+        absurd (d.both_apart seat e c.below there (subst (HasRow v.phase) (sym same' ∙ sym eq ∙ same) (winner problem v old w a x m)))
     holders_still_apart e f (held there same) (held there' same') eq = d.holders_apart e f there there' (sym same ∙ eq ∙ same')
 
     both_still_apart : (i e : ℕ) → i < crew → IsHolder e → HasRow (view_at problem t i).phase (holder_of problem t e) → ⊥
     both_still_apart i e lt (won m is same) h = elim (cases_eq i seat) [
-      | inl own ↦ won_none problem v old w a x m (holder_of problem t e) (subst (λ (u : Sight). HasRow u.phase (holder_of problem t e)) (ap (view_at problem t) own ∙ c.now) h)
-      | inr other ↦ other (d.views_apart i seat m.row lt c.below (subst (HasRow (view_at problem s i).phase) same (subst (λ (u : Sight). HasRow u.phase (holder_of problem t e)) (c.others i other) h)) (winner problem v old w a x m))
+      | inl own ↦ won_none problem v old w a x m (holder_of problem t e)
+          (subst (λ (u : Sight). HasRow u.phase (holder_of problem t e)) (ap (view_at problem t) own ∙ c.now) h)
+      | inr other ↦ other (d.views_apart i seat m.row lt c.below (subst (HasRow (view_at problem s i).phase) same
+          (subst (λ (u : Sight). HasRow u.phase (holder_of problem t e)) (c.others i other) h)) (winner problem v old w a x m))
     ]
     both_still_apart i e lt (held there same) h = elim (row_before problem crew s t seat w a x c move i (holder_of problem t e) h) [
       | inl here ↦ omega (arith, d.holders_drawn e there, here.2, same, (drawn_is problem crew s t seat w a x c here.1).0)
@@ -70,7 +77,8 @@ module _ (problem : Problem) (crew : ℕ) (s t : State) (seat : ℕ) (w : Sight)
     disjoint_rows_kept = record {
       drawn = λ i r lt h. drawn_row i r lt (row_before problem crew s t seat w a x c move i r h);
       holders_drawn = λ e h. drawn_holder e (holder_before e h);
-      views_apart = λ i j r li lj h h'. views_still_apart i j r li lj (row_before problem crew s t seat w a x c move i r h) (row_before problem crew s t seat w a x c move j r h');
+      views_apart = λ i j r li lj h h'. views_still_apart i j r li lj (row_before problem crew s t seat w a x c move i r h)
+          (row_before problem crew s t seat w a x c move j r h');
       holders_apart = λ e f h h' eq. holders_still_apart e f (holder_before e h) (holder_before f h') eq;
       both_apart = λ i e lt h h'. both_still_apart i e lt (holder_before e h) h';
     }

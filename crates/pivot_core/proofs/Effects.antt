@@ -12,7 +12,8 @@ use Rattle.pivot_core.specs.Phases.{HasRow}
 use Rattle.pivot_core.specs.Rule.{DisjointRows}
 use Rattle.pivot_core.proofs.Changes.{IsChange, quiet}
 use Rattle.pivot_core.proofs.Moves.{IsDraw, IsEnd, IsPut, IsWonClaim, IsMove, draws, ends, looks_free, looks_held, puts, wins, loses, reads_more, reads_last}
-use Rattle.pivot_core.proofs.Spots.{claim_not_counter, claim_not_row, claims_apart, counter_not_claim, counter_not_row, row_not_claim, row_not_counter, row_words_apart}
+use Rattle.pivot_core.proofs.Spots.{claim_not_counter, claim_not_row, claims_apart, counter_not_claim, counter_not_row, row_not_claim}
+use Rattle.pivot_core.proofs.Spots.{row_not_counter, row_words_apart}
 
 -- held columns stay held, by the same row and stamp, with the same held row
 pub record KeepsHeld (problem : Problem) (s t : State) : Type 0 where
@@ -53,7 +54,8 @@ module _ (problem : Problem) (crew : ℕ) (s t : State) (seat : ℕ) (w : Sight)
   claims_cases (reads_last m) = inr (λ d lt. quiet problem crew s t seat w a x c m.word (claim_of d) lt)
 
   -- a row word is put, or all row words stay
-  pub rows_cases : IsMove problem v old w a x → IsPut problem v old w a x ⊎ ((r j : ℕ) → r < problem.n → j < problem.m → word_at problem t (row_word r j) ≡ word_at problem s (row_word r j))
+  pub rows_cases : IsMove problem v old w a x → IsPut problem v old w a x
+      ⊎ ((r j : ℕ) → r < problem.n → j < problem.m → word_at problem t (row_word r j) ≡ word_at problem s (row_word r j))
   rows_cases (draws m) = inr (λ r j lr lj. c.words (row_word r j) (lr, lj) (elsewhere (row_word r j) counter m.spot (row_not_counter r j)))
   rows_cases (ends m) = inr (λ r j lr lj. c.words (row_word r j) (lr, lj) (elsewhere (row_word r j) counter m.spot (row_not_counter r j)))
   rows_cases (looks_free m) = inr (λ r j lr lj. quiet problem crew s t seat w a x c m.word (row_word r j) (lr, lj))
@@ -65,7 +67,8 @@ module _ (problem : Problem) (crew : ℕ) (s t : State) (seat : ℕ) (w : Sight)
   rows_cases (reads_last m) = inr (λ r j lr lj. quiet problem crew s t seat w a x c m.word (row_word r j) (lr, lj))
 
   -- a row is drawn, or the view ends, or the counter stays
-  pub counter_cases : IsMove problem v old w a x → (IsDraw problem v old w a x ⊎ IsEnd problem v old w a x) ⊎ (word_at problem t counter ≡ word_at problem s counter)
+  pub counter_cases : IsMove problem v old w a x → (IsDraw problem v old w a x ⊎ IsEnd problem v old w a x)
+      ⊎ (word_at problem t counter ≡ word_at problem s counter)
   counter_cases (draws m) = inl (inl m)
   counter_cases (ends m) = inl (inr m)
   counter_cases (looks_free m) = inr (quiet problem crew s t seat w a x c m.word counter tt)
@@ -101,7 +104,8 @@ module _ (problem : Problem) (crew : ℕ) (s t : State) (seat : ℕ) (w : Sight)
   ]
 
   -- the row words of holders stay
-  same_rows : DisjointRows problem crew s → IsMove problem v old w a x → (d j : ℕ) → IsHeld problem s d → j < problem.m → word_at problem t (row_word (holder_of problem s d) j) ≡ word_at problem s (row_word (holder_of problem s d) j)
+  same_rows : DisjointRows problem crew s → IsMove problem v old w a x → (d j : ℕ) → IsHeld problem s d → j < problem.m →
+      word_at problem t (row_word (holder_of problem s d) j) ≡ word_at problem s (row_word (holder_of problem s d) j)
   same_rows apart move d j h lt =
       let drawn : holder_of problem s d < problem.n = omega (arith, apart.holders_drawn d h) in
       elim (rows_cases move) [

@@ -18,7 +18,8 @@ module _ (problem : Problem) (s : State) (e : Event) where
 
   -- nothing is made where no view is there, or another kind comes next
   pub none_there : length s.views ≤ e.seat → step_at problem s e ≡ None
-  none_there le = by_bool (λ (o : Option Stepped). o ≡ None) (ltb e.seat (length s.views)) (step problem own e.kind old) None (λ on. absurd (omega (arith, le, ltb-true e.seat (length s.views) on))) (λ off. refl)
+  none_there le = by_bool (λ (o : Option Stepped). o ≡ None) (ltb e.seat (length s.views)) (step problem own e.kind old) None
+      (λ on. absurd (omega (arith, le, ltb-true e.seat (length s.views) on))) (λ off. refl)
 
   pub none_next : is_next e.kind own.phase ≡ false → step_at problem s e ≡ None
   none_next not = by_bool (λ (o : Option Stepped). o ≡ None) (ltb e.seat (length s.views)) (step problem own e.kind old) None
@@ -27,7 +28,8 @@ module _ (problem : Problem) (s : State) (e : Event) where
   module _ (t : Stepped) (there : e.seat < length s.views) (next : is_next e.kind own.phase ≡ true) (gives : met problem own old ≡ Some t) where
     pub makes : step_at problem s e ≡ Some t
     makes = by_bool (λ (o : Option Stepped). o ≡ Some t) (ltb e.seat (length s.views)) (step problem own e.kind old) None
-        (λ on. ap (λ (b : Bool). if b then met problem own old else None) next ∙ gives) (λ off. absurd (omega (arith, there, ltb-false e.seat (length s.views) off)))
+        (λ on. ap (λ (b : Bool). if b then met problem own old else None) next ∙ gives)
+        (λ off. absurd (omega (arith, there, ltb-false e.seat (length s.views) off)))
 
     pub makes_state : after_event problem s e ≡ with_step problem s e.seat (Some t)
     makes_state = ap (with_step problem s e.seat) makes

@@ -9,7 +9,8 @@ use Rattle.pivot_core.specs.Finished.{IsFinished, words_alone}
 use Rattle.pivot_core.proofs.HeldRows.{holders-held, values-from}
 use Rattle.pivot_core.proofs.Spots.{spot_within}
 
-module _ (problem : Problem) (words : List ℕ) (h : IsFinished problem words) (c word row : ℕ) (below : c < problem.m) (read : word ≡ get_or words (1 + c) word) (some : word ≢ 0) (told : row ≡ row_in word) where
+module _ (problem : Problem) (words : List ℕ) (h : IsFinished problem words) (c word row : ℕ) (below : c < problem.m)
+    (read : word ≡ get_or words (1 + c) word) (some : word ≢ 0) (told : row ≡ row_in word) where
   abbrev s : State
   s = words_alone words
 
@@ -34,7 +35,8 @@ module _ (problem : Problem) (words : List ℕ) (h : IsFinished problem words) (
   module _ (j found : ℕ) (lt : j < problem.m) (from : c ≤ j) (is : found ≡ get_or words (index_of problem.m (row_word row j)) found) where
     pub value_is : found ≡ values problem s c j
     value_is =
-        get_or_read words (index_of problem.m (row_word row j)) found (index_within j lt) is 0 ∙ ap (λ (r : ℕ). get_or words (index_of problem.m (row_word r j)) 0) row_is ∙ sym (values-from problem s c j held from)
+        get_or_read words (index_of problem.m (row_word row j)) found (index_within j lt) is 0
+        ∙ ap (λ (r : ℕ). get_or words (index_of problem.m (row_word r j)) 0) row_is ∙ sym (values-from problem s c j held from)
 
     pub value_small : found < problem.modulus
     value_small = omega (arith, value_is, holder.residues j lt)

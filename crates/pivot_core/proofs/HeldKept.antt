@@ -29,7 +29,8 @@ use Rattle.pivot_core.proofs.Rows.{winner, won_holder, won_numbers, won_word}
 use Rattle.pivot_core.proofs.Spots.{row_not_claim}
 
 -- what is left of a row of the problem is in the span of its rows
-current_inside : (problem : Problem) (modulus : IsFieldModulus problem.modulus) (s : State) (r : ℕ) (current : List ℕ) → r < problem.n → HeldInSpan problem s → IsModulo problem modulus s (given_row problem r) current
+current_inside : (problem : Problem) (modulus : IsFieldModulus problem.modulus) (s : State) (r : ℕ) (current : List ℕ) → r < problem.n →
+    HeldInSpan problem s → IsModulo problem modulus s (given_row problem r) current
     → IsInRowSpan problem.modulus modulus (rows_of problem) (vector_of problem modulus current)
 current_inside problem modulus s r current lt held h =
     let k : Field = Kp problem modulus in
@@ -52,7 +53,11 @@ module _ (problem : Problem) (crew : ℕ) (s t : State) (seat : ℕ) (w : Sight)
   module _ (ranges : Ranges problem crew s) (published : PublishedPrefix problem crew s) (m : IsWonClaim problem v old w a x) where
     -- the column that was won is held
     pub won_held : IsHeld problem t m.column
-    won_held = record { below = (won_numbers problem crew s t seat w a x c ranges m).1; some = λ e. claim_word-other (v.clock + 1) m.row (sym (won_word problem crew s t seat w a x c m ∙ m.word) ∙ e) }
+    won_held = record {
+      below = (won_numbers problem crew s t seat w a x c ranges m).1;
+      some =
+          λ e. claim_word-other (v.clock + 1) m.row (sym (won_word problem crew s t seat w a x c m ∙ m.word) ∙ e);
+    }
 
     view_published : IsPublished problem s (phase.Claiming m.row m.column) v.current
     view_published = subst (λ (f : Phase). IsPublished problem s f v.current) m.was (published_view problem crew s published seat c.below)
@@ -77,20 +82,26 @@ module _ (problem : Problem) (crew : ℕ) (s t : State) (seat : ℕ) (w : Sight)
     pub won_one : get_or v.current m.column 0 ≡ 1
     won_one = view_published.one m.row refl
 
-  pub held_in_span_kept : Ranges problem crew s → DisjointRows problem crew s → PublishedPrefix problem crew s → CurrentModuloHeld problem crew s → HeldInSpan problem s → IsMove problem v old w a x → HeldInSpan problem t
+  pub held_in_span_kept : Ranges problem crew s → DisjointRows problem crew s → PublishedPrefix problem crew s →
+      CurrentModuloHeld problem crew s → HeldInSpan problem s → IsMove problem v old w a x → HeldInSpan problem t
   held_in_span_kept ranges apart published modulo h move = record {
     residues = λ d held. elim (held_before problem crew s t seat w a x c move d held) [
-      | inl won ↦ subst (λ (e : ℕ). IsRow problem.modulus problem.m (held_row problem t e)) (sym won.1) (subst (IsRow problem.modulus problem.m) (sym (won_row ranges published won.0)) (won_is_row ranges published won.0))
+      | inl won ↦ subst (λ (e : ℕ). IsRow problem.modulus problem.m (held_row problem t e)) (sym won.1)
+          (subst (IsRow problem.modulus problem.m) (sym (won_row ranges published won.0)) (won_is_row ranges published won.0))
       | inr was ↦ subst (IsRow problem.modulus problem.m) (sym (still d was)) (h.residues d was)
     ];
     one = λ d held. elim (held_before problem crew s t seat w a x c move d held) [
-      | inl won ↦ ap (λ (row : List ℕ). get_or row d 0) (ap (held_row problem t) won.1 ∙ won_row ranges published won.0) ∙ ap (λ (e : ℕ). get_or v.current e 0) won.1 ∙ won_one ranges published won.0
+      | inl won ↦ ap (λ (row : List ℕ). get_or row d 0) (ap (held_row problem t) won.1 ∙ won_row ranges published won.0)
+          ∙ ap (λ (e : ℕ). get_or v.current e 0) won.1 ∙ won_one ranges published won.0
       | inr was ↦ ap (λ (row : List ℕ). get_or row d 0) (still d was) ∙ h.one d was
     ];
     inside = λ modulus d held. elim (held_before problem crew s t seat w a x c move d held) [
-      | inl won ↦ subst (λ (row : List ℕ). IsInRowSpan problem.modulus modulus (rows_of problem) (vector_of problem modulus row)) (sym (ap (held_row problem t) won.1 ∙ won_row ranges published won.0))
-          (current_inside problem modulus s won.0.row v.current (won_numbers problem crew s t seat w a x c ranges won.0).0 h (modulo modulus seat won.0.row c.below (winner problem v old w a x won.0)))
-      | inr was ↦ subst (λ (row : List ℕ). IsInRowSpan problem.modulus modulus (rows_of problem) (vector_of problem modulus row)) (sym (still d was)) (h.inside modulus d was)
+      | inl won ↦ subst (λ (row : List ℕ). IsInRowSpan problem.modulus modulus (rows_of problem) (vector_of problem modulus row))
+          (sym (ap (held_row problem t) won.1 ∙ won_row ranges published won.0))
+          (current_inside problem modulus s won.0.row v.current (won_numbers problem crew s t seat w a x c ranges won.0).0 h
+          (modulo modulus seat won.0.row c.below (winner problem v old w a x won.0)))
+      | inr was ↦ subst (λ (row : List ℕ). IsInRowSpan problem.modulus modulus (rows_of problem) (vector_of problem modulus row))
+          (sym (still d was)) (h.inside modulus d was)
     ];
   }
     where

@@ -26,15 +26,19 @@ values-before problem s c j lt =
     by_bool (λ (k : ℕ). k ≡ 0) (claim_at problem s c == 0) _ _ (λ on. refl)
     (λ off. by_bool (λ (k : ℕ). k ≡ 0) (ltb j c) _ _ (λ on. refl) (λ off. absurd (omega (arith, lt, ltb-false j c off))))
 
-pub values-from : (problem : Problem) (s : State) (c j : ℕ) → IsHeld problem s c → c ≤ j → values problem s c j ≡ word_at problem s (row_word (holder_of problem s c) j)
+pub values-from : (problem : Problem) (s : State) (c j : ℕ) → IsHeld problem s c → c ≤ j →
+    values problem s c j ≡ word_at problem s (row_word (holder_of problem s c) j)
 values-from problem s c j h le =
-    by_bool (λ (k : ℕ). k ≡ word_at problem s (row_word (holder_of problem s c) j)) (claim_at problem s c == 0) _ _ (λ on. absurd (h.some (eqb-true (claim_at problem s c) 0 on)))
-    (λ off. by_bool (λ (k : ℕ). k ≡ word_at problem s (row_word (holder_of problem s c) j)) (ltb j c) _ _ (λ on. absurd (omega (arith, le, ltb-true j c on))) (λ off. refl))
+    by_bool (λ (k : ℕ). k ≡ word_at problem s (row_word (holder_of problem s c) j)) (claim_at problem s c == 0) _ _
+    (λ on. absurd (h.some (eqb-true (claim_at problem s c) 0 on)))
+    (λ off. by_bool (λ (k : ℕ). k ≡ word_at problem s (row_word (holder_of problem s c) j)) (ltb j c) _ _
+    (λ on. absurd (omega (arith, le, ltb-true j c on))) (λ off. refl))
 
 -- a column has a holder where it is held
 pub holders-held : (problem : Problem) (s : State) (c : ℕ) → IsHeld problem s c → holders problem s c ≡ Some (holder_of problem s c)
 holders-held problem s c h =
-    by_bool (λ (o : Option ℕ). o ≡ Some (holder_of problem s c)) (claim_at problem s c == 0) _ _ (λ on. absurd (h.some (eqb-true (claim_at problem s c) 0 on))) (λ off. refl)
+    by_bool (λ (o : Option ℕ). o ≡ Some (holder_of problem s c)) (claim_at problem s c == 0) _ _
+    (λ on. absurd (h.some (eqb-true (claim_at problem s c) 0 on))) (λ off. refl)
 
 pub held_holders : (problem : Problem) (s : State) (c r : ℕ) → c < problem.m → holders problem s c ≡ Some r → IsHeld problem s c × (holder_of problem s c ≡ r)
 held_holders problem s c r lt =
@@ -60,7 +64,8 @@ module _ (problem : Problem) (modulus : IsFieldModulus problem.modulus) where
   vector_of row = vec problem.modulus modulus row
 
   one_of_held : (s : State) (c : ℕ) → IsHeld problem s c → OneHeld s (vector_of (held_row problem s c))
-  one_of_held s c h = one_held problem.modulus modulus problem.m (holders problem s) (values problem s) c (holder_of problem s c) h.below (holders-held problem s c h)
+  one_of_held s c h = one_held problem.modulus modulus problem.m (holders problem s) (values problem s) c (holder_of problem s c) h.below
+      (holders-held problem s c h)
 
   -- a held row is in their span
   pub held_in_own_span : (s : State) (c : ℕ) → IsHeld problem s c → HeldSpan s (vector_of (held_row problem s c))
@@ -76,7 +81,8 @@ module _ (problem : Problem) (modulus : IsFieldModulus problem.modulus) where
   pub spans_grow : (s t : State) → KeepsHeld problem s t → (u : Vp) → HeldSpan s u → HeldSpan t u
   spans_grow s t keeps u h =
       IsInSpan-trans Kp ℕ (OneHeld s) (OneHeld t)
-      (each_held s (HeldSpan t) (λ c held. subst (λ (row : List ℕ). HeldSpan t (vector_of row)) (held_row_after problem s t c keeps held) (held_in_own_span t c (held_after problem s t c keeps held)))) u h
+      (each_held s (HeldSpan t) (λ c held. subst (λ (row : List ℕ). HeldSpan t (vector_of row)) (held_row_after problem s t c keeps held)
+      (held_in_own_span t c (held_after problem s t c keeps held)))) u h
 
   -- and stays within the span of the problem's rows
   pub held_within : (s : State) → HeldInSpan problem s → (u : Vp) → HeldSpan s u → IsInRowSpan problem.modulus modulus (rows_of problem) u

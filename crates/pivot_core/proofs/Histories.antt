@@ -10,11 +10,13 @@ joined_calls-append [] log = append-nil log
 joined_calls-append (first ∷ logs) log = ap (λ (l : List Call). first ++ l) (joined_calls-append logs log) ∙ sym (append_assoc first (joined_calls logs) log)
 
 -- one more log
-pub joined_calls-more : (logs : List (List Call)) (i : ℕ) (d : List Call) → i < length logs → joined_calls (take (i + 1) logs) ≡ joined_calls (take i logs) ++ get_or logs i d
+pub joined_calls-more : (logs : List (List Call)) (i : ℕ) (d : List Call) → i < length logs →
+    joined_calls (take (i + 1) logs) ≡ joined_calls (take i logs) ++ get_or logs i d
 joined_calls-more logs i d within = ap joined_calls (take_more logs i d within) ∙ joined_calls-append (take i logs) (get_or logs i d)
 
 -- a list of calls and one more
-ReplaysAfter-append : (done calls : List Call) (k : Call) → ReplaysAfter done (calls ++ k ∷ []) ↔ (ReplaysAfter done calls × (k.answer ≡ answer_after (reverse_aux calls done) k.column))
+ReplaysAfter-append : (done calls : List Call) (k : Call) → ReplaysAfter done (calls ++ k ∷ []) ↔
+    (ReplaysAfter done calls × (k.answer ≡ answer_after (reverse_aux calls done) k.column))
 ReplaysAfter-append done [] k = (λ h. (tt, h.0), λ h. (h.1, tt))
 ReplaysAfter-append done (l ∷ calls) k =
     let rest = ReplaysAfter-append (l ∷ done) calls k in
@@ -29,11 +31,13 @@ Replays-take : (calls : List Call) (i : ℕ) → Replays calls → Replays (take
 Replays-take calls i h = ReplaysAfter-front [] (take i calls) (drop i calls) (subst Replays (sym (take-append-drop i calls)) h)
 
 -- one more call, with the answer that the object gives after those before it
-pub Replays-more : (calls : List Call) (i : ℕ) (d : Call) → i < length calls → Replays (take i calls) → (get_or calls i d).answer ≡ answer_after (reverse (take i calls)) (get_or calls i d).column → Replays (take (i + 1) calls)
+pub Replays-more : (calls : List Call) (i : ℕ) (d : Call) → i < length calls → Replays (take i calls) →
+    (get_or calls i d).answer ≡ answer_after (reverse (take i calls)) (get_or calls i d).column → Replays (take (i + 1) calls)
 Replays-more calls i d within h same =
     subst Replays (sym (take_more calls i d within)) ((ReplaysAfter-append [] (take i calls) (get_or calls i d)).1 (h, same))
 
 -- each call has that answer
-pub Replays-at : (calls : List Call) (i : ℕ) (d : Call) → i < length calls → Replays calls → (get_or calls i d).answer ≡ answer_after (reverse (take i calls)) (get_or calls i d).column
+pub Replays-at : (calls : List Call) (i : ℕ) (d : Call) → i < length calls → Replays calls →
+    (get_or calls i d).answer ≡ answer_after (reverse (take i calls)) (get_or calls i d).column
 Replays-at calls i d within h =
     ((ReplaysAfter-append [] (take i calls) (get_or calls i d)).0 (subst Replays (take_more calls i d within) (Replays-take calls (i + 1) h))).1

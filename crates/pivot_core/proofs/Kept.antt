@@ -39,25 +39,33 @@ module _ (problem : Problem) (crew : ℕ) (setting : IsSetting problem crew) whe
 
     calls_kept : CallsAndCounts problem crew t
     calls_kept =
-        let now = calling problem crew s t k.seat k.sight k.spot k.word k.change h.ranges held_kept h.published_prefix (h.calls_and_counts.unclaimed k.seat k.change.below) k.move in
+        let now = calling problem crew s t k.seat k.sight k.spot k.word k.change h.ranges held_kept h.published_prefix
+        (h.calls_and_counts.unclaimed k.seat k.change.below) k.move in
         let own = h.calls_and_counts.each k.seat k.change.below in
         record {
           each = each_view problem crew s t k.seat k.sight k.spot k.word k.change (λ i v. All (IsCall problem t i v.clock) v.calls)
               (own_each problem crew s t k.seat k.sight k.spot k.word k.change held_kept own now)
-              (λ i lt other j d within. call_stays problem s t held_kept i (view_at problem s i).clock (view_at problem s i).clock (omega arith) _ (h.calls_and_counts.each i lt j d within));
+              (λ i lt other j d within. call_stays problem s t held_kept i (view_at problem s i).clock (view_at problem s i).clock
+              (omega arith) _ (h.calls_and_counts.each i lt j d within));
           columns = each_view problem crew s t k.seat k.sight k.spot k.word k.change (λ i v. AllPairs (λ e f. e.column ≢ f.column) v.calls)
-              (own_columns problem crew s t k.seat k.sight k.spot k.word k.change held_kept own now (h.calls_and_counts.columns k.seat k.change.below)) (λ i lt other. h.calls_and_counts.columns i lt);
+              (own_columns problem crew s t k.seat k.sight k.spot k.word k.change held_kept own now
+              (h.calls_and_counts.columns k.seat k.change.below)) (λ i lt other. h.calls_and_counts.columns i lt);
           rising = each_view problem crew s t k.seat k.sight k.spot k.word k.change (λ i v. AllPairs (λ e f. e.stamp < f.stamp) v.calls)
-              (own_rising problem crew s t k.seat k.sight k.spot k.word k.change held_kept own now (h.calls_and_counts.rising k.seat k.change.below)) (λ i lt other. h.calls_and_counts.rising i lt);
+              (own_rising problem crew s t k.seat k.sight k.spot k.word k.change held_kept own now
+              (h.calls_and_counts.rising k.seat k.change.below)) (λ i lt other. h.calls_and_counts.rising i lt);
           won = won_once problem crew s t k.seat k.sight k.spot k.word k.change h.ranges h.calls_and_counts.each h.calls_and_counts.won k.move;
           clocks = each_view problem crew s t k.seat k.sight k.spot k.word k.change (λ i v. v.clock ≤ call_count t)
-              (own_clock problem crew s t k.seat k.sight k.spot k.word k.change h.ranges (h.calls_and_counts.clocks k.seat k.change.below) h.calls_and_counts.stamps k.move)
+              (own_clock problem crew s t k.seat k.sight k.spot k.word k.change h.ranges (h.calls_and_counts.clocks k.seat k.change.below)
+              h.calls_and_counts.stamps k.move)
               (λ i lt other. omega (arith, h.calls_and_counts.clocks i lt, call_count-rises problem crew s t k.seat k.sight k.spot k.word k.change now));
-          stamps = stamps_kept problem crew s t k.seat k.sight k.spot k.word k.change h.ranges (h.calls_and_counts.clocks k.seat k.change.below) h.calls_and_counts.stamps now k.move;
+          stamps = stamps_kept problem crew s t k.seat k.sight k.spot k.word k.change h.ranges
+              (h.calls_and_counts.clocks k.seat k.change.below) h.calls_and_counts.stamps now k.move;
           unclaimed = each_view problem crew s t k.seat k.sight k.spot k.word k.change (λ i v. IsUnclaimed v.phase v.calls)
-              (own_unclaimed problem crew s t k.seat k.sight k.spot k.word k.change h.ranges h.calls_and_counts.each (h.calls_and_counts.unclaimed k.seat k.change.below) k.move) (λ i lt other. h.calls_and_counts.unclaimed i lt);
+              (own_unclaimed problem crew s t k.seat k.sight k.spot k.word k.change h.ranges h.calls_and_counts.each
+              (h.calls_and_counts.unclaimed k.seat k.change.below) k.move) (λ i lt other. h.calls_and_counts.unclaimed i lt);
           steps = each_view problem crew s t k.seat k.sight k.spot k.word k.change (λ i v. IsBounded problem.m v.phase v.drawn v.steps)
-              (own_bounded problem crew s t k.seat k.sight k.spot k.word k.change setting.field h.ranges h.held_in_span h.published_prefix h.read_prefix (h.calls_and_counts.steps k.seat k.change.below) k.move) (λ i lt other. h.calls_and_counts.steps i lt);
+              (own_bounded problem crew s t k.seat k.sight k.spot k.word k.change setting.field h.ranges h.held_in_span h.published_prefix
+              h.read_prefix (h.calls_and_counts.steps k.seat k.change.below) k.move) (λ i lt other. h.calls_and_counts.steps i lt);
         }
 
     pub rule_kept : Rule t
@@ -65,11 +73,15 @@ module _ (problem : Problem) (crew : ℕ) (setting : IsSetting problem crew) whe
       ranges = ranges_kept problem crew s t k.seat k.sight k.spot k.word k.change h.ranges (λ won. clock_small k.seat k.change.below) k.move;
       counter_sum = counter_sum_kept problem crew s t k.seat k.sight k.spot k.word k.change h.counter_sum k.move;
       disjoint_rows = disjoint_rows_kept problem crew s t k.seat k.sight k.spot k.word k.change h.ranges h.disjoint_rows k.move;
-      held_in_span = held_in_span_kept problem crew s t k.seat k.sight k.spot k.word k.change h.ranges h.disjoint_rows h.published_prefix h.current_modulo_held h.held_in_span k.move;
-      published_prefix = published_prefix_kept problem crew s t k.seat k.sight k.spot k.word k.change h.ranges h.disjoint_rows setting.field h.published_prefix k.move;
+      held_in_span = held_in_span_kept problem crew s t k.seat k.sight k.spot k.word k.change h.ranges h.disjoint_rows h.published_prefix
+          h.current_modulo_held h.held_in_span k.move;
+      published_prefix = published_prefix_kept problem crew s t k.seat k.sight k.spot k.word k.change h.ranges h.disjoint_rows setting.field
+          h.published_prefix k.move;
       read_prefix = read_prefix_kept problem crew s t k.seat k.sight k.spot k.word k.change h.ranges h.disjoint_rows h.read_prefix k.move;
-      current_modulo_held = current_modulo_kept problem crew s t k.seat k.sight k.spot k.word k.change h.ranges h.disjoint_rows h.read_prefix h.current_modulo_held k.move;
-      settled_in_span = settled_in_span_kept problem crew s t k.seat k.sight k.spot k.word k.change h.ranges h.disjoint_rows h.published_prefix h.read_prefix h.current_modulo_held h.settled_in_span k.move;
+      current_modulo_held = current_modulo_kept problem crew s t k.seat k.sight k.spot k.word k.change h.ranges h.disjoint_rows
+          h.read_prefix h.current_modulo_held k.move;
+      settled_in_span = settled_in_span_kept problem crew s t k.seat k.sight k.spot k.word k.change h.ranges h.disjoint_rows
+          h.published_prefix h.read_prefix h.current_modulo_held h.settled_in_span k.move;
       calls_and_counts = calls_kept;
     }
 

@@ -20,7 +20,8 @@ use Rattle.pivot_core.proofs.CallsKept.{call_held}
 use Rattle.pivot_core.proofs.Counts.{all_views, is_won_at-other}
 use Rattle.pivot_core.proofs.Kept.{claimed_pivots}
 use Rattle.pivot_core.proofs.LegalHistoryReplays.{IsTrueCall, replays_sorted}
-use Rattle.pivot_core.proofs.SortedCalls.{All-joined_calls, joined_calls-contains, length-joined_calls, sorted_calls-in_order, sorted_calls-moves, sum_by-joined_calls}
+use Rattle.pivot_core.proofs.SortedCalls.{All-joined_calls, joined_calls-contains, length-joined_calls, sorted_calls-in_order, sorted_calls-moves}
+use Rattle.pivot_core.proofs.SortedCalls.{sum_by-joined_calls}
 
 -- a sum over what a list is mapped to
 sum_by-map : {X Y : Type 0} (f : Y → ℕ) (g : X → Y) (xs : List X) → sum_by f (map g xs) ≡ sum_by (λ x. f (g x)) xs
@@ -71,7 +72,9 @@ module _ (problem : Problem) (crew : ℕ) (s : State) (h : ClaimedPivots problem
   -- a column that is not held is not won
   not_won : (c : ℕ) → (IsHeld problem s c → ⊥) → won_count s c ≡ 0
   not_won c unheld = sym (summed (is_won_at c)) ∙ sum_by-none (is_won_at c) calls
-      (λ j d within. is_won_at-other c (get_or calls j d) (λ is. unheld (subst (IsHeld problem s) is (call_held problem s (get_or calls j d).seat (get_or calls j d).stamp (get_or calls j d) (told j d within)))))
+      (λ j d within. is_won_at-other c (get_or calls j d) (λ is. unheld
+      (subst (IsHeld problem s) is (call_held problem s (get_or calls j d).seat (get_or calls j d).stamp (get_or calls j d)
+      (told j d within)))))
 
   pub legal_history : IsLegalHistory problem crew s
   legal_history = record {
@@ -86,7 +89,8 @@ module _ (problem : Problem) (crew : ℕ) (s : State) (h : ClaimedPivots problem
     where
       inside : (i : ℕ) → i < crew → All (Contains calls) (view_at problem s i).calls
       inside i lt =
-          All-weaker (Contains (joined_calls logs)) (Contains calls) (λ k there. Contains-permutation (joined_calls logs) calls k (sorted_calls-moves (joined_calls logs)) there) (view_at problem s i).calls
+          All-weaker (Contains (joined_calls logs)) (Contains calls) (λ k there. Contains-permutation (joined_calls logs) calls k
+          (sorted_calls-moves (joined_calls logs)) there) (view_at problem s i).calls
           (subst (All (Contains (joined_calls logs))) (log_at i lt) (joined_calls-contains logs i [] (omega (arith, lt, length-logs))))
 
 pub one_legal_history : OneLegalHistory

@@ -29,7 +29,8 @@ module _ (problem : Problem) (crew : ℕ) (s : State) (h : ClaimedPivots problem
       λ j below. subst (All (λ k. k.seat ≡ j)) (sym (log_at problem crew s h j below)) (λ a d within. (h.calls_and_counts.each j below a d within).own) in
       let joined : calls_of i (joined_calls logs) ≡ (view_at problem s i).calls =
       joined_calls-one i logs i (seat_is i lt)
-      (λ j below other. All-weaker (λ k. k.seat ≡ j) (IsElsewhere i) (λ k is e. other (sym is ∙ e)) (get_or logs j []) (seat_is j (omega (arith, below, length-logs problem crew s h))))
+      (λ j below other. All-weaker (λ k. k.seat ≡ j) (IsElsewhere i) (λ k is e. other (sym is ∙ e)) (get_or logs j [])
+      (seat_is j (omega (arith, below, length-logs problem crew s h))))
       ∙ log_at problem crew s h i lt in
       sorted_calls-own i (joined_calls logs) (subst (AllPairs IsBefore) (sym joined) (h.calls_and_counts.rising i lt)) ∙ joined
 
@@ -37,7 +38,8 @@ module _ (problem : Problem) (crew : ℕ) (s : State) (h : ClaimedPivots problem
   each_rising i = elim (cases_lt i crew) [
     | inl lt ↦ subst (AllPairs IsBefore) (sym (own_log i lt)) (h.calls_and_counts.rising i lt)
     | inr out ↦ (
-        let none : calls_of i calls ≡ [] = calls_of-none i calls (All-weaker (λ k. k.seat < crew) (IsElsewhere i) (λ k below e. omega (arith, below, e, out)) calls seats) in
+        let none : calls_of i calls ≡ [] = calls_of-none i calls (All-weaker (λ k. k.seat < crew) (IsElsewhere i)
+        (λ k below e. omega (arith, below, e, out)) calls seats) in
         λ a b d lt within. absurd (omega (arith, lt, within, ap (λ (ks : List Call). length ks) none)))
   ]
 

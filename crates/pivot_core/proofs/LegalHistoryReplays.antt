@@ -41,7 +41,8 @@ module _ (problem : Problem) (s : State) where
       by_answer (answer_after ks c) (answer_after-free ks c (omega (arith, parts))) k.answer (omega (arith, parts))
     where
       by_answer : (rest : Answer) → rest ≡ answer.Won → (a : Answer) → won_part c k a ≡ 0 → after_one k a c rest ≡ answer.Won
-      by_answer rest is answer.Won none = by_bool (λ (x : Answer). x ≡ answer.Won) (k.column == c) _ _ (λ on. absurd (omega (arith, none, ap one_if on))) (λ off. is)
+      by_answer rest is answer.Won none = by_bool (λ (x : Answer). x ≡ answer.Won) (k.column == c) _ _
+          (λ on. absurd (omega (arith, none, ap one_if on))) (λ off. is)
       by_answer rest is (answer.Lost row stamp) none = is
 
   -- what won it stands in one that was
@@ -64,19 +65,22 @@ module _ (problem : Problem) (s : State) where
     where
       by_answer : (a : Answer) → IsAnswered problem s l a → won_part c l a ≡ 0
       by_answer answer.Won h = by_bool (λ (n : ℕ). n ≡ 0) (l.column == c) _ _
-          (λ on. (let same : stamp_in (claim_at problem s l.column) ≡ stamp_in (claim_at problem s c) = ap (λ (d : ℕ). stamp_in (claim_at problem s d)) (eqb-true l.column c on) in
+          (λ on. (let same : stamp_in (claim_at problem s l.column) ≡ stamp_in (claim_at problem s c) =
+          ap (λ (d : ℕ). stamp_in (claim_at problem s d)) (eqb-true l.column c on) in
           absurd (omega (arith, h.2, same, late))))
           (λ off. refl)
       by_answer (answer.Lost row stamp) h = refl
 
   -- the next of sorted calls has the answer that the object gives
   next_answer : (done : List Call) (k : Call) (ks : List Call) → All IsTrueCall done → All IsTrueCall ks → All (IsNotAfter k) ks
-      → (a : Answer) → IsAnswered problem s k a → sum_by (is_won_at k.column) done + (won_part k.column k a + sum_by (is_won_at k.column) ks) ≡ 1 → a ≡ answer_after done k.column
+      → (a : Answer) → IsAnswered problem s k a → sum_by (is_won_at k.column) done +
+      (won_part k.column k a + sum_by (is_won_at k.column) ks) ≡ 1 → a ≡ answer_after done k.column
   next_answer done k ks before later follow answer.Won h once =
       sym (answer_after-free done k.column (omega (arith, once, ap one_if (same_tested k.column))))
   next_answer done k ks before later follow (answer.Lost row stamp) h once =
       let none : sum_by (is_won_at k.column) ks ≡ 0 = sum_by-none (is_won_at k.column) ks
-      (λ j d within. not_won_late k.column (get_or ks j d) (later j d within) (omega (arith, h.2, h.3, not_after_stamp k (get_or ks j d) (follow j d within)))) in
+      (λ j d within. not_won_late k.column (get_or ks j d) (later j d within)
+      (omega (arith, h.2, h.3, not_after_stamp k (get_or ks j d) (follow j d within)))) in
       ap₂ (λ (r n : ℕ). answer.Lost r n) (sym h.1) (sym h.2) ∙ sym (answer_after-taken done k.column before (omega (arith, once, none)))
 
   replays_after : (done rest : List Call) → All IsTrueCall done → All IsTrueCall rest → AllPairs IsNotAfter rest
@@ -86,11 +90,14 @@ module _ (problem : Problem) (s : State) where
       let one : IsTrueCall k = All-head IsTrueCall k ks told in
       let later : All IsTrueCall ks = All-tail IsTrueCall k ks told in (
         next_answer done k ks before later (λ j d within. sorted zero (suc j) d (omega arith) (omega (arith, within))) k.answer one.answered
-            (ap (λ (n : ℕ). sum_by (is_won_at k.column) done + n) (sym (sum_by-cons (is_won_at k.column) k ks)) ∙ once k.column (call_held problem s k.seat k.stamp k one)),
-        replays_after (k ∷ done) ks (All-cons IsTrueCall k done one before) later (λ i j d lt within. sorted (suc i) (suc j) d (omega (arith, lt)) (omega (arith, within)))
+            (ap (λ (n : ℕ). sum_by (is_won_at k.column) done + n) (sym (sum_by-cons (is_won_at k.column) k ks))
+            ∙ once k.column (call_held problem s k.seat k.stamp k one)),
+        replays_after (k ∷ done) ks (All-cons IsTrueCall k done one before) later
+            (λ i j d lt within. sorted (suc i) (suc j) d (omega (arith, lt)) (omega (arith, within)))
             (λ c held. omega (arith, once c held, sum_by-cons (is_won_at c) k ks, sum_by-cons (is_won_at c) k done)),
       )
 
   -- calls that tell what their columns hold, in order, with each held column won once
-  pub replays_sorted : (calls : List Call) → All IsTrueCall calls → AllPairs IsNotAfter calls → ((c : ℕ) → IsHeld problem s c → sum_by (is_won_at c) calls ≡ 1) → Replays calls
+  pub replays_sorted : (calls : List Call) → All IsTrueCall calls → AllPairs IsNotAfter calls →
+      ((c : ℕ) → IsHeld problem s c → sum_by (is_won_at c) calls ≡ 1) → Replays calls
   replays_sorted calls told sorted once = replays_after [] calls (All-nil IsTrueCall) told sorted (λ c held. omega (arith, once c held))

@@ -1,5 +1,6 @@
 -- The calls of one seat among sorted and joined calls.
-use Rattle.std.proofs.Common.{◌≡◌, ◌≢◌, ℕ, zero, suc, ◌<◌, ◌≤◌, ◌==◌, All, AllPairs, Bool, true, false, true≢false, cond, List, [], ◌∷◌, ◌++◌, length, get_or, refl, sym, ap, ap₂, ◌∙◌, arith, subst}
+use Rattle.std.proofs.Common.{◌≡◌, ◌≢◌, ℕ, zero, suc, ◌<◌, ◌≤◌, ◌==◌, All, AllPairs, Bool, true, false, true≢false, cond, List, [], ◌∷◌, ◌++◌, length}
+use Rattle.std.proofs.Common.{get_or, refl, sym, ap, ap₂, ◌∙◌, arith, subst}
 use Rattle.std.proofs.lemmas.Bool.{eqb-false, eqb-true}
 use Rattle.std.proofs.lemmas.List.{append-nil}
 use Rattle.std.proofs.lemmas.List.Elements.{All-cons, All-from_get_or, All-head, All-nil, All-tail, filter-append}
@@ -32,7 +33,8 @@ module _ (i : ℕ) where
   calls_of-all : (ks : List Call) → All (λ k. k.seat ≡ i) ks → calls_of i ks ≡ ks
   calls_of-all [] h = refl
   calls_of-all (k ∷ ks) h =
-      calls_of-own k ks (ap (λ (n : ℕ). n == i) (All-head (λ l. l.seat ≡ i) k ks h) ∙ same_tested i) ∙ ap (λ (ls : List Call). k ∷ ls) (calls_of-all ks (All-tail (λ l. l.seat ≡ i) k ks h))
+      calls_of-own k ks (ap (λ (n : ℕ). n == i) (All-head (λ l. l.seat ≡ i) k ks h) ∙ same_tested i)
+      ∙ ap (λ (ls : List Call). k ∷ ls) (calls_of-all ks (All-tail (λ l. l.seat ≡ i) k ks h))
 
   pub calls_of-none : (ks : List Call) → All IsElsewhere ks → calls_of i ks ≡ []
   calls_of-none [] h = refl
@@ -59,7 +61,8 @@ module _ (i : ℕ) where
           let le : k.stamp ≤ l.stamp = All-head (IsNotAbove k) l (calls_of i ls) (subst (All (IsNotAbove k)) (calls_of-own l ls on) below) in
           absurd (true≢false (sym (not_after-same_seat k l (own ∙ sym (eqb-true l.seat i on)) le) ∙ after))
       by_seat rest after false off =
-          calls_of-other l (insert_call k ls) off ∙ rest (subst (All (IsNotAbove k)) (calls_of-other l ls off) below) ∙ ap (λ (js : List Call). k ∷ js) (sym (calls_of-other l ls off))
+          calls_of-other l (insert_call k ls) off ∙ rest (subst (All (IsNotAbove k)) (calls_of-other l ls off) below)
+          ∙ ap (λ (js : List Call). k ∷ js) (sym (calls_of-other l ls off))
 
       by_answer : (All (IsNotAbove k) (calls_of i ls) → calls_of i (insert_call k ls) ≡ k ∷ calls_of i ls)
           → (b : Bool) → is_not_after k l ≡ b → calls_of i (cond b (k ∷ l ∷ ls) (l ∷ insert_call k ls)) ≡ k ∷ calls_of i (l ∷ ls)
@@ -77,10 +80,13 @@ module _ (i : ℕ) where
           insert_call-other k (sorted_calls ks) off ∙ rest (subst (AllPairs IsBefore) (calls_of-other k ks off) rising) ∙ sym (calls_of-other k ks off)
       by_answer rest true on =
           let here : AllPairs IsBefore (k ∷ calls_of i ks) = subst (AllPairs IsBefore) (calls_of-own k ks on) rising in
-          let same : calls_of i (sorted_calls ks) ≡ calls_of i ks = rest (λ a b d lt within. here (suc a) (suc b) d (omega (arith, lt)) (omega (arith, within))) in
+          let same : calls_of i (sorted_calls ks) ≡ calls_of i ks = rest
+          (λ a b d lt within. here (suc a) (suc b) d (omega (arith, lt)) (omega (arith, within))) in
           let above : All (IsNotAbove k) (calls_of i ks) =
-          λ j d within. (let lt : k.stamp < (get_or (calls_of i ks) j d).stamp = here zero (suc j) d (omega arith) (omega (arith, within)) in omega (arith, lt)) in
-          insert_call-own k (sorted_calls ks) (eqb-true k.seat i on) (subst (All (IsNotAbove k)) (sym same) above) ∙ ap (λ (js : List Call). k ∷ js) same ∙ sym (calls_of-own k ks on)
+          λ j d within. (let lt : k.stamp < (get_or (calls_of i ks) j d).stamp =
+          here zero (suc j) d (omega arith) (omega (arith, within)) in omega (arith, lt)) in
+          insert_call-own k (sorted_calls ks) (eqb-true k.seat i on) (subst (All (IsNotAbove k)) (sym same) above)
+          ∙ ap (λ (js : List Call). k ∷ js) same ∙ sym (calls_of-own k ks on)
 
   -- of joined logs, of which one has the seat's calls alone and the others have none
   joined_calls-none : (logs : List (List Call)) → All (All IsElsewhere) logs → calls_of i (joined_calls logs) ≡ []
@@ -117,9 +123,11 @@ calls_of-pairs R (k ∷ ks) h = AllPairs-cons (λ j l. j.seat ≡ l.seat → R j
     first [] all = All-nil (λ l. k.seat ≡ l.seat → R k l)
     first (l ∷ ls) all = by_answer (first ls) (l.seat == k.seat) refl
       where
-        by_answer : (All (R k) (calls_of k.seat ls) → All (λ j. k.seat ≡ j.seat → R k j) ls) → (b : Bool) → (l.seat == k.seat) ≡ b → All (λ j. k.seat ≡ j.seat → R k j) (l ∷ ls)
+        by_answer : (All (R k) (calls_of k.seat ls) → All (λ j. k.seat ≡ j.seat → R k j) ls) → (b : Bool) → (l.seat == k.seat) ≡ b →
+            All (λ j. k.seat ≡ j.seat → R k j) (l ∷ ls)
         by_answer rest true on =
             let both : All (R k) (l ∷ calls_of k.seat ls) = subst (All (R k)) (calls_of-own k.seat l ls on) all in
             All-cons (λ j. k.seat ≡ j.seat → R k j) l ls (λ e. All-head (R k) l (calls_of k.seat ls) both) (rest (All-tail (R k) l (calls_of k.seat ls) both))
         by_answer rest false off =
-            All-cons (λ j. k.seat ≡ j.seat → R k j) l ls (λ e. absurd (eqb-false l.seat k.seat off (sym e))) (rest (subst (All (R k)) (calls_of-other k.seat l ls off) all))
+            All-cons (λ j. k.seat ≡ j.seat → R k j) l ls (λ e. absurd (eqb-false l.seat k.seat off (sym e)))
+            (rest (subst (All (R k)) (calls_of-other k.seat l ls off) all))

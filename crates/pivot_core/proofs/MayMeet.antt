@@ -43,7 +43,8 @@ module _ (problem : Problem) (crew : ℕ) (setting : IsSetting problem crew) (s 
   -- the counter is at most the rows and the crew
   counter_few : word_at problem s counter ≤ problem.n + 64
   counter_few =
-      let each : All (λ (z : Sight). is_ended z.phase ≤ 1) s.views = all_views problem crew s h.ranges (λ (z : Sight). is_ended z.phase ≤ 1) (λ j lj. at_most_one (view_at problem s j).phase) in
+      let each : All (λ (z : Sight). is_ended z.phase ≤ 1) s.views =
+      all_views problem crew s h.ranges (λ (z : Sight). is_ended z.phase ≤ 1) (λ j lj. at_most_one (view_at problem s j).phase) in
       let ended : sum_by (λ (z : Sight). is_ended z.phase) s.views ≤ length s.views * 1 = sum_by-le (λ (z : Sight). is_ended z.phase) 1 s.views each in
       omega (arith, h.counter_sum.counts, h.counter_sum.few, ended, h.ranges.count, setting.few)
     where
@@ -62,7 +63,8 @@ module _ (problem : Problem) (crew : ℕ) (setting : IsSetting problem crew) (s 
       let read : IsRead problem s (phase.Reading row column holder at) v.seen = subst (λ (f : Phase). IsRead problem s f v.seen) is (h.read_prefix i lt) in
       let row_is = h.held_in_span.residues column read.0 in
       let residue = All-get_or (λ a. a < problem.modulus) _ at 0 (omega (arith, row_is.size, numbers.3)) row_is.residues in
-      subst (λ (k : ℕ). k < problem.modulus) (held_row-at problem s column at numbers.3 ∙ values-from problem s column at read.0 numbers.2 ∙ ap (λ (r : ℕ). word_at problem s (row_word r at)) read.1) residue
+      subst (λ (k : ℕ). k < problem.modulus) (held_row-at problem s column at numbers.3 ∙ values-from problem s column at read.0 numbers.2
+      ∙ ap (λ (r : ℕ). word_at problem s (row_word r at)) read.1) residue
 
   met_word : (f : Phase) → v.phase ≡ f → IsMetWord problem f (word_at problem s (spot_of f))
   met_word phase.Fresh is = tt
@@ -74,12 +76,14 @@ module _ (problem : Problem) (crew : ℕ) (setting : IsSetting problem crew) (s 
 
   -- the current row has residues in every phase
   current_residues : (f : Phase) → v.phase ≡ f → All (λ a. a < problem.modulus) v.current
-  current_residues phase.Fresh is = subst (All (λ a. a < problem.modulus)) (sym (subst (λ (f : Phase). IsIdle problem.m f v.current) is (h.ranges.views i lt).idle)) (zeros_residues problem.m)
+  current_residues phase.Fresh is = subst (All (λ a. a < problem.modulus))
+      (sym (subst (λ (f : Phase). IsIdle problem.m f v.current) is (h.ranges.views i lt).idle)) (zeros_residues problem.m)
   current_residues (phase.Looking row column) is = (h.published_prefix.residues i row lt (subst (λ (f : Phase). HasRow f row) (sym is) refl)).residues
   current_residues (phase.Putting row column at) is = (h.published_prefix.residues i row lt (subst (λ (f : Phase). HasRow f row) (sym is) refl)).residues
   current_residues (phase.Claiming row column) is = (h.published_prefix.residues i row lt (subst (λ (f : Phase). HasRow f row) (sym is) refl)).residues
   current_residues (phase.Reading row column holder at) is = (h.published_prefix.residues i row lt (subst (λ (f : Phase). HasRow f row) (sym is) refl)).residues
-  current_residues phase.Ended is = subst (All (λ a. a < problem.modulus)) (sym (subst (λ (f : Phase). IsIdle problem.m f v.current) is (h.ranges.views i lt).idle)) (zeros_residues problem.m)
+  current_residues phase.Ended is = subst (All (λ a. a < problem.modulus))
+      (sym (subst (λ (f : Phase). IsIdle problem.m f v.current) is (h.ranges.views i lt).idle)) (zeros_residues problem.m)
 
   unread_residues : (f : Phase) → v.phase ≡ f → v.seen ≡ zeros problem.m → All (λ a. a < problem.modulus) v.seen
   unread_residues f is none = subst (All (λ a. a < problem.modulus)) (sym none) (zeros_residues problem.m)
@@ -97,7 +101,8 @@ module _ (problem : Problem) (crew : ℕ) (setting : IsSetting problem crew) (s 
       let read : IsRead problem s (phase.Reading row column holder at) v.seen = subst (λ (f : Phase). IsRead problem s f v.seen) is (h.read_prefix i lt) in
       let row_is = h.held_in_span.residues column read.0 in
       All-from_get_or (λ a. a < problem.modulus) v.seen 0 (λ j within. elim (cases_lt j at) [
-        | inl before ↦ subst (λ (k : ℕ). k < problem.modulus) (sym (read.2 j before)) (All-get_or (λ a. a < problem.modulus) _ j 0 (omega (arith, row_is.size, within, (h.ranges.views i lt).seen)) row_is.residues)
+        | inl before ↦ subst (λ (k : ℕ). k < problem.modulus) (sym (read.2 j before))
+            (All-get_or (λ a. a < problem.modulus) _ j 0 (omega (arith, row_is.size, within, (h.ranges.views i lt).seen)) row_is.residues)
         | inr from ↦ omega (arith, read.3 j from (omega (arith, within, (h.ranges.views i lt).seen)), two)
       ])
   seen_residues phase.Ended is = unread_residues phase.Ended is (unread_at phase.Ended is)
@@ -115,7 +120,8 @@ module _ (problem : Problem) (crew : ℕ) (setting : IsSetting problem crew) (s 
       let n : ℕ = problem.n in
       let m : ℕ = problem.m in
       let own : v.steps ≤ v.drawn * steps_of_row m + 1 = (counted problem crew s h).steps i lt in
-      let most : v.drawn * steps_of_row m ≤ n * steps_of_row m = mul-le v.drawn (steps_of_row m) n (steps_of_row m) (omega (arith, drawn_few, h.counter_sum.few)) (omega arith) in
+      let most : v.drawn * steps_of_row m ≤ n * steps_of_row m = mul-le v.drawn (steps_of_row m) n (steps_of_row m)
+      (omega (arith, drawn_few, h.counter_sum.few)) (omega arith) in
       let split : n * steps_of_row m ≡ n * (m * m + 3 * m) + n * 1 = mul-add n (m * m + 3 * m) 1 in
       let again : n * (m * m + 3 * m) ≡ n * (m * m) + n * (3 * m) = mul-add n (m * m) (3 * m) in
       let square : n * (m * m) ≡ n * m * m = sym (mul_assoc n m m) in

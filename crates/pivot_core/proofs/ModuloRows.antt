@@ -34,8 +34,16 @@ module _ (problem : Problem) (modulus : IsFieldModulus problem.modulus) where
   abbrev of_residue : ℕ → k.F
   of_residue n = res p modulus n
 
-  pub modulo_grows : (s t : State) → KeepsHeld problem s t → (row current : List ℕ) → IsModulo problem modulus s row current → IsModulo problem modulus t row current
-  modulo_grows s t keeps row current h = record { factor = h.factor; some = h.some; residue = h.residue; rest = h.rest; inside = spans_grow problem modulus s t keeps h.rest h.inside; sum = h.sum }
+  pub modulo_grows : (s t : State) → KeepsHeld problem s t → (row current : List ℕ) → IsModulo problem modulus s row current →
+      IsModulo problem modulus t row current
+  modulo_grows s t keeps row current h = record {
+    factor = h.factor;
+    some = h.some;
+    residue = h.residue;
+    rest = h.rest;
+    inside = spans_grow problem modulus s t keeps h.rest h.inside;
+    sum = h.sum;
+  }
 
   -- a row that is not 0, and itself made monic
   pub begins_modulo : (s : State) (y : List ℕ) → 0 < get_or y (lead_at y) 0 → get_or y (lead_at y) 0 < p → IsModulo problem modulus s y (made_monic p y)
@@ -45,17 +53,22 @@ module _ (problem : Problem) (modulus : IsFieldModulus problem.modulus) where
     residue = small;
     rest = λ c. k.zero;
     inside = IsInSpan-zero k ℕ (OneHeld problem modulus s);
-    sum = λ c. vec-made_monic p modulus y c some small ∙ sym (k.add_zero (k.mul (of_residue (get_or y (lead_at y) 0)) (vector_of problem modulus (made_monic p y) c)));
+    sum = λ c. vec-made_monic p modulus y c some small ∙ sym (k.add_zero
+        (k.mul (of_residue (get_or y (lead_at y) 0)) (vector_of problem modulus (made_monic p y) c)));
   }
 
   -- a multiple of a vector of the span, and a vector of the span
-  multiple_and_rest : (s : State) (a : k.F) (u r : Vp problem modulus) → HeldSpan problem modulus s u → HeldSpan problem modulus s r → HeldSpan problem modulus s (λ c. k.add (k.mul a (u c)) (r c))
-  multiple_and_rest s a u r hu hr = IsInSpan-add k ℕ (OneHeld problem modulus s) (λ c. k.mul a (u c)) r (IsInSpan-scaled k ℕ (OneHeld problem modulus s) a u hu) hr
+  multiple_and_rest : (s : State) (a : k.F) (u r : Vp problem modulus) → HeldSpan problem modulus s u → HeldSpan problem modulus s r →
+      HeldSpan problem modulus s (λ c. k.add (k.mul a (u c)) (r c))
+  multiple_and_rest s a u r hu hr = IsInSpan-add k ℕ (OneHeld problem modulus s) (λ c. k.mul a (u c)) r
+      (IsInSpan-scaled k ℕ (OneHeld problem modulus s) a u hu) hr
 
   -- a row that is a multiple of a vector of the span, but for a rest in the span
-  pub modulo_inside : (s : State) (row current : List ℕ) → IsModulo problem modulus s row current → HeldSpan problem modulus s (vector_of problem modulus current) → HeldSpan problem modulus s (vector_of problem modulus row)
+  pub modulo_inside : (s : State) (row current : List ℕ) → IsModulo problem modulus s row current →
+      HeldSpan problem modulus s (vector_of problem modulus current) → HeldSpan problem modulus s (vector_of problem modulus row)
   modulo_inside s row current h inside =
-      same_span k ℕ (OneHeld problem modulus s) (λ c. k.add (k.mul (of_residue h.factor) (vector_of problem modulus current c)) (h.rest c)) (vector_of problem modulus row) (λ c. sym (h.sum c))
+      same_span k ℕ (OneHeld problem modulus s) (λ c. k.add (k.mul (of_residue h.factor) (vector_of problem modulus current c)) (h.rest c))
+      (vector_of problem modulus row) (λ c. sym (h.sum c))
       (multiple_and_rest s (of_residue h.factor) (vector_of problem modulus current) h.rest inside h.inside)
 
   module _ (current h y : List ℕ) (size : length current ≡ length h) (is : y ≡ difference p current h) where
@@ -68,14 +81,18 @@ module _ (problem : Problem) (modulus : IsFieldModulus problem.modulus) where
         sym (ap (λ (a : k.F). k.add a (vector_of problem modulus h c)) less ∙ restored k (vector_of problem modulus current c) (vector_of problem modulus h c))
 
     -- where nothing is left
-    pub nothing_left : (s : State) (m : ℕ) → length y ≡ m → m ≤ lead_at y → HeldSpan problem modulus s (vector_of problem modulus h) → HeldSpan problem modulus s (vector_of problem modulus current)
+    pub nothing_left : (s : State) (m : ℕ) → length y ≡ m → m ≤ lead_at y → HeldSpan problem modulus s (vector_of problem modulus h) →
+        HeldSpan problem modulus s (vector_of problem modulus current)
     nothing_left s m wide past inside =
         same_span k ℕ (OneHeld problem modulus s) (vector_of problem modulus h) (vector_of problem modulus current)
-        (λ c. sym (split c ∙ ap (λ (a : k.F). k.add a (vector_of problem modulus h c)) (vec-zero p modulus y c (zero_row m y wide past c)) ∙ zero_add k (vector_of problem modulus h c)))
+        (λ c. sym (split c ∙ ap (λ (a : k.F). k.add a (vector_of problem modulus h c)) (vec-zero p modulus y c (zero_row m y wide past c))
+        ∙ zero_add k (vector_of problem modulus h c)))
         inside
 
     -- what is left, made monic
-    pub loses_row : (s : State) (row : List ℕ) → IsModulo problem modulus s row current → HeldSpan problem modulus s (vector_of problem modulus h) → 0 < get_or y (lead_at y) 0 → get_or y (lead_at y) 0 < p → IsModulo problem modulus s row (made_monic p y)
+    pub loses_row : (s : State) (row : List ℕ) → IsModulo problem modulus s row current →
+        HeldSpan problem modulus s (vector_of problem modulus h) → 0 < get_or y (lead_at y) 0 → get_or y (lead_at y) 0 < p →
+        IsModulo problem modulus s row (made_monic p y)
     loses_row s row r inside some small =
         let b : ℕ = get_or y (lead_at y) 0 in
         let f : ℕ = r.factor in
@@ -88,7 +105,8 @@ module _ (problem : Problem) (modulus : IsFieldModulus problem.modulus) where
           rest = λ c. k.add (k.mul (of_residue f) (lost c)) (r.rest c);
           inside = multiple_and_rest s (of_residue f) lost r.rest inside r.inside;
           sum = λ c. r.sum c
-              ∙ ap (λ (a : k.F). k.add (k.mul (of_residue f) a) (r.rest c)) (split c ∙ ap (λ (a : k.F). k.add a (lost c)) (vec-made_monic p modulus y c some small))
+              ∙ ap (λ (a : k.F). k.add (k.mul (of_residue f) a) (r.rest c))
+              (split c ∙ ap (λ (a : k.F). k.add a (lost c)) (vec-made_monic p modulus y c some small))
               ∙ regrouped k (of_residue f) (of_residue b) (z c) (lost c) (r.rest c)
               ∙ ap (λ (a : k.F). k.add (k.mul a (z c)) (k.add (k.mul (of_residue f) (lost c)) (r.rest c))) (sym (res-product p modulus f b));
         }

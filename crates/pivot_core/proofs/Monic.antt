@@ -1,5 +1,6 @@
 -- Leading columns, and rows made monic.
-use Rattle.std.proofs.Common.{inl, inr, ◌*◌, ◌+◌, ◌≡◌, ◌≢◌, ℕ, zero, suc, ◌%◌, ◌<◌, ◌≤◌, ◌==◌, Bool, true, false, cond, length, get_or, List, [], ◌∷◌, refl, sym, ap, ◌∙◌, arith}
+use Rattle.std.proofs.Common.{inl, inr, ◌*◌, ◌+◌, ◌≡◌, ◌≢◌, ℕ, zero, suc, ◌%◌, ◌<◌, ◌≤◌, ◌==◌, Bool, true, false, cond, length, get_or, List, [], ◌∷◌}
+use Rattle.std.proofs.Common.{refl, sym, ap, ◌∙◌, arith}
 use Rattle.std.proofs.Math.Nat.{mod-eq_of_lt, mul_assoc, mul_comm, mul-one}
 use Rattle.std.proofs.lemmas.Nat.{mul-mod_first, mul-mod_second}
 use Rattle.std.proofs.lemmas.Bool.{cases_eq, cases_lt, eqb-true, eqb-false}
@@ -12,7 +13,8 @@ pub lead_at-before : (y : List ℕ) (j : ℕ) → j < lead_at y → get_or y j z
 lead_at-before [] j lt = absurd (omega (arith, lt))
 lead_at-before (x ∷ y) j lt = by_answer (lead_at-before y) (x == 0) refl j lt
   where
-    by_answer : ((j : ℕ) → j < lead_at y → get_or y j zero ≡ zero) → (b : Bool) → (x == 0) ≡ b → (j : ℕ) → j < cond b (suc (lead_at y)) 0 → get_or (x ∷ y) j zero ≡ zero
+    by_answer : ((j : ℕ) → j < lead_at y → get_or y j zero ≡ zero) → (b : Bool) → (x == 0) ≡ b → (j : ℕ) → j < cond b (suc (lead_at y)) 0 →
+        get_or (x ∷ y) j zero ≡ zero
     by_answer rest true e zero lt = eqb-true x 0 e
     by_answer rest true e (suc j) lt = rest j (omega (arith, lt))
     by_answer rest false e j lt = absurd (omega (arith, lt))
@@ -22,7 +24,8 @@ pub lead_at-other : (y : List ℕ) → lead_at y < length y → get_or y (lead_a
 lead_at-other [] lt = absurd (omega (arith, lt))
 lead_at-other (x ∷ y) lt = by_answer (lead_at-other y) (x == 0) refl lt
   where
-    by_answer : (lead_at y < length y → get_or y (lead_at y) zero ≢ zero) → (b : Bool) → (x == 0) ≡ b → cond b (suc (lead_at y)) 0 < suc (length y) → get_or (x ∷ y) (cond b (suc (lead_at y)) 0) zero ≢ zero
+    by_answer : (lead_at y < length y → get_or y (lead_at y) zero ≢ zero) → (b : Bool) → (x == 0) ≡ b →
+        cond b (suc (lead_at y)) 0 < suc (length y) → get_or (x ∷ y) (cond b (suc (lead_at y)) 0) zero ≢ zero
     by_answer rest true e lt = rest (omega (arith, lt))
     by_answer rest false e lt = eqb-false x 0 e
 
@@ -54,7 +57,8 @@ inverse_below-right : (p a k b : ℕ) → b < k → product_of p a b ≡ 1 → p
 inverse_below-right p a zero b lt is = absurd (omega (arith, lt))
 inverse_below-right p a (suc k) b lt is = by_answer (λ other. inverse_below-right p a k b (omega (arith, lt, other)) is) (product_of p a k == 1) refl
   where
-    by_answer : (b ≢ k → product_of p a (inverse_below p a k) ≡ 1) → (found : Bool) → (product_of p a k == 1) ≡ found → product_of p a (cond found k (inverse_below p a k)) ≡ 1
+    by_answer : (b ≢ k → product_of p a (inverse_below p a k) ≡ 1) → (found : Bool) → (product_of p a k == 1) ≡ found →
+        product_of p a (cond found k (inverse_below p a k)) ≡ 1
     by_answer rest true e = eqb-true (product_of p a k) 1 e
     by_answer rest false e = rest (λ same. eqb-false (product_of p a k) 1 e (ap (λ (n : ℕ). product_of p a n) (sym same) ∙ is))
 
@@ -73,8 +77,10 @@ inverse_below-small p a (suc k) some = by_answer (inverse_below-small p a k) (pr
 inverse_unique : (p a i j : ℕ) → i < p → j < p → product_of p a i ≡ 1 → product_of p a j ≡ 1 → i ≡ j
 inverse_unique p a i j li lj one one' =
     sym (mod-eq_of_lt li)
-    ∙ ap (λ (n : ℕ). n % p) (sym (mul-one i)) ∙ ap (λ (n : ℕ). (i * n) % p) (sym one') ∙ mul-mod_second i (a * j) p ∙ ap (λ (n : ℕ). n % p) (sym (mul_assoc i a j))
-    ∙ sym (mul-mod_first (i * a) j p) ∙ ap (λ (n : ℕ). (n % p * j) % p) (mul_comm i a) ∙ ap (λ (n : ℕ). (n * j) % p) one ∙ ap (λ (n : ℕ). n % p) (omega arith) ∙ mod-eq_of_lt lj
+    ∙ ap (λ (n : ℕ). n % p) (sym (mul-one i)) ∙ ap (λ (n : ℕ). (i * n) % p) (sym one') ∙ mul-mod_second i (a * j) p
+    ∙ ap (λ (n : ℕ). n % p) (sym (mul_assoc i a j))
+    ∙ sym (mul-mod_first (i * a) j p) ∙ ap (λ (n : ℕ). (n % p * j) % p) (mul_comm i a) ∙ ap (λ (n : ℕ). (n * j) % p) one
+    ∙ ap (λ (n : ℕ). n % p) (omega arith) ∙ mod-eq_of_lt lj
 
 pub inverse_of-is : (p a i : ℕ) → i < p → product_of p a i ≡ 1 → i ≡ inverse_of p a
 inverse_of-is p a i lt one = inverse_unique p a i (inverse_of p a) lt (inverse_below-small p a p (omega (arith, lt))) one (inverse_below-right p a p i lt one)
@@ -91,7 +97,8 @@ made_monic-before p y j lt =
     let i : ℕ = inverse_of p (get_or y (lead_at y) 0) in
     made_monic-at p y j ∙ ap (λ (n : ℕ). product_of p i n) (lead_at-before y j lt) ∙ scaled_zero p i
 
-pub made_monic-one : (p : ℕ) (y : List ℕ) → IsFieldModulus p → 0 < get_or y (lead_at y) 0 → get_or y (lead_at y) 0 < p → get_or (made_monic p y) (lead_at y) 0 ≡ 1
+pub made_monic-one : (p : ℕ) (y : List ℕ) → IsFieldModulus p → 0 < get_or y (lead_at y) 0 → get_or y (lead_at y) 0 < p →
+    get_or (made_monic p y) (lead_at y) 0 ≡ 1
 made_monic-one p y f some small =
     let a : ℕ = get_or y (lead_at y) 0 in
     made_monic-at p y (lead_at y) ∙ ap (λ (n : ℕ). n % p) (mul_comm (inverse_of p a) a) ∙ inverse_of-right p a f some small

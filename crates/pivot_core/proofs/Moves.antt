@@ -11,7 +11,8 @@ use Rattle.pivot_core.specs.Views.{difference, given_row, lead_at, made_monic, z
 
 -- a row goes on as y, or is given up where y is 0
 pub data IsSettling (problem : Problem) (y : List ℕ) (row : ℕ) (w : Sight) : Type 0 where
-  goes_on : lead_at y < problem.m → w.phase ≡ phase.Looking row (lead_at y) → w.current ≡ made_monic problem.modulus y → w.seen ≡ zeros problem.m → IsSettling problem y row w
+  goes_on : lead_at y < problem.m → w.phase ≡ phase.Looking row (lead_at y) → w.current ≡ made_monic problem.modulus y →
+      w.seen ≡ zeros problem.m → IsSettling problem y row w
   given_up : problem.m ≤ lead_at y → w.phase ≡ phase.Fresh → w.current ≡ zeros problem.m → w.seen ≡ zeros problem.m → IsSettling problem y row w
 
 -- a step later, with this clock, this many rows drawn and these calls
@@ -89,7 +90,8 @@ module _ (problem : Problem) (v : Sight) (old : ℕ) (w : Sight) (a : Spot) (x :
     pub now : w.phase ≡ phase.Fresh
     pub current : w.current ≡ zeros problem.m
     pub seen : w.seen ≡ v.seen
-    pub later : IsLater v w (v.clock + 1) v.drawn (v.calls ++ record { seat = v.seat; stamp = v.clock + 1; column = column; row = row; answer = answer.Won } ∷ [])
+    pub later : IsLater v w (v.clock + 1) v.drawn (v.calls ++ record
+        { seat = v.seat; stamp = v.clock + 1; column = column; row = row; answer = answer.Won } ∷ [])
 
   pub record IsLostClaim : Type 0 where
     pub row : ℕ
@@ -102,7 +104,13 @@ module _ (problem : Problem) (v : Sight) (old : ℕ) (w : Sight) (a : Spot) (x :
     pub current : w.current ≡ v.current
     pub seen : w.seen ≡ zeros problem.m
     pub later : IsLater v w (max v.clock (stamp_in old) + 1) v.drawn
-        (v.calls ++ record { seat = v.seat; stamp = max v.clock (stamp_in old) + 1; column = column; row = row; answer = answer.Lost (row_in old) (stamp_in old) } ∷ [])
+        (v.calls ++ record {
+          seat = v.seat;
+          stamp = max v.clock (stamp_in old) + 1;
+          column = column;
+          row = row;
+          answer = answer.Lost (row_in old) (stamp_in old);
+        } ∷ [])
 
   pub record IsMoreRead : Type 0 where
     pub row : ℕ

@@ -47,7 +47,8 @@ module _ (problem : Problem) (crew : ℕ) where
     words = length-zeros (1 + problem.m + problem.n * problem.m);
     count = length-map-range_with_len (fresh problem.m) 0 crew;
     seats = λ i lt. ap (λ (v : Sight). v.seat) (opens_fresh i lt);
-    views = λ i lt. view_by (IsSight problem.m problem.n) i lt (record { numbers = tt; current = length-zeros problem.m; seen = length-zeros problem.m; idle = refl; unread = refl });
+    views = λ i lt. view_by (IsSight problem.m problem.n) i lt (record
+        { numbers = tt; current = length-zeros problem.m; seen = length-zeros problem.m; idle = refl; unread = refl });
     claims = λ c lt. inl (opens_zero (claim_of c));
   }
 
@@ -88,7 +89,12 @@ module _ (problem : Problem) (crew : ℕ) where
     counter_sum = opens_counter_sum;
     disjoint_rows = opens_disjoint_rows;
     held_in_span = record { residues = λ c h. absurd (opens_free c h); one = λ c h. absurd (opens_free c h); inside = λ modulus c h. absurd (opens_free c h) };
-    published_prefix = record { residues = λ i r lt h. absurd (opens_idle i r lt h); before = λ i r j lt h low. absurd (opens_idle i r lt h); one = λ i r lt h. absurd (opens_idle i r lt h); published = λ i r j lt h from upto. absurd (opens_idle i r lt h) };
+    published_prefix = record {
+      residues = λ i r lt h. absurd (opens_idle i r lt h);
+      before = λ i r j lt h low. absurd (opens_idle i r lt h);
+      one = λ i r lt h. absurd (opens_idle i r lt h);
+      published = λ i r j lt h from upto. absurd (opens_idle i r lt h);
+    };
     read_prefix = λ i lt. view_by (λ (v : Sight). IsRead problem s v.phase v.seen) i lt tt;
     current_modulo_held = λ modulus i r lt h. absurd (opens_idle i r lt h);
     settled_in_span = λ modulus r lt settled. absurd (omega (arith, lt, opens_zero counter));

@@ -18,10 +18,12 @@ use Rattle.pivot_core.proofs.Changes.{IsChange, each_view}
 use Rattle.pivot_core.proofs.ClaimWords.{few_rows, told}
 use Rattle.pivot_core.proofs.Effects.{claims_cases, won_elsewhere}
 use Rattle.pivot_core.proofs.Zeros.{length-zeros}
-use Rattle.pivot_core.proofs.Moves.{IsMove, IsSettling, IsWonClaim, given_up, goes_on, draws, ends, looks_free, looks_held, puts, wins, loses, reads_more, reads_last}
+use Rattle.pivot_core.proofs.Moves.{IsMove, IsSettling, IsWonClaim, given_up, goes_on, draws, ends, looks_free, looks_held, puts, wins, loses}
+use Rattle.pivot_core.proofs.Moves.{reads_more, reads_last}
 
 -- a view by its phase and lists
-sight_of_parts : (m n : ℕ) (w : Sight) (f : Phase) (current seen : List ℕ) → w.phase ≡ f → w.current ≡ current → w.seen ≡ seen → IsPhase m n f → length current ≡ m → length seen ≡ m → IsIdle m f current → IsUnread m f seen → IsSight m n w
+sight_of_parts : (m n : ℕ) (w : Sight) (f : Phase) (current seen : List ℕ) → w.phase ≡ f → w.current ≡ current → w.seen ≡ seen →
+    IsPhase m n f → length current ≡ m → length seen ≡ m → IsIdle m f current → IsUnread m f seen → IsSight m n w
 sight_of_parts m n w f current seen now is_current is_seen numbers size seen_size idle unread = record {
   numbers = subst (IsPhase m n) (sym now) numbers;
   current = ap length is_current ∙ size;
@@ -50,36 +52,48 @@ module _ (problem : Problem) (v : Sight) (old : ℕ) (w : Sight) (a : Spot) (x :
   idle_at f is = subst (λ (g : Phase). IsIdle m g v.current) is before.idle
 
   settled_sight : (y : List ℕ) (row : ℕ) → row < n → length y ≡ m → IsSettling problem y row w → Now
-  settled_sight y row lt size (goes_on within now current seen) = sight_of_parts m n w (phase.Looking row (lead_at y)) _ _ now current seen (lt, within) (length-map y _ ∙ size) (length-zeros m) tt refl
-  settled_sight y row lt size (given_up past now current seen) = sight_of_parts m n w phase.Fresh _ _ now current seen tt (length-zeros m) (length-zeros m) refl refl
+  settled_sight y row lt size (goes_on within now current seen) =
+      sight_of_parts m n w (phase.Looking row (lead_at y)) _ _ now current seen (lt, within) (length-map y _ ∙ size) (length-zeros m) tt
+      refl
+  settled_sight y row lt size (given_up past now current seen) = sight_of_parts m n w phase.Fresh _ _ now current seen tt (length-zeros m)
+      (length-zeros m) refl refl
 
   -- the view after a move is in range where a claim word that is met tells a row
   pub sight_after : (old ≢ 0 → (c : ℕ) → a ≡ claim_of c → c < m → row_in old < n) → IsMove problem v old w a x → Now
   sight_after holder (draws k) = settled_sight (given_row problem old) old k.some (row_size m n problem.cells.items old problem.shape k.some) k.settling
-  sight_after holder (ends k) = sight_of_parts m n w phase.Ended _ _ k.now k.same.current k.same.seen tt before.current before.seen (idle_at phase.Fresh k.was) (unread_at phase.Fresh k.was)
+  sight_after holder (ends k) = sight_of_parts m n w phase.Ended _ _ k.now k.same.current k.same.seen tt before.current before.seen
+      (idle_at phase.Fresh k.was) (unread_at phase.Fresh k.was)
   sight_after holder (looks_free k) =
       let numbers = numbers_at (phase.Looking k.row k.column) k.was in
-      sight_of_parts m n w (phase.Putting k.row k.column k.column) _ _ k.now k.same.current k.same.seen (numbers.0, omega arith, numbers.1) before.current before.seen tt (unread_at (phase.Looking k.row k.column) k.was)
+      sight_of_parts m n w (phase.Putting k.row k.column k.column) _ _ k.now k.same.current k.same.seen (numbers.0, omega arith, numbers.1)
+      before.current before.seen tt (unread_at (phase.Looking k.row k.column) k.was)
   sight_after holder (looks_held k) =
       let numbers = numbers_at (phase.Looking k.row k.column) k.was in
-      sight_of_parts m n w (phase.Reading k.row k.column (row_in old) k.column) _ _ k.now k.current k.seen (numbers.0, holder k.held k.column k.spot numbers.1, omega arith, numbers.1) before.current (length-zeros m) tt tt
+      sight_of_parts m n w (phase.Reading k.row k.column (row_in old) k.column) _ _ k.now k.current k.seen
+      (numbers.0, holder k.held k.column k.spot numbers.1, omega arith, numbers.1) before.current (length-zeros m) tt tt
   sight_after holder (puts k) =
       let numbers = numbers_at (phase.Putting k.row k.column k.at) k.was in
       let unread : v.seen ≡ zeros m = unread_at (phase.Putting k.row k.column k.at) k.was in
       elim k.now [
-        | inl more ↦ sight_of_parts m n w (phase.Putting k.row k.column (k.at + 1)) _ _ more.1 k.same.current k.same.seen (numbers.0, omega (arith, numbers.1), more.0) before.current before.seen tt unread
-        | inr last ↦ sight_of_parts m n w (phase.Claiming k.row k.column) _ _ last.1 k.same.current k.same.seen (numbers.0, omega (arith, numbers.1, numbers.2)) before.current before.seen tt unread
+        | inl more ↦ sight_of_parts m n w (phase.Putting k.row k.column (k.at + 1)) _ _ more.1 k.same.current k.same.seen
+            (numbers.0, omega (arith, numbers.1), more.0) before.current before.seen tt unread
+        | inr last ↦ sight_of_parts m n w (phase.Claiming k.row k.column) _ _ last.1 k.same.current k.same.seen
+            (numbers.0, omega (arith, numbers.1, numbers.2)) before.current before.seen tt unread
       ]
-  sight_after holder (wins k) = sight_of_parts m n w phase.Fresh _ _ k.now k.current k.seen tt (length-zeros m) before.seen refl (unread_at (phase.Claiming k.row k.column) k.was)
+  sight_after holder (wins k) = sight_of_parts m n w phase.Fresh _ _ k.now k.current k.seen tt (length-zeros m) before.seen refl
+      (unread_at (phase.Claiming k.row k.column) k.was)
   sight_after holder (loses k) =
       let numbers = numbers_at (phase.Claiming k.row k.column) k.was in
-      sight_of_parts m n w (phase.Reading k.row k.column (row_in old) k.column) _ _ k.now k.current k.seen (numbers.0, holder k.held k.column k.spot numbers.1, omega arith, numbers.1) before.current (length-zeros m) tt tt
+      sight_of_parts m n w (phase.Reading k.row k.column (row_in old) k.column) _ _ k.now k.current k.seen
+      (numbers.0, holder k.held k.column k.spot numbers.1, omega arith, numbers.1) before.current (length-zeros m) tt tt
   sight_after holder (reads_more k) =
       let numbers = numbers_at (phase.Reading k.row k.column k.holder k.at) k.was in
-      sight_of_parts m n w (phase.Reading k.row k.column k.holder (k.at + 1)) _ _ k.now k.current k.seen (numbers.0, numbers.1, omega (arith, numbers.2), k.more) before.current (length-set v.seen k.at old ∙ before.seen) tt tt
+      sight_of_parts m n w (phase.Reading k.row k.column k.holder (k.at + 1)) _ _ k.now k.current k.seen
+      (numbers.0, numbers.1, omega (arith, numbers.2), k.more) before.current (length-set v.seen k.at old ∙ before.seen) tt tt
   sight_after holder (reads_last k) =
       let numbers = numbers_at (phase.Reading k.row k.column k.holder k.at) k.was in
-      settled_sight (difference problem.modulus v.current (set v.seen k.at old)) k.row numbers.0 (length-plus_multiple problem.modulus (negative_of problem.modulus 1) v.current (set v.seen k.at old) ∙ before.current) k.settling
+      settled_sight (difference problem.modulus v.current (set v.seen k.at old)) k.row numbers.0
+      (length-plus_multiple problem.modulus (negative_of problem.modulus 1) v.current (set v.seen k.at old) ∙ before.current) k.settling
 
   pub same_seat : IsMove problem v old w a x → w.seat ≡ v.seat
   same_seat (draws k) = k.later.seat
@@ -104,15 +118,20 @@ module _ (problem : Problem) (crew : ℕ) (s t : State) (seat : ℕ) (w : Sight)
   ranges_kept r small move = record {
     words = c.word_count ∙ r.words;
     count = c.view_count ∙ r.count;
-    seats = each_view problem crew s t seat w a x c (λ i u. u.seat ≡ i) (same_seat problem (view_at problem s seat) (word_at problem s a) w a x (r.views seat c.below) move ∙ r.seats seat c.below) (λ i lt other. r.seats i lt);
+    seats = each_view problem crew s t seat w a x c (λ i u. u.seat ≡ i)
+        (same_seat problem (view_at problem s seat) (word_at problem s a) w a x (r.views seat c.below) move ∙ r.seats seat c.below)
+        (λ i lt other. r.seats i lt);
     views = each_view problem crew s t seat w a x c (λ i u. IsSight problem.m problem.n u)
         (sight_after problem (view_at problem s seat) (word_at problem s a) w a x (r.views seat c.below)
-        (λ other d is lt. (told problem.n (word_at problem s a) (few_rows problem d lt) (subst (λ (b : Spot). IsClaimWord problem.n (word_at problem s b)) (sym is) (r.claims d lt)) other).row) move) (λ i lt other. r.views i lt);
+        (λ other d is lt. (told problem.n (word_at problem s a) (few_rows problem d lt)
+        (subst (λ (b : Spot). IsClaimWord problem.n (word_at problem s b)) (sym is) (r.claims d lt)) other).row) move)
+        (λ i lt other. r.views i lt);
     claims = λ d lt. elim (claims_cases problem crew s t seat w a x c move) [
       | inr stay ↦ subst (IsClaimWord problem.n) (sym (stay d lt)) (r.claims d lt)
       | inl k ↦ elim (cases_eq d k.column) [
         | inr other ↦ subst (IsClaimWord problem.n) (sym (won_elsewhere problem crew s t seat w a x c k d lt other)) (r.claims d lt)
-        | inl is ↦ (let numbers = numbers_at problem (view_at problem s seat) (word_at problem s a) w a x (r.views seat c.below) (phase.Claiming k.row k.column) k.was in
+        | inl is ↦ (let numbers = numbers_at problem (view_at problem s seat) (word_at problem s a) w a x (r.views seat c.below)
+            (phase.Claiming k.row k.column) k.was in
             inr (record {
               stamp = (view_at problem s seat).clock + 1;
               row = k.row;

@@ -24,7 +24,8 @@ use Rattle.pivot_core.proofs.RunLaws.{after_events-append}
 use Rattle.pivot_core.proofs.Table.{IsTaken, by_bool, made_change, made_next, move_of, none_not_some, same_some, taken}
 
 -- a look at a column that is held
-held_reply : (problem : Problem) (v : Sight) (row column old : ℕ) (t : Stepped) → v.phase ≡ phase.Looking row column → old ≢ 0 → met problem v old ≡ Some t → t.reply ≡ reply.Held (row_in old) (stamp_in old)
+held_reply : (problem : Problem) (v : Sight) (row column old : ℕ) (t : Stepped) → v.phase ≡ phase.Looking row column → old ≢ 0 →
+    met problem v old ≡ Some t → t.reply ≡ reply.Held (row_in old) (stamp_in old)
 held_reply problem v row column old t is other e =
     let gives = same_some _ t (ap (λ (f : Phase). by_phase problem (record v { steps = v.steps + 1 }) f old) (sym is) ∙ e) in
     sym (ap (λ (u : Stepped). u.reply) gives)
@@ -37,12 +38,14 @@ looks_find_calls problem crew setting events e row column kind is k there same t
     let next = made_next problem crew s e t h.ranges gives in
     let v : Sight = view_at problem s e.seat in
     let own : IsCall problem s e.seat v.clock k = subst (IsCall problem s e.seat v.clock) there.2 (h.calls_and_counts.each e.seat next.0 there.0 k there.1) in
-    let met_is : word_at problem s (spot_of v.phase) ≡ claim_at problem s k.column = ap (λ (f : Phase). word_at problem s (spot_of f)) is ∙ ap (claim_at problem s) (sym same) in
+    let met_is : word_at problem s (spot_of v.phase) ≡ claim_at problem s k.column = ap (λ (f : Phase). word_at problem s (spot_of f)) is
+    ∙ ap (claim_at problem s) (sym same) in
     let held = call_held problem s e.seat v.clock k own in
     held_reply problem v row column (word_at problem s (spot_of v.phase)) t is (λ none. held.some (sym met_is ∙ none)) next.1
     ∙ ap (λ (x : ℕ). reply.Held (row_in x) (stamp_in x)) met_is ∙ by_answer s k k.answer own.answered
   where
-    by_answer : (s : State) (k : Call) (a : Answer) → IsAnswered problem s k a → reply.Held (row_in (claim_at problem s k.column)) (stamp_in (claim_at problem s k.column)) ≡ left_by k a
+    by_answer : (s : State) (k : Call) (a : Answer) → IsAnswered problem s k a →
+        reply.Held (row_in (claim_at problem s k.column)) (stamp_in (claim_at problem s k.column)) ≡ left_by k a
     by_answer s k answer.Won h = ap₂ (λ (r n : ℕ). reply.Held r n) h.1 h.2
     by_answer s k (answer.Lost r n) h = ap₂ (λ (r n : ℕ). reply.Held r n) h.1 h.2
 
@@ -59,19 +62,25 @@ told_by problem v (phase.Reading row column holder at) old t e = subst (λ (u : 
 told_by problem v phase.Ended old t e = absurd (none_not_some t e)
 
 module _ (problem : Problem) (crew : ℕ) (setting : IsSetting problem crew) where
-  calling_of : (s t : State) (h : ClaimedPivots problem crew s) (k : IsTaken problem crew s t) → IsCalling problem crew s t k.seat k.sight k.spot k.word k.change
-  calling_of s t h k = calling problem crew s t k.seat k.sight k.spot k.word k.change h.ranges (held_kept problem crew setting s t h k) h.published_prefix (h.calls_and_counts.unclaimed k.seat k.change.below) k.move
+  calling_of : (s t : State) (h : ClaimedPivots problem crew s) (k : IsTaken problem crew s t) →
+      IsCalling problem crew s t k.seat k.sight k.spot k.word k.change
+  calling_of s t h k = calling problem crew s t k.seat k.sight k.spot k.word k.change h.ranges (held_kept problem crew setting s t h k)
+      h.published_prefix (h.calls_and_counts.unclaimed k.seat k.change.below) k.move
 
   -- clocks do not fall
-  clocks_rise : (s : State) (e : Event) → ClaimedPivots problem crew s → (i : ℕ) → i < crew → (view_at problem s i).clock ≤ (view_at problem (after_event problem s e) i).clock
+  clocks_rise : (s : State) (e : Event) → ClaimedPivots problem crew s → (i : ℕ) → i < crew →
+      (view_at problem s i).clock ≤ (view_at problem (after_event problem s e) i).clock
   clocks_rise s e h i lt = taken problem crew s e h.ranges (λ t. (view_at problem s i).clock ≤ (view_at problem t i).clock) (omega arith)
-      (λ t k. each_view problem crew s t k.seat k.sight k.spot k.word k.change (λ j u. (view_at problem s j).clock ≤ u.clock) (own_clock s t h k (calling_of s t h k)) (λ j lj other. omega arith) i lt)
+      (λ t k. each_view problem crew s t k.seat k.sight k.spot k.word k.change (λ j u. (view_at problem s j).clock ≤ u.clock)
+      (own_clock s t h k (calling_of s t h k)) (λ j lj other. omega arith) i lt)
     where
-      own_clock : (s t : State) (h : ClaimedPivots problem crew s) (k : IsTaken problem crew s t) → IsCalling problem crew s t k.seat k.sight k.spot k.word k.change → (view_at problem s k.seat).clock ≤ k.sight.clock
+      own_clock : (s t : State) (h : ClaimedPivots problem crew s) (k : IsTaken problem crew s t) →
+          IsCalling problem crew s t k.seat k.sight k.spot k.word k.change → (view_at problem s k.seat).clock ≤ k.sight.clock
       own_clock s t h k (silent same le) = le
       own_clock s t h k (called c n) = omega (arith, n.later, n.clock)
 
-  clocks_rise_over : (s : State) (es : List Event) → ClaimedPivots problem crew s → (i : ℕ) → i < crew → (view_at problem s i).clock ≤ (view_at problem (after_events problem s es) i).clock
+  clocks_rise_over : (s : State) (es : List Event) → ClaimedPivots problem crew s → (i : ℕ) → i < crew →
+      (view_at problem s i).clock ≤ (view_at problem (after_events problem s es) i).clock
   clocks_rise_over s [] h i lt = omega arith
   clocks_rise_over s (e ∷ es) h i lt =
       let first = clocks_rise s e h i lt in
@@ -82,7 +91,12 @@ module _ (problem : Problem) (crew : ℕ) (setting : IsSetting problem crew) whe
   module _ (s t : State) (h : ClaimedPivots problem crew s) (taken_here : IsTaken problem crew s t) where
     above_clock : IsCalling problem crew s t taken_here.seat taken_here.sight taken_here.spot taken_here.word taken_here.change → (k : Call)
         → taken_here.sight.calls ≡ (view_at problem s taken_here.seat).calls ++ k ∷ [] → (view_at problem s taken_here.seat).clock < k.stamp
-    above_clock (silent same le) k more = absurd (omega (arith, ap length same, ap length more, length-append (view_at problem s taken_here.seat).calls (k ∷ [])))
+    above_clock (silent same le) k more = absurd (omega (
+      arith,
+      ap length same,
+      ap length more,
+      length-append (view_at problem s taken_here.seat).calls (k ∷ []),
+    ))
     above_clock (called l n) k more =
         let one : l ∷ [] ≡ k ∷ [] = append_cancel_left (view_at problem s taken_here.seat).calls (l ∷ []) (k ∷ []) (sym n.calls ∙ more) in
         let is : l.stamp ≡ k.stamp = ap first_stamp one in
@@ -109,7 +123,8 @@ calls_follow problem crew setting events more e f t u seats gives gives' k calle
     let rest : (view_at problem (after_event problem s e) e.seat).clock ≤ (view_at problem (after_events problem (after_event problem s e) more) e.seat).clock =
     clocks_rise_over problem crew setting (after_event problem s e) more (event_keeps problem crew setting s e h) e.seat next.0 in
     let same : (view_at problem (after_events problem (after_event problem s e) more) e.seat).clock ≡ w.clock =
-    ap (λ (z : State). (view_at problem z e.seat).clock) (sym (after_events-append problem (opening problem crew) events (e ∷ more))) ∙ ap (λ (i : ℕ). (view_at problem after i).clock) seats in
+    ap (λ (z : State). (view_at problem z e.seat).clock) (sym (after_events-append problem (opening problem crew) events (e ∷ more)))
+    ∙ ap (λ (i : ℕ). (view_at problem after i).clock) seats in
     let made : IsTaken problem crew after (with_step problem after f.seat (Some u)) = record {
       seat = f.seat;
       sight = u.sight;
@@ -118,5 +133,6 @@ calls_follow problem crew setting events more e f t u seats gives gives' k calle
       change = made_change problem crew after f u h'.ranges next'.0;
       move = move_of problem w (word_at problem after (spot_of w.phase)) u next'.1;
     } in
-    let above : w.clock < k.stamp = above_clock problem crew setting after (with_step problem after f.seat (Some u)) h' made (calling_of problem crew setting after (with_step problem after f.seat (Some u)) h' made) k called_k in
+    let above : w.clock < k.stamp = above_clock problem crew setting after (with_step problem after f.seat (Some u)) h' made
+    (calling_of problem crew setting after (with_step problem after f.seat (Some u)) h' made) k called_k in
     omega (arith, told, now, rest, same, above)

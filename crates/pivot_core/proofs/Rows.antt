@@ -13,7 +13,8 @@ use Rattle.pivot_core.specs.Rule.{Ranges}
 use Rattle.pivot_core.proofs.Changes.{IsChange}
 use Rattle.pivot_core.proofs.ClaimWords.{few_rows, row_in-claim_word, stamp_in-claim_word}
 use Rattle.pivot_core.proofs.Effects.{counter_cases}
-use Rattle.pivot_core.proofs.Moves.{IsDraw, IsMove, IsSettling, IsWonClaim, given_up, goes_on, draws, ends, looks_free, looks_held, puts, wins, loses, reads_more, reads_last}
+use Rattle.pivot_core.proofs.Moves.{IsDraw, IsMove, IsSettling, IsWonClaim, given_up, goes_on, draws, ends, looks_free, looks_held, puts, wins, loses}
+use Rattle.pivot_core.proofs.Moves.{reads_more, reads_last}
 
 -- a current row by its phase, and back
 pub row_in_phase : (f g : Phase) (r : ℕ) → f ≡ g → HasRow f r → HasRow g r
@@ -40,15 +41,20 @@ module _ (problem : Problem) (v : Sight) (old : ℕ) (w : Sight) (a : Spot) (x :
   pub own_row : IsMove problem v old w a x → (r : ℕ) → HasRow w.phase r → (IsDraw problem v old w a x × (r ≡ old)) ⊎ HasRow v.phase r
   own_row (draws m) r h = inl (m, sym (settled_row problem (given_row problem old) old w m.settling r h))
   own_row (ends m) r h = absurd (row_in_phase w.phase phase.Ended r m.now h)
-  own_row (looks_free m) r h = inr (row_of_phase v.phase (phase.Looking m.row m.column) r m.was (row_in_phase w.phase (phase.Putting m.row m.column m.column) r m.now h))
-  own_row (looks_held m) r h = inr (row_of_phase v.phase (phase.Looking m.row m.column) r m.was (row_in_phase w.phase (phase.Reading m.row m.column (row_in old) m.column) r m.now h))
+  own_row (looks_free m) r h = inr (row_of_phase v.phase (phase.Looking m.row m.column) r m.was
+      (row_in_phase w.phase (phase.Putting m.row m.column m.column) r m.now h))
+  own_row (looks_held m) r h = inr (row_of_phase v.phase (phase.Looking m.row m.column) r m.was
+      (row_in_phase w.phase (phase.Reading m.row m.column (row_in old) m.column) r m.now h))
   own_row (puts m) r h = elim m.now [
-    | inl more ↦ inr (row_of_phase v.phase (phase.Putting m.row m.column m.at) r m.was (row_in_phase w.phase (phase.Putting m.row m.column (m.at + 1)) r more.1 h))
+    | inl more ↦ inr (row_of_phase v.phase (phase.Putting m.row m.column m.at) r m.was
+        (row_in_phase w.phase (phase.Putting m.row m.column (m.at + 1)) r more.1 h))
     | inr last ↦ inr (row_of_phase v.phase (phase.Putting m.row m.column m.at) r m.was (row_in_phase w.phase (phase.Claiming m.row m.column) r last.1 h))
   ]
   own_row (wins m) r h = absurd (row_in_phase w.phase phase.Fresh r m.now h)
-  own_row (loses m) r h = inr (row_of_phase v.phase (phase.Claiming m.row m.column) r m.was (row_in_phase w.phase (phase.Reading m.row m.column (row_in old) m.column) r m.now h))
-  own_row (reads_more m) r h = inr (row_of_phase v.phase (phase.Reading m.row m.column m.holder m.at) r m.was (row_in_phase w.phase (phase.Reading m.row m.column m.holder (m.at + 1)) r m.now h))
+  own_row (loses m) r h = inr (row_of_phase v.phase (phase.Claiming m.row m.column) r m.was
+      (row_in_phase w.phase (phase.Reading m.row m.column (row_in old) m.column) r m.now h))
+  own_row (reads_more m) r h = inr (row_of_phase v.phase (phase.Reading m.row m.column m.holder m.at) r m.was
+      (row_in_phase w.phase (phase.Reading m.row m.column m.holder (m.at + 1)) r m.now h))
   own_row (reads_last m) r h = inr (row_of_phase v.phase (phase.Reading m.row m.column m.holder m.at) r m.was (settled_row problem _ m.row w m.settling r h))
 
   -- the row that wins was current, and none is after
@@ -89,8 +95,10 @@ module _ (problem : Problem) (crew : ℕ) (s t : State) (seat : ℕ) (w : Sight)
   -- the counter does not fall
   pub counter_rises : IsMove problem v old w a x → word_at problem s counter ≤ word_at problem t counter
   counter_rises move = elim (counter_cases problem crew s t seat w a x c move) [
-    | inl (inl m) ↦ (let met : word_at problem s counter ≡ old = ap (word_at problem s) (sym m.spot) in let now : word_at problem t counter ≡ old + 1 = ap (word_at problem t) (sym m.spot) ∙ c.word ∙ m.word in omega (arith, met, now))
-    | inl (inr m) ↦ (let met : word_at problem s counter ≡ old = ap (word_at problem s) (sym m.spot) in let now : word_at problem t counter ≡ old + 1 = ap (word_at problem t) (sym m.spot) ∙ c.word ∙ m.word in omega (arith, met, now))
+    | inl (inl m) ↦ (let met : word_at problem s counter ≡ old = ap (word_at problem s) (sym m.spot) in
+        let now : word_at problem t counter ≡ old + 1 = ap (word_at problem t) (sym m.spot) ∙ c.word ∙ m.word in omega (arith, met, now))
+    | inl (inr m) ↦ (let met : word_at problem s counter ≡ old = ap (word_at problem s) (sym m.spot) in
+        let now : word_at problem t counter ≡ old + 1 = ap (word_at problem t) (sym m.spot) ∙ c.word ∙ m.word in omega (arith, met, now))
     | inr same ↦ omega (arith, same)
   ]
 

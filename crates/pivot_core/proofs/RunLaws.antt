@@ -23,7 +23,8 @@ use Rattle.pivot_core.proofs.HeldRows.{HeldSpan, Kp, OneHeld, held_holders, held
 use Rattle.pivot_core.proofs.Kept.{claimed_pivots, event_keeps, held_kept}
 use Rattle.pivot_core.proofs.Table.{by_bool, taken, none_not_some}
 
-pub after_events-append : (problem : Problem) (s : State) (es fs : List Event) → after_events problem s (es ++ fs) ≡ after_events problem (after_events problem s es) fs
+pub after_events-append : (problem : Problem) (s : State) (es fs : List Event) →
+    after_events problem s (es ++ fs) ≡ after_events problem (after_events problem s es) fs
 after_events-append problem s [] fs = refl
 after_events-append problem s (e ∷ es) fs = after_events-append problem (after_event problem s e) es fs
 
@@ -50,7 +51,8 @@ pub held_rows_stay : HeldRowsStay
 held_rows_stay problem crew setting events more c h =
     let s : State = state_after problem crew events in
     let keeps : KeepsHeld problem s (state_after problem crew (events ++ more)) =
-    subst (KeepsHeld problem s) (sym (after_events-append problem (opening problem crew) events more)) (run_keeps_held problem crew setting s more (claimed_pivots problem crew setting events)) in
+    subst (KeepsHeld problem s) (sym (after_events-append problem (opening problem crew) events more))
+    (run_keeps_held problem crew setting s more (claimed_pivots problem crew setting events)) in
     (keeps.claims c h, held_row_after problem s (state_after problem crew (events ++ more)) c keeps h)
 
 -- a column without a holder is not held
@@ -66,7 +68,8 @@ module _ (problem : Problem) (crew : ℕ) (s : State) (setting : IsSetting probl
   value_at_held : (c k : ℕ) → k < problem.m → IsHeld problem s c → values problem s c k < problem.modulus
   value_at_held c k lt held =
       let row = h.held_in_span.residues c held in
-      subst (λ (n : ℕ). n < problem.modulus) (held_row-at problem s c k lt) (All-get_or (λ n. n < problem.modulus) _ k 0 (omega (arith, lt, row.size)) row.residues)
+      subst (λ (n : ℕ). n < problem.modulus) (held_row-at problem s c k lt)
+      (All-get_or (λ n. n < problem.modulus) _ k 0 (omega (arith, lt, row.size)) row.residues)
 
   module _ (ended : HasEnded problem s) where
     phase_ended : (i : ℕ) → i < crew → (view_at problem s i).phase ≡ phase.Ended
@@ -76,7 +79,9 @@ module _ (problem : Problem) (crew : ℕ) (s : State) (setting : IsSetting probl
     all_drawn : problem.n ≤ word_at problem s counter
     all_drawn =
         let first : is_ended (view_at problem s 0).phase ≡ 1 = ap is_ended (phase_ended 0 setting.some) in
-        let one : is_ended (view_at problem s 0).phase ≤ sum_by (λ (v : Sight). is_ended v.phase) s.views = get_or-le-sum_by (λ (v : Sight). is_ended v.phase) s.views 0 (fresh problem.m 0) (omega (arith, h.ranges.count, setting.some)) in
+        let one : is_ended (view_at problem s 0).phase ≤ sum_by (λ (v : Sight). is_ended v.phase) s.views =
+        get_or-le-sum_by (λ (v : Sight). is_ended v.phase) s.views 0 (fresh problem.m 0) (omega (arith, h.ranges.count, setting.some))
+        in
         let whole = h.counter_sum.whole (omega (arith, first, one)) in
         omega (arith, whole, h.counter_sum.counts)
 
@@ -91,7 +96,8 @@ module _ (problem : Problem) (crew : ℕ) (s : State) (setting : IsSetting probl
         before = λ k below. values-before problem s c k below;
         one = sym (held_row-at problem s c c lt) ∙ h.held_in_span.one c f.0;
       });
-      apart = λ c d r lt lt' e e'. (let f = held_holders problem s c r lt e in let g = held_holders problem s d r lt' e' in h.disjoint_rows.holders_apart c d f.0 g.0 (f.1 ∙ sym g.1));
+      apart = λ c d r lt lt' e e'. (let f = held_holders problem s c r lt e in let g = held_holders problem s d r lt' e' in
+          h.disjoint_rows.holders_apart c d f.0 g.0 (f.1 ∙ sym g.1));
       free = λ c k lt lt' e. values-free problem s c k e;
       span = λ modulus v. (
         held_within problem modulus s h.held_in_span v,
@@ -102,4 +108,5 @@ module _ (problem : Problem) (crew : ℕ) (s : State) (setting : IsSetting probl
     }
 
 pub held_rows_are_pivots : HeldRowsArePivots
-held_rows_are_pivots problem crew setting events ended = ended_pivots problem crew (state_after problem crew events) setting (claimed_pivots problem crew setting events) ended
+held_rows_are_pivots problem crew setting events ended = ended_pivots problem crew (state_after problem crew events) setting
+    (claimed_pivots problem crew setting events) ended

@@ -14,7 +14,11 @@ use Rattle.pivot_core.proofs.Table.{by_bool}
 pub settle-on : (problem : Problem) (v : Sight) (y : List ℕ) (row : ℕ) → lead_at y < problem.m
     → settle problem v y row ≡ record v { phase = phase.Looking row (lead_at y); current = made_monic problem.modulus y; seen = zeros problem.m }
 settle-on problem v y row lt =
-    by_bool (λ (w : Sight). w ≡ record v { phase = phase.Looking row (lead_at y); current = made_monic problem.modulus y; seen = zeros problem.m }) (ltb (lead_at y) problem.m) _ _
+    by_bool (λ (w : Sight). w ≡ record v {
+      phase = phase.Looking row (lead_at y);
+      current = made_monic problem.modulus y;
+      seen = zeros problem.m;
+    }) (ltb (lead_at y) problem.m) _ _
     (λ on. refl) (λ off. absurd (omega (arith, lt, ltb-false (lead_at y) problem.m off)))
 
 pub settle-off : (problem : Problem) (v : Sight) (y : List ℕ) (row : ℕ) → problem.m ≤ lead_at y
@@ -28,10 +32,12 @@ pub made_monic-is : (p : ℕ) (y : List ℕ) (i : ℕ) → i < p → product_of 
 made_monic-is p y i lt one = ap (λ (k : ℕ). map (λ x. product_of p k x) y) (inverse_of-is p (get_or y (lead_at y) 0) i lt one)
 
 -- a view that goes on, and one whose row is given up
-pub looking-is : (problem : Problem) (v : Sight) (y : List ℕ) (row column : ℕ) (current seen : List ℕ) → lead_at y < problem.m → column ≡ lead_at y → current ≡ made_monic problem.modulus y → seen ≡ zeros problem.m
+pub looking-is : (problem : Problem) (v : Sight) (y : List ℕ) (row column : ℕ) (current seen : List ℕ) → lead_at y < problem.m →
+    column ≡ lead_at y → current ≡ made_monic problem.modulus y → seen ≡ zeros problem.m
     → record v { phase = phase.Looking row column; current = current; seen = seen } ≡ settle problem v y row
 looking-is problem v y row column current seen lt is_column is_current is_seen =
-    let e : record v { phase = phase.Looking row column; current = current; seen = seen } ≡ record v { phase = phase.Looking row (lead_at y); current = made_monic problem.modulus y; seen = zeros problem.m } =
+    let e : record v { phase = phase.Looking row column; current = current; seen = seen }
+    ≡ record v { phase = phase.Looking row (lead_at y); current = made_monic problem.modulus y; seen = zeros problem.m } =
     λ i. record v { phase = phase.Looking row (is_column i); current = is_current i; seen = is_seen i } in
     e ∙ sym (settle-on problem v y row lt)
 

@@ -21,7 +21,8 @@ use Rattle.pivot_core.proofs.HeldKept.{won_held, won_row}
 use Rattle.pivot_core.proofs.HeldRows.{HeldSpan, Kp, OneHeld, held_in_own_span, spans_grow, vector_of}
 use Rattle.pivot_core.proofs.ModuloKept.{given_is_row, left_is_row, same_sizes, seen_in_span}
 use Rattle.pivot_core.proofs.ModuloRows.{modulo_grows, modulo_inside, nothing_left, zero_row}
-use Rattle.pivot_core.proofs.Moves.{IsDraw, IsEnd, IsLastRead, IsMove, IsSettling, IsWonClaim, given_up, goes_on, draws, ends, looks_free, looks_held, puts, wins, loses, reads_more, reads_last}
+use Rattle.pivot_core.proofs.Moves.{IsDraw, IsEnd, IsLastRead, IsMove, IsSettling, IsWonClaim, given_up, goes_on, draws, ends, looks_free, looks_held}
+use Rattle.pivot_core.proofs.Moves.{puts, wins, loses, reads_more, reads_last}
 use Rattle.pivot_core.proofs.Rows.{drawn_is, one_row, row_in_phase, row_of_phase, winner}
 
 module _ (problem : Problem) (crew : ℕ) (s t : State) (seat : ℕ) (w : Sight) (a : Spot) (x : ℕ) (c : IsChange problem crew s t seat w a x) where
@@ -42,55 +43,79 @@ module _ (problem : Problem) (crew : ℕ) (s t : State) (seat : ℕ) (w : Sight)
   not_own : (r : ℕ) → IsSettled problem crew t r → HasRow w.phase r → ⊥
   not_own r settled has = settled seat c.below (subst (λ (u : Sight). HasRow u.phase r) (sym c.now) has)
 
-  module _ (modulus : IsFieldModulus problem.modulus) (ranges : Ranges problem crew s) (keeps : KeepsHeld problem s t) (h : SettledInSpan problem crew s) (modulo : CurrentModuloHeld problem crew s) where
+  module _ (modulus : IsFieldModulus problem.modulus) (ranges : Ranges problem crew s) (keeps : KeepsHeld problem s t)
+      (h : SettledInSpan problem crew s) (modulo : CurrentModuloHeld problem crew s) where
     abbrev Inside : ℕ → Type 0
     Inside r = HeldSpan problem modulus t (vector_of problem modulus (given_row problem r))
 
     -- a row that was settled
     still_inside : (r : ℕ) → r < min (word_at problem s counter) problem.n → (HasRow v.phase r → ⊥) → IsSettled problem crew t r → Inside r
-    still_inside r lt own settled = spans_grow problem modulus s t keeps (vector_of problem modulus (given_row problem r)) (h modulus r lt (was_settled r own settled))
+    still_inside r lt own settled = spans_grow problem modulus s t keeps (vector_of problem modulus (given_row problem r))
+        (h modulus r lt (was_settled r own settled))
 
     -- a row of zeros
     zero_inside : (r : ℕ) → r < problem.n → problem.m ≤ lead_at (given_row problem r) → Inside r
     zero_inside r lt past =
         let k : Field = Kp problem modulus in
         same_span k ℕ (OneHeld problem modulus t) (λ d. k.zero) (vector_of problem modulus (given_row problem r))
-        (λ d. sym (vec-zero problem.modulus modulus (given_row problem r) d (zero_row problem.m (given_row problem r) (given_is_row problem r lt).size past d))) (IsInSpan-zero k ℕ (OneHeld problem modulus t))
+        (λ d. sym (vec-zero problem.modulus modulus (given_row problem r) d
+        (zero_row problem.m (given_row problem r) (given_is_row problem r lt).size past d)))
+        (IsInSpan-zero k ℕ (OneHeld problem modulus t))
 
     -- a move by which a row stays current
-    stays : (f g : Phase) → v.phase ≡ f → w.phase ≡ g → ((r : ℕ) → HasRow f r → HasRow g r) → word_at problem t counter ≡ word_at problem s counter → (r : ℕ) → r < min (word_at problem t counter) problem.n → IsSettled problem crew t r → Inside r
+    stays : (f g : Phase) → v.phase ≡ f → w.phase ≡ g → ((r : ℕ) → HasRow f r → HasRow g r) →
+        word_at problem t counter ≡ word_at problem s counter → (r : ℕ) → r < min (word_at problem t counter) problem.n →
+        IsSettled problem crew t r → Inside r
     stays f g is now rows same r lt settled =
         still_inside r (omega (arith, lt, same)) (λ has. not_own r settled (row_of_phase w.phase g r now (rows r (row_in_phase v.phase f r is has)))) settled
 
     draw_inside : IsDraw problem v old w a x → (r : ℕ) → r < min (word_at problem t counter) problem.n → IsSettled problem crew t r → Inside r
     draw_inside m r lt settled = elim (cases_eq r old) [
-      | inr other ↦ still_inside r (omega (arith, lt, other, (drawn_is problem crew s t seat w a x c m).0, (drawn_is problem crew s t seat w a x c m).1)) (row_in_phase v.phase phase.Fresh r m.was) settled
+      | inr other ↦ still_inside r (omega (
+        arith,
+        lt,
+        other,
+        (drawn_is problem crew s t seat w a x c m).0,
+        (drawn_is problem crew s t seat w a x c m).1,
+      )) (row_in_phase v.phase phase.Fresh r m.was) settled
       | inl is ↦ subst Inside (sym is) (by_settling (subst (IsSettled problem crew t) is settled) m.settling)
     ]
       where
         by_settling : IsSettled problem crew t old → IsSettling problem (given_row problem old) old w → Inside old
-        by_settling own (goes_on within now current seen) = absurd (not_own old own (row_of_phase w.phase (phase.Looking old (lead_at (given_row problem old))) old now refl))
+        by_settling own (goes_on within now current seen) = absurd (not_own old own
+            (row_of_phase w.phase (phase.Looking old (lead_at (given_row problem old))) old now refl))
         by_settling own (given_up past now current seen) = zero_inside old m.some past
 
-    won_inside : PublishedPrefix problem crew s → IsWonClaim problem v old w a x → word_at problem t counter ≡ word_at problem s counter → (r : ℕ) → r < min (word_at problem t counter) problem.n → IsSettled problem crew t r → Inside r
+    won_inside : PublishedPrefix problem crew s → IsWonClaim problem v old w a x → word_at problem t counter ≡ word_at problem s counter →
+        (r : ℕ) → r < min (word_at problem t counter) problem.n → IsSettled problem crew t r → Inside r
     won_inside published m same r lt settled = elim (cases_eq r m.row) [
       | inr other ↦ still_inside r (omega (arith, lt, same)) (λ has. other (one_row v.phase r m.row has (winner problem v old w a x m))) settled
-      | inl is ↦ subst Inside (sym is) (modulo_inside problem modulus t (given_row problem m.row) v.current (modulo_grows problem modulus s t keeps (given_row problem m.row) v.current (modulo modulus seat m.row c.below (winner problem v old w a x m)))
-          (subst (λ (row : List ℕ). HeldSpan problem modulus t (vector_of problem modulus row)) (won_row problem crew s t seat w a x c ranges published m) (held_in_own_span problem modulus t m.column (won_held problem crew s t seat w a x c ranges published m))))
+      | inl is ↦ subst Inside (sym is) (modulo_inside problem modulus t (given_row problem m.row) v.current
+          (modulo_grows problem modulus s t keeps (given_row problem m.row) v.current
+          (modulo modulus seat m.row c.below (winner problem v old w a x m)))
+          (subst (λ (row : List ℕ). HeldSpan problem modulus t (vector_of problem modulus row))
+          (won_row problem crew s t seat w a x c ranges published m)
+          (held_in_own_span problem modulus t m.column (won_held problem crew s t seat w a x c ranges published m))))
     ]
 
-    read_inside : ReadPrefix problem crew s → IsLastRead problem v old w a x → word_at problem t counter ≡ word_at problem s counter → (r : ℕ) → r < min (word_at problem t counter) problem.n → IsSettled problem crew t r → Inside r
+    read_inside : ReadPrefix problem crew s → IsLastRead problem v old w a x → word_at problem t counter ≡ word_at problem s counter →
+        (r : ℕ) → r < min (word_at problem t counter) problem.n → IsSettled problem crew t r → Inside r
     read_inside read m same r lt settled = elim (cases_eq r m.row) [
-      | inr other ↦ still_inside r (omega (arith, lt, same)) (λ has. other (sym (row_in_phase v.phase (phase.Reading m.row m.column m.holder m.at) r m.was has))) settled
+      | inr other ↦ still_inside r (omega (arith, lt, same)) (λ has. other
+          (sym (row_in_phase v.phase (phase.Reading m.row m.column m.holder m.at) r m.was has))) settled
       | inl is ↦ subst Inside (sym is) (by_settling (subst (IsSettled problem crew t) is settled) m.settling)
     ]
       where
         by_settling : IsSettled problem crew t m.row → IsSettling problem (difference problem.modulus v.current (set v.seen m.at old)) m.row w → Inside m.row
-        by_settling own (goes_on within now current seen) = absurd (not_own m.row own (row_of_phase w.phase (phase.Looking m.row (lead_at (difference problem.modulus v.current (set v.seen m.at old)))) m.row now refl))
+        by_settling own (goes_on within now current seen) = absurd (not_own m.row own
+            (row_of_phase w.phase (phase.Looking m.row (lead_at (difference problem.modulus v.current (set v.seen m.at old)))) m.row now
+            refl))
         by_settling own (given_up past now current seen) =
             spans_grow problem modulus s t keeps (vector_of problem modulus (given_row problem m.row))
-            (modulo_inside problem modulus s (given_row problem m.row) v.current (modulo modulus seat m.row c.below (row_of_phase v.phase (phase.Reading m.row m.column m.holder m.at) m.row m.was refl))
-            (nothing_left problem modulus v.current (set v.seen m.at old) (difference problem.modulus v.current (set v.seen m.at old)) (same_sizes problem crew s t seat w a x c modulus ranges read m) refl s problem.m
+            (modulo_inside problem modulus s (given_row problem m.row) v.current
+            (modulo modulus seat m.row c.below (row_of_phase v.phase (phase.Reading m.row m.column m.holder m.at) m.row m.was refl))
+            (nothing_left problem modulus v.current (set v.seen m.at old) (difference problem.modulus v.current (set v.seen m.at old))
+            (same_sizes problem crew s t seat w a x c modulus ranges read m) refl s problem.m
             (left_is_row problem crew s t seat w a x c modulus ranges read m).size past (seen_in_span problem crew s t seat w a x c modulus ranges read m)))
 
     end_inside : IsEnd problem v old w a x → (r : ℕ) → r < min (word_at problem t counter) problem.n → IsSettled problem crew t r → Inside r
@@ -98,14 +123,16 @@ module _ (problem : Problem) (crew : ℕ) (s t : State) (seat : ℕ) (w : Sight)
         let met : word_at problem s counter ≡ old = ap (word_at problem s) (sym m.spot) in
         still_inside r (omega (arith, lt, m.none, met)) (row_in_phase v.phase phase.Fresh r m.was) settled
 
-    each_inside : ReadPrefix problem crew s → PublishedPrefix problem crew s → IsMove problem v old w a x → (r : ℕ) → r < min (word_at problem t counter) problem.n → IsSettled problem crew t r → Inside r
+    each_inside : ReadPrefix problem crew s → PublishedPrefix problem crew s → IsMove problem v old w a x → (r : ℕ) →
+        r < min (word_at problem t counter) problem.n → IsSettled problem crew t r → Inside r
     each_inside read published move = elim (counter_cases problem crew s t seat w a x c move) [
       | inl (inl m) ↦ draw_inside m
       | inl (inr m) ↦ end_inside m
       | inr same ↦ by_move move same
     ]
       where
-        by_move : IsMove problem v old w a x → word_at problem t counter ≡ word_at problem s counter → (r : ℕ) → r < min (word_at problem t counter) problem.n → IsSettled problem crew t r → Inside r
+        by_move : IsMove problem v old w a x → word_at problem t counter ≡ word_at problem s counter → (r : ℕ) →
+            r < min (word_at problem t counter) problem.n → IsSettled problem crew t r → Inside r
         by_move (draws m) same = draw_inside m
         by_move (ends m) same = end_inside m
         by_move (looks_free m) same = stays (phase.Looking m.row m.column) (phase.Putting m.row m.column m.column) m.was m.now (λ r has. has) same
@@ -116,9 +143,12 @@ module _ (problem : Problem) (crew : ℕ) (s t : State) (seat : ℕ) (w : Sight)
         ]
         by_move (wins m) same = won_inside published m same
         by_move (loses m) same = stays (phase.Claiming m.row m.column) (phase.Reading m.row m.column (row_in old) m.column) m.was m.now (λ r has. has) same
-        by_move (reads_more m) same = stays (phase.Reading m.row m.column m.holder m.at) (phase.Reading m.row m.column m.holder (m.at + 1)) m.was m.now (λ r has. has) same
+        by_move (reads_more m) same = stays (phase.Reading m.row m.column m.holder m.at) (phase.Reading m.row m.column m.holder (m.at + 1))
+            m.was m.now (λ r has. has) same
         by_move (reads_last m) same = read_inside read m same
 
-  pub settled_in_span_kept : Ranges problem crew s → DisjointRows problem crew s → PublishedPrefix problem crew s → ReadPrefix problem crew s → CurrentModuloHeld problem crew s → SettledInSpan problem crew s → IsMove problem v old w a x → SettledInSpan problem crew t
+  pub settled_in_span_kept : Ranges problem crew s → DisjointRows problem crew s → PublishedPrefix problem crew s →
+      ReadPrefix problem crew s → CurrentModuloHeld problem crew s → SettledInSpan problem crew s → IsMove problem v old w a x →
+      SettledInSpan problem crew t
   settled_in_span_kept ranges apart published read modulo h move modulus =
       each_inside modulus ranges (keeps_held problem crew s t seat w a x c apart move) h modulo read published move

@@ -3,7 +3,8 @@ use Rattle.std.proofs.Common.{◌≡◌, ℕ, zero, suc, ◌≤◌, Bool, true, 
 use Rattle.std.specs.List.{sum_by}
 use Rattle.std.specs.List.Sorted.{IsPermutation}
 use Rattle.std.proofs.lemmas.List.{length-append}
-use Rattle.std.proofs.lemmas.List.Elements.{All-append, All-contains_itself, All-cons, All-head, All-nil, All-tail, All-weaker, Contains-append_left, Contains-append_right}
+use Rattle.std.proofs.lemmas.List.Elements.{All-append, All-contains_itself, All-cons, All-head, All-nil, All-tail, All-weaker, Contains-append_left}
+use Rattle.std.proofs.lemmas.List.Elements.{Contains-append_right}
 use Rattle.std.proofs.lemmas.List.Kept.{AllPairs-cons}
 use Rattle.std.proofs.lemmas.List.Sorted.{All-permutation, IsPermutation-cons, IsPermutation-middle, IsPermutation-refl, IsPermutation-sym, IsPermutation-trans}
 use Rattle.std.proofs.lemmas.List.Sums.{sum_by-append, sum_by-cons}
@@ -24,7 +25,8 @@ insert_call-moves k (l ∷ ls) = by_answer (insert_call-moves k ls) (is_not_afte
 pub sorted_calls-moves : (ks : List Call) → IsPermutation ks (sorted_calls ks)
 sorted_calls-moves [] = IsPermutation-refl []
 sorted_calls-moves (k ∷ ks) =
-    IsPermutation-trans (k ∷ ks) (k ∷ sorted_calls ks) (insert_call k (sorted_calls ks)) (IsPermutation-cons k ks (sorted_calls ks) (sorted_calls-moves ks)) (insert_call-moves k (sorted_calls ks))
+    IsPermutation-trans (k ∷ ks) (k ∷ sorted_calls ks) (insert_call k (sorted_calls ks))
+    (IsPermutation-cons k ks (sorted_calls ks) (sorted_calls-moves ks)) (insert_call-moves k (sorted_calls ks))
 
 -- the order by (stamp, seat)
 abbrev pub IsNotAfter : Call → Call → Type 0
@@ -56,9 +58,11 @@ insert_call-in_order k (l ∷ ls) h = by_answer (insert_call-in_order k ls tail)
     first j d within = h zero (suc j) d (omega arith) (omega (arith, within))
 
     by_answer : AllPairs IsNotAfter (insert_call k ls) → (b : Bool) → is_not_after k l ≡ b → AllPairs IsNotAfter (cond b (k ∷ l ∷ ls) (l ∷ insert_call k ls))
-    by_answer rest true e = AllPairs-cons IsNotAfter k (l ∷ ls) (All-cons (IsNotAfter k) l ls e (All-weaker (IsNotAfter l) (IsNotAfter k) (λ j g. not_after-trans k l j e g) ls first)) h
+    by_answer rest true e = AllPairs-cons IsNotAfter k (l ∷ ls) (All-cons (IsNotAfter k) l ls e
+        (All-weaker (IsNotAfter l) (IsNotAfter k) (λ j g. not_after-trans k l j e g) ls first)) h
     by_answer rest false e =
-        AllPairs-cons IsNotAfter l (insert_call k ls) (All-permutation (IsNotAfter l) (k ∷ ls) (insert_call k ls) (insert_call-moves k ls) (All-cons (IsNotAfter l) k ls (not_after-total k l e) first)) rest
+        AllPairs-cons IsNotAfter l (insert_call k ls) (All-permutation (IsNotAfter l) (k ∷ ls) (insert_call k ls) (insert_call-moves k ls)
+        (All-cons (IsNotAfter l) k ls (not_after-total k l e) first)) rest
 
 pub sorted_calls-in_order : (ks : List Call) → AllPairs IsNotAfter (sorted_calls ks)
 sorted_calls-in_order [] = λ i j d lt within. absurd (omega (arith, lt, within))
@@ -67,11 +71,21 @@ sorted_calls-in_order (k ∷ ks) = insert_call-in_order k (sorted_calls ks) (sor
 -- joined logs, log by log
 pub length-joined_calls : (logs : List (List Call)) → length (joined_calls logs) ≡ sum_by (λ log. length log) logs
 length-joined_calls [] = refl
-length-joined_calls (log ∷ logs) = omega (arith, length-append log (joined_calls logs), length-joined_calls logs, sum_by-cons (λ (l : List Call). length l) log logs)
+length-joined_calls (log ∷ logs) = omega (
+  arith,
+  length-append log (joined_calls logs),
+  length-joined_calls logs,
+  sum_by-cons (λ (l : List Call). length l) log logs,
+)
 
 pub sum_by-joined_calls : (f : Call → ℕ) (logs : List (List Call)) → sum_by f (joined_calls logs) ≡ sum_by (λ log. sum_by f log) logs
 sum_by-joined_calls f [] = refl
-sum_by-joined_calls f (log ∷ logs) = omega (arith, sum_by-append f log (joined_calls logs), sum_by-joined_calls f logs, sum_by-cons (λ (l : List Call). sum_by f l) log logs)
+sum_by-joined_calls f (log ∷ logs) = omega (
+  arith,
+  sum_by-append f log (joined_calls logs),
+  sum_by-joined_calls f logs,
+  sum_by-cons (λ (l : List Call). sum_by f l) log logs,
+)
 
 pub All-joined_calls : (P : Call → Type 0) (logs : List (List Call)) → All (All P) logs → All P (joined_calls logs)
 All-joined_calls P [] h = All-nil P

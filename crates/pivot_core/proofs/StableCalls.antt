@@ -47,7 +47,8 @@ NoneBelow-least k l (m ∷ ls) h below = (before_order.chain m l k below.0 h, No
 Rises-insert_call : (k : Call) (ls : List Call) → Rises before ls → Rises before (insert_call k ls)
 Rises-insert_call k [] up = (tt, tt)
 Rises-insert_call k (l ∷ ls) up = elim (cases_Bool (before l k)) [
-  | inl past ↦ subst (Rises before) (sym (insert_call-past k l ls past)) (NoneBelow-insert_call l k ls (before_order.one_way l k past) up.0, Rises-insert_call k ls up.1)
+  | inl past ↦ subst (Rises before) (sym (insert_call-past k l ls past))
+      (NoneBelow-insert_call l k ls (before_order.one_way l k past) up.0, Rises-insert_call k ls up.1)
   | inr stays ↦ subst (Rises before) (sym (insert_call-stays k l ls stays)) ((stays, NoneBelow-least k l ls stays up.0), up)
 ]
 
@@ -71,7 +72,8 @@ filter-insert_call x k (l ∷ ls) =
                 ∙ ap (λ (rest : List Call). cond (p k) (k ∷ rest) rest) (sym (filter-dropped p l ls without))
             | inl with ↦
                 elim (cases_Bool (p k)) [
-                  | inl both ↦ (let wrong : true ≡ false = sym past ∙ before_order.chain l x k (tied_parts before x l with).1 (tied_parts before x k both).0 in cc)
+                  | inl both ↦ (let wrong : true ≡ false = sym past ∙ before_order.chain l x k (tied_parts before x l with).1
+                      (tied_parts before x k both).0 in cc)
                   | inr only ↦
                       filter-kept p l (insert_call k ls) with ∙ ap (λ (rest : List Call). l ∷ rest) (filter-insert_call x k ls ∙ filter-dropped p k ls only)
                       ∙ sym (filter-dropped p k (l ∷ ls) only ∙ filter-kept p l ls with)

@@ -1,5 +1,6 @@
 -- Two lists that rise, with the same elements of each rank in the same order, are one.
-use Rattle.std.proofs.Common.{◌≡◌, ℕ, zero, suc, ◌<◌, Bool, true, false, not, ◌&&◌, List, [], ◌∷◌, length, get_or, filter, refl, sym, ap, ◌∙◌, arith, inl, inr, suc-le-suc, zero-le}
+use Rattle.std.proofs.Common.{◌≡◌, ℕ, zero, suc, ◌<◌, Bool, true, false, not, ◌&&◌, List, [], ◌∷◌, length, get_or, filter, refl, sym, ap, ◌∙◌, arith}
+use Rattle.std.proofs.Common.{inl, inr, suc-le-suc, zero-le}
 use Rattle.std.proofs.lemmas.Bool.{cond-true, cond-false, cases_Bool, and_parts, not-true}
 use Rattle.std.proofs.lemmas.List.Sorted.{sorted_far}
 use Rattle.std.specs.Cmp.{IsStrictWeakOrder}
@@ -28,7 +29,10 @@ module _ {X : Type 0} (lt : X → X → Bool) where
 
   Rises-at : (ys : List X) → ((i j : ℕ) (d : X) → i < j → j < length ys → lt (get_or ys j d) (get_or ys i d) ≡ false) → Rises ys
   Rises-at [] h = tt
-  Rises-at (y ∷ ys) h = (NoneBelow-at y ys (λ j le. h zero (suc j) y (suc-le-suc zero-le) (suc-le-suc le)), Rises-at ys (λ i j d less within. h (suc i) (suc j) d (suc-le-suc less) (suc-le-suc within)))
+  Rises-at (y ∷ ys) h = (
+    NoneBelow-at y ys (λ j le. h zero (suc j) y (suc-le-suc zero-le) (suc-le-suc le)),
+    Rises-at ys (λ i j d less within. h (suc i) (suc j) d (suc-le-suc less) (suc-le-suc within)),
+  )
 
   tied : (x y : X) → lt x y ≡ false → lt y x ≡ false → ties lt x y ≡ true
   tied x y h k = ap (λ (b : Bool). not b && not (lt y x)) h ∙ ap not k

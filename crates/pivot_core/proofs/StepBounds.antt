@@ -16,7 +16,8 @@ column_steps m c lt =
     ap (λ (x : ℕ). (c + 1) * x) a ∙ mul_comm (c + 1) (c + (2 * k + 2)) ∙ mul-add (c + (2 * k + 2)) c 1
     ∙ (let p : (c + (2 * k + 2)) * c ≡ c * c + c * (2 * k + 2) = mul_comm (c + (2 * k + 2)) c ∙ mul-add c c (2 * k + 2) in
     let q : c * (c + (2 * k + 3)) ≡ c * c + c * (2 * k + 3) = mul-add c c (2 * k + 3) in
-    let r : c * (2 * k + 3) ≡ c * (2 * k + 2) + c = ap (λ (x : ℕ). c * x) (let one : 2 * k + 3 ≡ (2 * k + 2) + 1 = omega arith in one) ∙ mul-add c (2 * k + 2) 1 ∙ omega arith in
+    let r : c * (2 * k + 3) ≡ c * (2 * k + 2) + c = ap (λ (x : ℕ). c * x) (let one : 2 * k + 3 ≡ (2 * k + 2) + 1 = omega arith in one)
+    ∙ mul-add c (2 * k + 2) 1 ∙ omega arith in
     let t : c * (2 * m + 3 - c) ≡ c * (c + (2 * k + 3)) = ap (λ (x : ℕ). c * x) b in
     omega (arith, p, q, r, t))
 

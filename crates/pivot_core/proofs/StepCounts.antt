@@ -21,20 +21,47 @@ use Rattle.pivot_core.proofs.StepBounds.{column_steps, one_row_more, steps_befor
 -- a view in any phase has made at most so many steps
 few_steps : (m n : ℕ) (f : Phase) (drawn steps : ℕ) → IsPhase m n f → IsBounded m f drawn steps → steps ≤ drawn * steps_of_row m + 1
 few_steps m n phase.Fresh drawn steps h b = omega (arith, b)
-few_steps m n (phase.Looking row column) drawn steps h b = omega (arith, b.1, one_row_more drawn (steps_of_row m) b.0, column_steps m column h.1, steps_before-most m (column + 1) (omega (arith, h.1)))
-few_steps m n (phase.Putting row column at) drawn steps h b = omega (arith, b.1, h.1, h.2, one_row_more drawn (steps_of_row m) b.0, column_steps m column (omega (arith, h.1, h.2)), steps_before-most m (column + 1) (omega (arith, h.1, h.2)))
-few_steps m n (phase.Claiming row column) drawn steps h b = omega (arith, b.1, h.1, one_row_more drawn (steps_of_row m) b.0, column_steps m column h.1, steps_before-most m (column + 1) (omega (arith, h.1)))
-few_steps m n (phase.Reading row column holder at) drawn steps h b = omega (arith, b.1, h.2, h.3, one_row_more drawn (steps_of_row m) b.0, column_steps m column (omega (arith, h.2, h.3)), steps_before-most m (column + 1) (omega (arith, h.2, h.3)))
+few_steps m n (phase.Looking row column) drawn steps h b = omega
+    (arith, b.1, one_row_more drawn (steps_of_row m) b.0, column_steps m column h.1, steps_before-most m (column + 1) (omega (arith, h.1)))
+few_steps m n (phase.Putting row column at) drawn steps h b = omega (
+  arith,
+  b.1,
+  h.1,
+  h.2,
+  one_row_more drawn (steps_of_row m) b.0,
+  column_steps m column (omega (arith, h.1, h.2)),
+  steps_before-most m (column + 1) (omega (arith, h.1, h.2)),
+)
+few_steps m n (phase.Claiming row column) drawn steps h b = omega (
+  arith,
+  b.1,
+  h.1,
+  one_row_more drawn (steps_of_row m) b.0,
+  column_steps m column h.1,
+  steps_before-most m (column + 1) (omega (arith, h.1)),
+)
+few_steps m n (phase.Reading row column holder at) drawn steps h b =
+    omega (
+      arith,
+      b.1,
+      h.2,
+      h.3,
+      one_row_more drawn (steps_of_row m) b.0,
+      column_steps m column (omega (arith, h.2, h.3)),
+      steps_before-most m (column + 1) (omega (arith, h.2, h.3)),
+    )
 few_steps m n phase.Ended drawn steps h b = b
 
 -- all views together
-summed_steps : (k : ℕ) (views : List Sight) → All (λ v. v.steps ≤ v.drawn * k + 1) views → sum_by (λ (v : Sight). v.steps) views ≤ sum_by (λ (v : Sight). v.drawn) views * k + length views
+summed_steps : (k : ℕ) (views : List Sight) → All (λ v. v.steps ≤ v.drawn * k + 1) views →
+    sum_by (λ (v : Sight). v.steps) views ≤ sum_by (λ (v : Sight). v.drawn) views * k + length views
 summed_steps k [] h = omega arith
 summed_steps k (v ∷ vs) h =
     let rest = summed_steps k vs (All-tail (λ (z : Sight). z.steps ≤ z.drawn * k + 1) v vs h) in
     let first = All-head (λ (z : Sight). z.steps ≤ z.drawn * k + 1) v vs h in
     let drawn : ℕ = sum_by (λ (z : Sight). z.drawn) vs in
-    let products : (v.drawn + drawn) * k ≡ v.drawn * k + drawn * k = mul_comm (v.drawn + drawn) k ∙ mul-add k v.drawn drawn ∙ omega (arith, mul_comm k v.drawn, mul_comm k drawn) in
+    let products : (v.drawn + drawn) * k ≡ v.drawn * k + drawn * k = mul_comm (v.drawn + drawn) k ∙ mul-add k v.drawn drawn
+    ∙ omega (arith, mul_comm k v.drawn, mul_comm k drawn) in
     let same : sum_by (λ (z : Sight). z.drawn) (v ∷ vs) * k ≡ (v.drawn + drawn) * k = ap (λ (x : ℕ). x * k) (sum_by-cons (λ (z : Sight). z.drawn) v vs) in
     omega (arith, rest, first, products, same, sum_by-cons (λ (z : Sight). z.steps) v vs)
 
@@ -43,14 +70,20 @@ counted problem crew s h =
     let k : ℕ = steps_of_row problem.m in
     let calls = h.calls_and_counts in
     let each : (i : ℕ) → i < crew → (view_at problem s i).steps ≤ (view_at problem s i).drawn * k + 1 =
-    λ i lt. few_steps problem.m problem.n (view_at problem s i).phase (view_at problem s i).drawn (view_at problem s i).steps (h.ranges.views i lt).numbers (calls.steps i lt) in
+    λ i lt. few_steps problem.m problem.n (view_at problem s i).phase (view_at problem s i).drawn (view_at problem s i).steps
+    (h.ranges.views i lt).numbers (calls.steps i lt) in
     record {
       columns = calls.columns;
-      claims = λ i lt. omega (arith, calls_below_rows problem crew s h.ranges calls.each calls.columns h.disjoint_rows i lt, calls_below_columns problem crew s h.ranges calls.each calls.columns h.disjoint_rows i lt);
+      claims = λ i lt. omega (
+        arith,
+        calls_below_rows problem crew s h.ranges calls.each calls.columns h.disjoint_rows i lt,
+        calls_below_columns problem crew s h.ranges calls.each calls.columns h.disjoint_rows i lt,
+      );
       steps = each;
       all_steps =
           let sum = summed_steps k s.views (all_views problem crew s h.ranges (λ (v : Sight). v.steps ≤ v.drawn * k + 1) each) in
-          let most : sum_by (λ (v : Sight). v.drawn) s.views * k ≤ problem.n * k = mul-le (sum_by (λ (v : Sight). v.drawn) s.views) k problem.n k h.counter_sum.few (omega arith) in
+          let most : sum_by (λ (v : Sight). v.drawn) s.views * k ≤ problem.n * k =
+          mul-le (sum_by (λ (v : Sight). v.drawn) s.views) k problem.n k h.counter_sum.few (omega arith) in
           omega (arith, sum, most, h.ranges.count);
       stamps = λ i lt j d within. omega (arith, (calls.each i lt j d within).stamp, calls.clocks i lt);
     }

@@ -15,7 +15,8 @@ use Rattle.pivot_core.specs.Runs.{State, after_event, step_at, view_at, with_ste
 use Rattle.pivot_core.specs.Phases.{IsPhase}
 use Rattle.pivot_core.specs.Rule.{Ranges}
 use Rattle.pivot_core.proofs.Changes.{IsChange, changed}
-use Rattle.pivot_core.proofs.Moves.{IsLater, IsMove, IsSettling, goes_on, given_up, draws, ends, looks_free, looks_held, puts, wins, loses, reads_more, reads_last}
+use Rattle.pivot_core.proofs.Moves.{IsLater, IsMove, IsSettling, goes_on, given_up, draws, ends, looks_free, looks_held, puts, wins, loses}
+use Rattle.pivot_core.proofs.Moves.{reads_more, reads_last}
 
 -- a property of either branch
 pub by_bool : {A : Type 0} (P : A → Type 0) (b : Bool) (x y : A) → (b ≡ true → P x) → (b ≡ false → P y) → P (if b then x else y)
@@ -38,7 +39,8 @@ settles problem v y row =
     (λ on. goes_on (ltb-true (lead_at y) problem.m on) refl refl refl)
     (λ off. given_up (omega (arith, ltb-false (lead_at y) problem.m off)) refl refl refl)
 
-settles_later : (problem : Problem) (v u : Sight) (y : List ℕ) (row k d : ℕ) (all : List Call) → IsLater v u k d all → IsLater v (settle problem u y row) k d all
+settles_later : (problem : Problem) (v u : Sight) (y : List ℕ) (row k d : ℕ) (all : List Call) → IsLater v u k d all →
+    IsLater v (settle problem u y row) k d all
 settles_later problem v u y row k d all h =
     by_bool (λ (w : Sight). IsLater v w k d all) (ltb (lead_at y) problem.m) _ _
     (λ on. record { seat = h.seat; steps = h.steps; clock = h.clock; drawn = h.drawn; calls = h.calls })
@@ -61,13 +63,44 @@ module _ (problem : Problem) (v : Sight) (old : ℕ) where
         spot = refl;
         word = refl;
         settling = settles problem (record v { steps = v.steps + 1; drawn = v.drawn + 1 }) (given_row problem old) old;
-        later = settles_later problem v (record v { steps = v.steps + 1; drawn = v.drawn + 1 }) (given_row problem old) old v.clock (v.drawn + 1) v.calls (record { seat = refl; steps = refl; clock = refl; drawn = refl; calls = refl });
+        later = settles_later problem v (record v { steps = v.steps + 1; drawn = v.drawn + 1 }) (given_row problem old) old v.clock
+            (v.drawn + 1) v.calls (record { seat = refl; steps = refl; clock = refl; drawn = refl; calls = refl });
       }))
-      (λ off. ends (record { was = is; none = omega (arith, ltb-false old problem.n off); spot = refl; word = refl; now = refl; same = record { current = refl; seen = refl }; later = record { seat = refl; steps = refl; clock = refl; drawn = refl; calls = refl } })))
+      (λ off. ends (record {
+        was = is;
+        none = omega (arith, ltb-false old problem.n off);
+        spot = refl;
+        word = refl;
+        now = refl;
+        same = record { current = refl; seen = refl };
+        later = record { seat = refl; steps = refl; clock = refl; drawn = refl; calls = refl };
+      })))
   moves_by (phase.Looking row column) is t e = subst (Moves (claim_of column)) (same_some _ t e)
       (by_bool (Moves (claim_of column)) (old == 0) _ _
-      (λ on. looks_free (record { row = row; column = column; was = is; free = eqb-true old 0 on; spot = refl; word = refl; now = refl; same = record { current = refl; seen = refl }; later = record { seat = refl; steps = refl; clock = refl; drawn = refl; calls = refl } }))
-      (λ off. looks_held (record { row = row; column = column; was = is; held = eqb-false old 0 off; spot = refl; word = refl; now = refl; current = refl; seen = refl; later = record { seat = refl; steps = refl; clock = refl; drawn = refl; calls = refl } })))
+      (λ on. looks_free (record {
+        row = row;
+        column = column;
+        was = is;
+        free = eqb-true old 0 on;
+        spot = refl;
+        word = refl;
+        now = refl;
+        same = record { current = refl; seen = refl };
+        later = record
+            { seat = refl; steps = refl; clock = refl; drawn = refl; calls = refl };
+      }))
+      (λ off. looks_held (record {
+        row = row;
+        column = column;
+        was = is;
+        held = eqb-false old 0 off;
+        spot = refl;
+        word = refl;
+        now = refl;
+        current = refl;
+        seen = refl;
+        later = record { seat = refl; steps = refl; clock = refl; drawn = refl; calls = refl };
+      })))
   moves_by (phase.Putting row column at) is t e = subst (Moves (row_word row at)) (same_some _ t e)
       (puts (record {
         row = row;
@@ -81,18 +114,43 @@ module _ (problem : Problem) (v : Sight) (old : ℕ) where
         later = record { seat = refl; steps = refl; clock = refl; drawn = refl; calls = refl };
       }))
     where
-      next : (b : Bool) → ltb (at + 1) problem.m ≡ b → ((at + 1 < problem.m) × ((if b then phase.Putting row column (at + 1) else phase.Claiming row column) ≡ phase.Putting row column (at + 1)))
+      next : (b : Bool) → ltb (at + 1) problem.m ≡ b → ((at + 1 < problem.m)
+          × ((if b then phase.Putting row column (at + 1) else phase.Claiming row column) ≡ phase.Putting row column (at + 1)))
           ⊎ ((problem.m ≤ at + 1) × ((if b then phase.Putting row column (at + 1) else phase.Claiming row column) ≡ phase.Claiming row column))
       next true on = inl (ltb-true (at + 1) problem.m on, refl)
       next false off = inr (omega (arith, ltb-false (at + 1) problem.m off), refl)
   moves_by (phase.Claiming row column) is t e = subst (Moves (claim_of column)) (same_some _ t e)
       (by_bool (Moves (claim_of column)) (old == 0) _ _
-      (λ on. wins (record { row = row; column = column; was = is; free = eqb-true old 0 on; spot = refl; word = refl; now = refl; current = refl; seen = refl; later = record { seat = refl; steps = refl; clock = refl; drawn = refl; calls = refl } }))
-      (λ off. loses (record { row = row; column = column; was = is; held = eqb-false old 0 off; spot = refl; word = refl; now = refl; current = refl; seen = refl; later = record { seat = refl; steps = refl; clock = refl; drawn = refl; calls = refl } })))
+      (λ on. wins (record {
+        row = row;
+        column = column;
+        was = is;
+        free = eqb-true old 0 on;
+        spot = refl;
+        word = refl;
+        now = refl;
+        current = refl;
+        seen = refl;
+        later = record { seat = refl; steps = refl; clock = refl; drawn = refl; calls = refl };
+      }))
+      (λ off. loses (record {
+        row = row;
+        column = column;
+        was = is;
+        held = eqb-false old 0 off;
+        spot = refl;
+        word = refl;
+        now = refl;
+        current = refl;
+        seen = refl;
+        later = record { seat = refl; steps = refl; clock = refl; drawn = refl; calls = refl };
+      })))
   moves_by (phase.Reading row column holder at) is t e = subst (Moves (row_word holder at)) (same_some _ t e)
       (by_more (ltb (at + 1) problem.m) refl)
     where
-      by_more : (b : Bool) → ltb (at + 1) problem.m ≡ b → IsMove problem v old (if b then record (read_one at) { phase = phase.Reading row column holder (at + 1) } else settle problem (read_one at) (difference problem.modulus v.current (set v.seen at old)) row) (row_word holder at) old
+      by_more : (b : Bool) → ltb (at + 1) problem.m ≡ b → IsMove problem v old
+          (if b then record (read_one at) { phase = phase.Reading row column holder (at + 1) } else settle problem (read_one at)
+          (difference problem.modulus v.current (set v.seen at old)) row) (row_word holder at) old
       by_more true on = reads_more (record {
         row = row;
         column = column;
@@ -117,7 +175,8 @@ module _ (problem : Problem) (v : Sight) (old : ℕ) where
         spot = refl;
         word = refl;
         settling = settles problem (read_one at) (difference problem.modulus v.current (set v.seen at old)) row;
-        later = settles_later problem v (read_one at) (difference problem.modulus v.current (set v.seen at old)) row v.clock v.drawn v.calls (record { seat = refl; steps = refl; clock = refl; drawn = refl; calls = refl });
+        later = settles_later problem v (read_one at) (difference problem.modulus v.current (set v.seen at old)) row v.clock v.drawn v.calls
+            (record { seat = refl; steps = refl; clock = refl; drawn = refl; calls = refl });
       })
   moves_by phase.Ended is t e = absurd (none_not_some t e)
 
@@ -164,7 +223,8 @@ made_change problem crew s e t ranges below =
     changed problem crew s e.seat t.sight (spot_of f) t.word ranges below (meets_spot problem.m problem.n f (ranges.views e.seat below).numbers)
 
 -- an event changes nothing, or makes a move
-pub taken : (problem : Problem) (crew : ℕ) (s : State) (e : Event) → Ranges problem crew s → (P : State → Type 0) → P s → ((t : State) → IsTaken problem crew s t → P t) → P (after_event problem s e)
+pub taken : (problem : Problem) (crew : ℕ) (s : State) (e : Event) → Ranges problem crew s → (P : State → Type 0) → P s →
+    ((t : State) → IsTaken problem crew s t → P t) → P (after_event problem s e)
 taken problem crew s e ranges P same made = by_answer (step_at problem s e) refl
   where
     by_answer : (o : Option Stepped) → step_at problem s e ≡ o → P (with_step problem s e.seat o)

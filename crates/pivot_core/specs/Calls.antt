@@ -11,10 +11,13 @@ use Rattle.pivot_core.specs.Words.{stamp_in}
 use Rattle.pivot_core.specs.Runs.{State, IsHeld, claim_at, holder_of, view_at}
 use Rattle.pivot_core.specs.Phases.{column_of}
 
--- a call tells what its column holds: the call itself where it won, and else its answer, whose stamp is below the call's
+-- a call tells what its column holds: the call itself where it won, and else its answer, whose stamp is below the
+-- call's
 abbrev pub IsAnswered : Problem → State → Call → Answer → Type 0
-IsAnswered problem s k answer.Won = IsHeld problem s k.column × (holder_of problem s k.column ≡ k.row) × (stamp_in (claim_at problem s k.column) ≡ k.stamp)
-IsAnswered problem s k (answer.Lost row stamp) = IsHeld problem s k.column × (holder_of problem s k.column ≡ row) × (stamp_in (claim_at problem s k.column) ≡ stamp) × (stamp < k.stamp)
+IsAnswered problem s k answer.Won = IsHeld problem s k.column × (holder_of problem s k.column ≡ k.row)
+    × (stamp_in (claim_at problem s k.column) ≡ k.stamp)
+IsAnswered problem s k (answer.Lost row stamp) = IsHeld problem s k.column × (holder_of problem s k.column ≡ row)
+    × (stamp_in (claim_at problem s k.column) ≡ stamp) × (stamp < k.stamp)
 
 -- a call of a seat with this clock, in range
 pub record IsCall (problem : Problem) (s : State) (seat clock : ℕ) (k : Call) : Type 0 where
@@ -59,9 +62,11 @@ steps_in m phase.Ended = 0
 abbrev pub IsBounded : ℕ → Phase → ℕ → ℕ → Type 0
 IsBounded m phase.Fresh drawn steps = steps ≤ drawn * steps_of_row m
 IsBounded m phase.Ended drawn steps = steps ≤ drawn * steps_of_row m + 1
-IsBounded m f drawn steps = (1 ≤ drawn) × (steps ≤ (drawn - 1) * steps_of_row m + 1 + column_of f * (2 * m + 3 - column_of f) + steps_in m f)
+IsBounded m f drawn steps = (1 ≤ drawn) × (steps ≤ (drawn - 1) * steps_of_row m + 1 + column_of f *
+    (2 * m + 3 - column_of f) + steps_in m f)
 
--- Calls and counts. Each call tells what its column holds, stamps rise, each held column is won once, and steps are bounded
+-- Calls and counts. Each call tells what its column holds, stamps rise, each held column is won once, and steps are
+-- bounded
 pub record CallsAndCounts (problem : Problem) (crew : ℕ) (s : State) : Type 0 where
   pub each : (i : ℕ) → i < crew → All (IsCall problem s i (view_at problem s i).clock) (view_at problem s i).calls
   pub columns : (i : ℕ) → i < crew → AllPairs (λ k l. k.column ≢ l.column) (view_at problem s i).calls
@@ -70,4 +75,5 @@ pub record CallsAndCounts (problem : Problem) (crew : ℕ) (s : State) : Type 0 
   pub clocks : (i : ℕ) → i < crew → (view_at problem s i).clock ≤ call_count s
   pub stamps : (c : ℕ) → c < problem.m → stamp_in (claim_at problem s c) ≤ call_count s
   pub unclaimed : (i : ℕ) → i < crew → IsUnclaimed (view_at problem s i).phase (view_at problem s i).calls
-  pub steps : (i : ℕ) → i < crew → IsBounded problem.m (view_at problem s i).phase (view_at problem s i).drawn (view_at problem s i).steps
+  pub steps : (i : ℕ) → i < crew → IsBounded problem.m (view_at problem s i).phase (view_at problem s i).drawn
+      (view_at problem s i).steps

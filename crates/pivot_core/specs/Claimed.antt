@@ -2,7 +2,8 @@
 use Rattle.std.specs.Prelude.{ℕ}
 use Rattle.back_reduce.specs.declared.problem.Problem.{Problem}
 use Rattle.pivot_core.specs.Runs.{State}
-use Rattle.pivot_core.specs.Rule.{CounterSum, CurrentModuloHeld, DisjointRows, HeldInSpan, PublishedPrefix, Ranges, ReadPrefix, SettledInSpan}
+use Rattle.pivot_core.specs.Rule.{CounterSum, CurrentModuloHeld, DisjointRows, HeldInSpan, PublishedPrefix, Ranges}
+use Rattle.pivot_core.specs.Rule.{ReadPrefix, SettledInSpan}
 use Rattle.pivot_core.specs.Calls.{CallsAndCounts}
 
 -- the nine clauses of the rule

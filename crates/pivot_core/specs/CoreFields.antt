@@ -10,7 +10,8 @@ use Rattle.pivot_core.specs.Phases.{is_ended}
 use Rattle.pivot_core.specs.Laws.{IsSetting}
 use Rattle.pivot_core.specs.Cores.{state_of}
 
--- a state of a run, whose crew is as many as the views, of which so many go on, with room for all calls and for the list of logs
+-- a state of a run, whose crew is as many as the views, of which so many go on, with room for all calls and for the
+-- list of logs
 pub record IsRun (core : Inside) : Type 0 where
   pub setting : IsSetting core.problem (length core.views.items)
   pub same : core.field ≡ core.problem.modulus

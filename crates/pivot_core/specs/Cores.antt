@@ -38,7 +38,8 @@ pub record MayStep (problem : Problem) (words : List ℕ) (v : View) : Type 0 wh
   pub room : IsClaiming v.phase → length v.calls.items < vec_capacity v.calls
 
 -- the next step of v on one of these words gives the view w and the reply r, and leaves the words after
-pub record IsMade (problem : Problem) (words : List ℕ) (v : Sight) (after : List ℕ) (w : Sight) (r : Reply) : Type 0 where
-  pub word : ℕ
-  pub gives : met problem v (met_in problem words v.phase) ≡ Some (record { sight = w; word = word; reply = r })
-  pub leaves : after ≡ slice_set words (met_at problem v.phase) word
+pub record IsMade (problem : Problem) (words : List ℕ) (v : Sight) (after : List ℕ) (w : Sight) (r : Reply) : Type 0
+  where
+    pub word : ℕ
+    pub gives : met problem v (met_in problem words v.phase) ≡ Some (record { sight = w; word = word; reply = r })
+    pub leaves : after ≡ slice_set words (met_at problem v.phase) word

@@ -4,7 +4,8 @@ use Rattle.ideal_laws.specs.declared.account.Answer.{Answer}
 use Rattle.ideal_laws.specs.declared.account.Answer.TheVariants as answer
 use Rattle.ideal_laws.specs.declared.account.Call.{Call}
 
--- what the one-thread object answers at a column after these calls, the latest first: it is free, or what won it stands there
+-- what the one-thread object answers at a column after these calls, the latest first: it is free, or what won it
+-- stands there
 abbrev pub answer_after : List Call → ℕ → Answer
 answer_after [] c = answer.Won
 answer_after (k ∷ ks) c = elim k.answer as (λ a. Answer) [

@@ -30,30 +30,43 @@ pub record CounterSum (problem : Problem) (s : State) : Type 0 where
 
 -- Disjoint rows. Current rows and holders are drawn rows, and no row is in two places
 pub record DisjointRows (problem : Problem) (crew : ℕ) (s : State) : Type 0 where
-  pub drawn : (i r : ℕ) → i < crew → HasRow (view_at problem s i).phase r → r < min (word_at problem s counter) problem.n
+  pub drawn : (i r : ℕ) → i < crew → HasRow (view_at problem s i).phase r →
+      r < min (word_at problem s counter) problem.n
   pub holders_drawn : (c : ℕ) → IsHeld problem s c → holder_of problem s c < min (word_at problem s counter) problem.n
-  pub views_apart : (i j r : ℕ) → i < crew → j < crew → HasRow (view_at problem s i).phase r → HasRow (view_at problem s j).phase r → i ≡ j
-  pub holders_apart : (c d : ℕ) → IsHeld problem s c → IsHeld problem s d → holder_of problem s c ≡ holder_of problem s d → c ≡ d
-  pub both_apart : (i c : ℕ) → i < crew → IsHeld problem s c → HasRow (view_at problem s i).phase (holder_of problem s c) → ⊥
+  pub views_apart : (i j r : ℕ) → i < crew → j < crew → HasRow (view_at problem s i).phase r →
+      HasRow (view_at problem s j).phase r → i ≡ j
+  pub holders_apart : (c d : ℕ) → IsHeld problem s c → IsHeld problem s d →
+      holder_of problem s c ≡ holder_of problem s d → c ≡ d
+  pub both_apart : (i c : ℕ) → i < crew → IsHeld problem s c →
+      HasRow (view_at problem s i).phase (holder_of problem s c) → ⊥
 
 -- Held rows in the span. A held row has residues, is 1 at its column, and is in the span of the problem's rows
 pub record HeldInSpan (problem : Problem) (s : State) : Type 0 where
   pub residues : (c : ℕ) → IsHeld problem s c → IsRow problem.modulus problem.m (held_row problem s c)
   pub one : (c : ℕ) → IsHeld problem s c → slice_index (held_row problem s c) c ≡ 1
-  pub inside : (modulus : IsFieldModulus problem.modulus) (c : ℕ) → IsHeld problem s c → IsInRowSpan problem.modulus modulus (rows_of problem) (vector problem.modulus modulus (held_row problem s c))
+  pub inside : (modulus : IsFieldModulus problem.modulus) (c : ℕ) → IsHeld problem s c →
+      IsInRowSpan problem.modulus modulus (rows_of problem) (vector problem.modulus modulus (held_row problem s c))
 
 -- Published prefix. A current row has residues, is 0 before its column and 1 at it, and is published so far
 pub record PublishedPrefix (problem : Problem) (crew : ℕ) (s : State) : Type 0 where
-  pub residues : (i r : ℕ) → i < crew → HasRow (view_at problem s i).phase r → IsRow problem.modulus problem.m (view_at problem s i).current
-  pub before : (i r j : ℕ) → i < crew → HasRow (view_at problem s i).phase r → j < column_of (view_at problem s i).phase → slice_index (view_at problem s i).current j ≡ 0
-  pub one : (i r : ℕ) → i < crew → HasRow (view_at problem s i).phase r → slice_index (view_at problem s i).current (column_of (view_at problem s i).phase) ≡ 1
-  pub published : (i r j : ℕ) → i < crew → HasRow (view_at problem s i).phase r → column_of (view_at problem s i).phase ≤ j → j < published_upto problem.m (view_at problem s i).phase
+  pub residues : (i r : ℕ) → i < crew → HasRow (view_at problem s i).phase r →
+      IsRow problem.modulus problem.m (view_at problem s i).current
+  pub before : (i r j : ℕ) → i < crew → HasRow (view_at problem s i).phase r →
+      j < column_of (view_at problem s i).phase →
+      slice_index (view_at problem s i).current j ≡ 0
+  pub one : (i r : ℕ) → i < crew → HasRow (view_at problem s i).phase r →
+      slice_index (view_at problem s i).current (column_of (view_at problem s i).phase) ≡ 1
+  pub published : (i r j : ℕ) → i < crew → HasRow (view_at problem s i).phase r →
+      column_of (view_at problem s i).phase ≤ j →
+      j < published_upto problem.m (view_at problem s i).phase
       → word_at problem s (row_word r j) ≡ slice_index (view_at problem s i).current j
 
 -- in Reading the column is held by the holder, and `seen` is the held row before `at`, and 0 from there on
 abbrev pub IsRead : Problem → State → Phase → List ℕ → Type 0
-IsRead problem s (phase.Reading row column holder at) seen = IsHeld problem s column × (holder_of problem s column ≡ holder)
-    × ((j : ℕ) → j < at → slice_index seen j ≡ slice_index (held_row problem s column) j) × ((j : ℕ) → at ≤ j → j < problem.m → slice_index seen j ≡ 0)
+IsRead problem s (phase.Reading row column holder at) seen = IsHeld problem s column
+    × (holder_of problem s column ≡ holder)
+    × ((j : ℕ) → j < at → slice_index seen j ≡ slice_index (held_row problem s column) j)
+    × ((j : ℕ) → at ≤ j → j < problem.m → slice_index seen j ≡ 0)
 IsRead problem s f seen = Unit {0}
 
 -- Read prefix. Each view that reads has seen the held row so far
@@ -61,18 +74,23 @@ abbrev pub ReadPrefix : Problem → ℕ → State → Type 0
 ReadPrefix problem crew s = (i : ℕ) → i < crew → IsRead problem s (view_at problem s i).phase (view_at problem s i).seen
 
 -- a row is a multiple of `current`, by a residue other than 0, and a sum of multiples of held rows
-pub record IsModulo (problem : Problem) (modulus : IsFieldModulus problem.modulus) (s : State) (row current : List ℕ) : Type 0 where
+pub record IsModulo (problem : Problem) (modulus : IsFieldModulus problem.modulus) (s : State)
+    (row current : List ℕ) : Type 0 where
   pub factor : ℕ
   pub some : 0 < factor
   pub residue : factor < problem.modulus
   pub rest : ResidueVector problem.modulus modulus ℕ
   pub inside : IsInRowSpan problem.modulus modulus (held_rows problem s) rest
   pub sum : (c : ℕ) → vector problem.modulus modulus row c
-      ≡ (residue_field problem.modulus modulus).add ((residue_field problem.modulus modulus).mul (of problem.modulus modulus.two_or_more modulus.has_inverse factor) (vector problem.modulus modulus current c)) (rest c)
+      ≡ (residue_field problem.modulus modulus).add ((residue_field problem.modulus modulus).mul
+      (of problem.modulus modulus.two_or_more modulus.has_inverse factor)
+      (vector problem.modulus modulus current c)) (rest c)
 
 -- Current row modulo held rows. A row less a multiple of what is current of it is in the span of the held rows
 abbrev pub CurrentModuloHeld : Problem → ℕ → State → Type 0
-CurrentModuloHeld problem crew s = (modulus : IsFieldModulus problem.modulus) (i r : ℕ) → i < crew → HasRow (view_at problem s i).phase r → IsModulo problem modulus s (given_row problem r) (view_at problem s i).current
+CurrentModuloHeld problem crew s = (modulus : IsFieldModulus problem.modulus) (i r : ℕ) → i < crew →
+    HasRow (view_at problem s i).phase r →
+    IsModulo problem modulus s (given_row problem r) (view_at problem s i).current
 
 -- a row is current for no view
 abbrev pub IsSettled : Problem → ℕ → State → ℕ → Type 0
@@ -80,5 +98,6 @@ IsSettled problem crew s r = (i : ℕ) → i < crew → HasRow (view_at problem 
 
 -- Settled rows in the span. A drawn row that is not current is in the span of the held rows
 abbrev pub SettledInSpan : Problem → ℕ → State → Type 0
-SettledInSpan problem crew s = (modulus : IsFieldModulus problem.modulus) (r : ℕ) → r < min (word_at problem s counter) problem.n → IsSettled problem crew s r
+SettledInSpan problem crew s = (modulus : IsFieldModulus problem.modulus) (r : ℕ) →
+    r < min (word_at problem s counter) problem.n → IsSettled problem crew s r
     → IsInRowSpan problem.modulus modulus (held_rows problem s) (vector problem.modulus modulus (given_row problem r))

@@ -1,5 +1,7 @@
 -- States of the machine of claims, events, and runs.
-use Rattle.std.specs.Prelude.{ℕ, ◌≡◌, ◌≢◌, ◌+◌, ◌*◌, ◌<◌, ◌==◌, ltb, if◌then◌else◌, List, [], ◌∷◌, map, length, Option, Some, None, slice_index, slice_index_or, slice_set}
+use Rattle.std.specs.Prelude.{ℕ, ◌≡◌, ◌≢◌, ◌+◌, ◌*◌, ◌<◌, ◌==◌, ltb, if◌then◌else◌, List, [], ◌∷◌, map, length}
+use Rattle.std.specs.Prelude.{Option, Some, None, slice_index}
+use Rattle.std.specs.Prelude.{slice_index_or, slice_set}
 use Rattle.std.specs.List.{range_with_len}
 use Rattle.back_reduce.specs.declared.problem.Problem.{Problem}
 use Rattle.back_reduce.specs.Pivots as pivots
@@ -23,16 +25,23 @@ view_at problem s seat = slice_index_or s.views seat (fresh problem.m seat)
 
 -- all words 0 and all views fresh
 abbrev pub opening : Problem → ℕ → State
-opening problem crew = record { words = zeros (1 + problem.m + problem.n * problem.m); views = map (fresh problem.m) (range_with_len 0 crew) }
+opening problem crew = record {
+  words = zeros (1 + problem.m + problem.n * problem.m);
+  views = map (fresh problem.m) (range_with_len 0 crew);
+}
 
 -- the step of an event's seat on the word that it meets
 abbrev pub step_at : Problem → State → Event → Option Stepped
-step_at problem s e = if ltb e.seat (length s.views) then step problem (view_at problem s e.seat) e.kind (word_at problem s (spot_of (view_at problem s e.seat).phase)) else None
+step_at problem s e = if ltb e.seat (length s.views) then step problem (view_at problem s e.seat) e.kind
+    (word_at problem s (spot_of (view_at problem s e.seat).phase)) else None
 
 -- the state with a step of a seat made: its one word and its view are other ones
 abbrev pub with_step : Problem → State → ℕ → Option Stepped → State
 with_step problem s seat None = s
-with_step problem s seat (Some t) = record { words = slice_set s.words (index_of problem.m (spot_of (view_at problem s seat).phase)) t.word; views = slice_set s.views seat t.sight }
+with_step problem s seat (Some t) = record {
+  words = slice_set s.words (index_of problem.m (spot_of (view_at problem s seat).phase)) t.word;
+  views = slice_set s.views seat t.sight;
+}
 
 abbrev pub after_event : Problem → State → Event → State
 after_event problem s e = with_step problem s e.seat (step_at problem s e)
@@ -67,7 +76,8 @@ holders problem s c = if claim_at problem s c == 0 then None else Some (holder_o
 
 -- what a held row has at a column: 0 before its own, and from there on the holder's row words
 abbrev pub values : Problem → State → ℕ → ℕ → ℕ
-values problem s c j = if claim_at problem s c == 0 then 0 else if ltb j c then 0 else word_at problem s (row_word (holder_of problem s c) j)
+values problem s c j = if claim_at problem s c == 0 then 0 else if ltb j c then 0 else word_at problem s
+    (row_word (holder_of problem s c) j)
 
 -- the held row of a column
 abbrev pub held_row : Problem → State → ℕ → List ℕ

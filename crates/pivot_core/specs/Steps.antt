@@ -1,5 +1,6 @@
 -- The steps of the machine of claims: one table, in which each step has its own view and one word, and nothing else.
-use Rattle.std.specs.Prelude.{ℕ, ◌≡◌, ◌+◌, ◌==◌, ltb, max, Bool, true, false, if◌then◌else◌, [], ◌∷◌, ◌++◌, Option, Some, None, slice_index, slice_set}
+use Rattle.std.specs.Prelude.{ℕ, ◌≡◌, ◌+◌, ◌==◌, ltb, max, Bool, true, false, if◌then◌else◌, [], ◌∷◌, ◌++◌, Option}
+use Rattle.std.specs.Prelude.{Some, None, slice_index, slice_set}
 use Rattle.ideal_laws.specs.declared.account.Answer.TheVariants as answer
 use Rattle.back_reduce.specs.declared.problem.Problem.{Problem}
 use Rattle.pivot_core.specs.declared.view.Phase.{Phase}
@@ -39,31 +40,66 @@ spot_of phase.Ended = counter
 -- the table of the steps, by the phase of the view, which has counted the step, and the old word
 abbrev pub by_phase : Problem → Sight → Phase → ℕ → Option Stepped
 by_phase problem v phase.Fresh old = Some (if ltb old problem.n
-    then record { sight = settle problem (record v { drawn = v.drawn + 1 }) (given_row problem old) old; word = old + 1; reply = reply.Drew (Some old) }
+    then record {
+      sight = settle problem (record v { drawn = v.drawn + 1 }) (given_row problem old) old;
+      word = old + 1;
+      reply = reply.Drew (Some old);
+    }
     else record { sight = record v { phase = phase.Ended }; word = old + 1; reply = reply.Drew None })
 by_phase problem v (phase.Looking row column) old = Some (if old == 0
     then record { sight = record v { phase = phase.Putting row column column }; word = old; reply = reply.Free }
-    else record { sight = begin problem (record v { clock = max v.clock (stamp_in old) }) row column (row_in old); word = old; reply = reply.Held (row_in old) (stamp_in old) })
+    else record {
+      sight = begin problem (record v { clock = max v.clock (stamp_in old) }) row column (row_in old);
+      word = old;
+      reply = reply.Held (row_in old) (stamp_in old);
+    })
 by_phase problem v (phase.Putting row column at) old = Some (record {
-  sight = record v { phase = if ltb (at + 1) problem.m then phase.Putting row column (at + 1) else phase.Claiming row column };
+  sight = record v {
+    phase = if ltb (at + 1) problem.m then phase.Putting row column (at + 1) else phase.Claiming
+        row column;
+  };
   word = slice_index v.current at;
   reply = reply.Stored;
 })
 by_phase problem v (phase.Claiming row column) old = Some (if old == 0
     then record {
-      sight = record v { phase = phase.Fresh; current = zeros problem.m; clock = v.clock + 1; calls = v.calls ++ record { seat = v.seat; stamp = v.clock + 1; column = column; row = row; answer = answer.Won } ∷ [] };
+      sight = record v {
+        phase = phase.Fresh;
+        current = zeros problem.m;
+        clock = v.clock + 1;
+        calls =
+            v.calls ++ record {
+              seat = v.seat;
+              stamp = v.clock + 1;
+              column = column;
+              row = row;
+              answer = answer.Won;
+            } ∷ [];
+      };
       word = claim_word (v.clock + 1) row;
       reply = reply.Claimed answer.Won;
     }
     else record {
-      sight = begin problem (record v { clock = max v.clock (stamp_in old) + 1; calls = v.calls ++ record { seat = v.seat; stamp = max v.clock (stamp_in old) + 1; column = column; row = row; answer = answer.Lost (row_in old) (stamp_in old) } ∷ [] }) row column (row_in old);
+      sight = begin problem (record v {
+        clock = max v.clock (stamp_in old) + 1;
+        calls =
+            v.calls ++ record {
+              seat = v.seat;
+              stamp = max v.clock (stamp_in old) + 1;
+              column = column;
+              row = row;
+              answer = answer.Lost (row_in old) (stamp_in old);
+            } ∷ [];
+      }) row column (row_in old);
       word = old;
       reply = reply.Claimed (answer.Lost (row_in old) (stamp_in old));
     })
 by_phase problem v (phase.Reading row column holder at) old =
     let w : Sight = record v { seen = slice_set v.seen at old } in
     Some (record {
-      sight = if ltb (at + 1) problem.m then record w { phase = phase.Reading row column holder (at + 1) } else settle problem w (difference problem.modulus w.current w.seen) row;
+      sight = if ltb (at + 1) problem.m then record w { phase = phase.Reading row column holder (at + 1) } else
+          settle problem w
+          (difference problem.modulus w.current w.seen) row;
       word = old;
       reply = reply.Got old;
     })

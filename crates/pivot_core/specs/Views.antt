@@ -9,14 +9,32 @@ use Rattle.pivot_core.specs.declared.sight.Sight.{Sight}
 
 -- a view without the room of its lists
 abbrev pub sight_of : View → Sight
-sight_of v = record { seat = v.seat; phase = v.phase; current = v.current.items; seen = v.seen.items; clock = v.clock; drawn = v.drawn; steps = v.steps; calls = v.calls.items }
+sight_of v = record {
+  seat = v.seat;
+  phase = v.phase;
+  current = v.current.items;
+  seen = v.seen.items;
+  clock = v.clock;
+  drawn = v.drawn;
+  steps = v.steps;
+  calls = v.calls.items;
+}
 
 abbrev pub zeros : ℕ → List ℕ
 zeros m = replicate m 0
 
 -- the view of a seat before its first step
 abbrev pub fresh : ℕ → ℕ → Sight
-fresh m seat = record { seat = seat; phase = phase.Fresh; current = zeros m; seen = zeros m; clock = 0; drawn = 0; steps = 0; calls = [] }
+fresh m seat = record {
+  seat = seat;
+  phase = phase.Fresh;
+  current = zeros m;
+  seen = zeros m;
+  clock = 0;
+  drawn = 0;
+  steps = 0;
+  calls = [];
+}
 
 -- row r of the problem
 abbrev pub given_row : Problem → ℕ → List ℕ
@@ -47,7 +65,11 @@ difference p x y = plus_multiple p (negative_of p 1) x y
 -- a row goes on as y: it is given up where y is 0, and else looks at its leading column
 abbrev pub settle : Problem → Sight → List ℕ → ℕ → Sight
 settle problem v y row = if ltb (lead_at y) problem.m
-    then record v { phase = phase.Looking row (lead_at y); current = made_monic problem.modulus y; seen = zeros problem.m }
+    then record v {
+      phase = phase.Looking row (lead_at y);
+      current = made_monic problem.modulus y;
+      seen = zeros problem.m;
+    }
     else record v { phase = phase.Fresh; current = zeros problem.m; seen = zeros problem.m }
 
 -- a row begins to read the row that holds its column

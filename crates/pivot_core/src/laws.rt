@@ -1,4 +1,5 @@
-ghost use Rattle.pivot_core.specs.Laws.{CallsFollowWhatWasMet, ClaimedPivotsLaw, HeldRowsArePivots, HeldRowsStay, HistoryMergesLogs, LooksFindCalls, OneLegalHistory, StepCounts};
+ghost use Rattle.pivot_core.specs.Laws.{CallsFollowWhatWasMet, ClaimedPivotsLaw, HeldRowsArePivots, HeldRowsStay};
+ghost use Rattle.pivot_core.specs.Laws.{HistoryMergesLogs, LooksFindCalls, OneLegalHistory, StepCounts};
 
 /// What holds in every state of every run, whatever order the seats' steps take.
 pub fn claim_laws()

@@ -10,7 +10,8 @@ use lane_kernel::axpy_lanes;
 
 /// The first column at which a row is not 0.
 pub(crate) fn lead(row: &[u32]) -> Option<usize>
-    ensures { MatchOption result (length row.now ≤ lead_at row.now) (λ at. (at ≡ lead_at row.now) × (at < length row.now)) }
+    ensures { MatchOption result (length row.now ≤ lead_at row.now)
+        (λ at. (at ≡ lead_at row.now) × (at < length row.now)) }
 {
     for at in 0..row.len() {
         if row[at] != 0 {

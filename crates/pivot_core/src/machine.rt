@@ -1,4 +1,5 @@
-ghost use Rattle.std.specs.Prelude.{◌≡◌, ◌↔◌, ◌<◌, ◌≤◌, All, IfOk, IfSome, IsNone, IsTrue, None, Some, length, map, min};
+ghost use Rattle.std.specs.Prelude.{◌≡◌, ◌↔◌, ◌<◌, ◌≤◌, All, IfOk, IfSome, IsNone, IsTrue, None, Some, length, map};
+ghost use Rattle.std.specs.Prelude.{min};
 ghost use Rattle.std.specs.List.{range_with_len};
 ghost use Rattle.std.specs.Vec.{vec_capacity};
 ghost use Rattle.pivot_core.specs.Cores.{IsMade, MayStep};
@@ -41,7 +42,11 @@ impl Model for Core {
 
     ghost use Rattle.pivot_core.specs.CoreFields.{IsRun};
 
-    ghost view = { λ c. record { problem = c.problem; crew = length c.views.items; state = state_of c.words.items c.views.items } };
+    ghost view = { λ c. record {
+      problem = c.problem;
+      crew = length c.views.items;
+      state = state_of c.words.items c.views.items;
+    } };
 
     ghost invariant = { IsRun };
 }
@@ -85,7 +90,8 @@ impl Core {
         ensures state { self.new.state ≡ after_event self.old.problem self.old.state event }
         ensures problem { self.new.problem ≡ self.old.problem }
         ensures crew { self.new.crew ≡ self.old.crew }
-        ensures reply { IfSome result (λ r. (t : Stepped) × (step_at self.old.problem self.old.state event ≡ Some t) × (t.reply ≡ r)) }
+        ensures reply { IfSome result (λ r. (t : Stepped) × (step_at self.old.problem self.old.state event ≡ Some t)
+            × (t.reply ≡ r)) }
         ensures none { IsNone result ↔ (step_at self.old.problem self.old.state event ≡ None) }
     {
         let seat = event.seat as usize;
@@ -155,8 +161,10 @@ fn make_step(field: &Field, problem: &Problem, words: &mut [u64], view: &mut Vie
 
 /// The views of all seats of a crew, by their numbers, before their first steps.
 fn fresh_views(alloc: Global, problem: &Problem, crew: u32) -> Result<Vec<View>, NoMemory>
-    ensures views { IfOk result (λ views. map sight_of views.items ≡ map (fresh problem.now.m) (range_with_len 0 crew)) }
-    ensures room { IfOk result (λ views. All (λ v. min problem.now.n problem.now.m ≤ vec_capacity v.calls) views.items) }
+    ensures views { IfOk result (λ views. map sight_of views.items
+        ≡ map (fresh problem.now.m) (range_with_len 0 crew)) }
+    ensures room { IfOk result (λ views. All (λ v. min problem.now.n problem.now.m ≤ vec_capacity v.calls)
+        views.items) }
 {
     let mut views = Vec::with_capacity(alloc, crew as usize)?;
     for seat in 0..crew {

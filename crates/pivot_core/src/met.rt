@@ -45,7 +45,8 @@ impl View {
     }
 
     fn begin(&mut self, row: u32, column: u32, holder: u32)
-        ensures begun { sight_of self.new ≡ record (sight_of self.old) { phase = phase.Reading row column holder column; seen = views.zeros (length self.old.seen.items) } }
+        ensures begun { sight_of self.new ≡ record (sight_of self.old)
+            { phase = phase.Reading row column holder column; seen = views.zeros (length self.old.seen.items) } }
         ensures capacity { vec_capacity self.new.calls ≡ vec_capacity self.old.calls }
     {
         clear(self.seen.as_mut_slice());

@@ -25,7 +25,11 @@ impl Model for CorePivots {
 
     ghost Value = { Finished };
 
-    ghost view = { λ c. record { problem = c.problem; words = c.words.items; logs = map (λ log. log.items) c.logs.items } };
+    ghost view = { λ c. record {
+      problem = c.problem;
+      words = c.words.items;
+      logs = map (λ log. log.items) c.logs.items;
+    } };
 
     ghost invariant = { λ c. IsFinished c.problem c.words.items };
 }

@@ -35,7 +35,11 @@ impl Model for Finish {
 
     ghost Value = { Finished };
 
-    ghost view = { λ f. record { problem = f.problem; cells = f.cells.items; logs = map (λ log. log.items) f.logs.items } };
+    ghost view = { λ f. record {
+      problem = f.problem;
+      cells = f.cells.items;
+      logs = map (λ log. log.items) f.logs.items;
+    } };
 
     ghost invariant = { λ f. IsFinished
         (record { problem = f.problem; cells = f.cells.items; logs = map (λ log. log.items) f.logs.items }) };

@@ -22,7 +22,8 @@ module _ (p : ℕ) (columns table : List (List ℕ)) (G : List (List Term)) (is_
       (row_first columns h.row c h.size h.within (λ k lt. h.before k (omega (arith, lt)) ∙ l.before k lt) (h.before c (omega arith) ∙ l.one))
 
   -- a column that gives none
-  pub elements_same : (elements : List (List Term)) (c : ℕ) → AreElements p columns table G elements c → (IsLed table c → IsNormal G (get_or columns c []) → ⊥) → AreElements p columns table G elements (c + 1)
+  pub elements_same : (elements : List (List Term)) (c : ℕ) → AreElements p columns table G elements c →
+      (IsLed table c → IsNormal G (get_or columns c []) → ⊥) → AreElements p columns table G elements (c + 1)
   elements_same elements c h none = record {
     each = λ f m. (let e = h.each f m in (e.0, omega (arith, e.1), e.2));
     every = λ k lt led normal. elim (cases_eq k c) [
@@ -34,7 +35,9 @@ module _ (p : ℕ) (columns table : List (List ℕ)) (G : List (List Term)) (is_
   }
 
   -- a column that gives one
-  pub elements_more : AllPairs IsLetterwiseGreater columns → (elements : List (List Term)) (c : ℕ) (f : List Term) → AreElements p columns table G elements c → IsElementAt p columns table G c f → AreElements p columns table G (elements ++ f ∷ []) (c + 1)
+  pub elements_more : AllPairs IsLetterwiseGreater columns → (elements : List (List Term)) (c : ℕ) (f : List Term) →
+      AreElements p columns table G elements c → IsElementAt p columns table G c f →
+      AreElements p columns table G (elements ++ f ∷ []) (c + 1)
   elements_more falling elements c f h own = record {
     each = λ g m. elim (Contains-push_cases elements f g m) [
       | inl n ↦ (let e = h.each g n in (e.0, omega (arith, e.1), e.2))

@@ -1,5 +1,6 @@
 -- The elements of the table of all products are the reduced basis of the degree.
-use Rattle.std.proofs.Common.{◌≡◌, ◌≢◌, ◌⊎◌, ◌+◌, ◌-◌, ◌%◌, ◌<◌, ◌≤◌, ℕ, List, [], ◌∷◌, ◌++◌, length, replicate, take, drop, get_or, refl, sym, ap, ◌∙◌, inl, inr, arith, All, AllPairs, subst, Some, length-append}
+use Rattle.std.proofs.Common.{◌≡◌, ◌≢◌, ◌⊎◌, ◌+◌, ◌-◌, ◌%◌, ◌<◌, ◌≤◌, ℕ, List, [], ◌∷◌, ◌++◌, length, replicate, take, drop, get_or, refl, sym, ap}
+use Rattle.std.proofs.Common.{◌∙◌, inl, inr, arith, All, AllPairs, subst, Some, length-append}
 use Rattle.std.specs.List.{Contains, flat_map, range_with_len}
 use Rattle.std.proofs.Math.Nat.{mod-eq_of_lt, zero-mod}
 use Rattle.std.proofs.lemmas.Bool.{cases_eq, cases_lt}
@@ -8,7 +9,8 @@ use Rattle.std.proofs.lemmas.List.Elements.{All-contains, All-append, All-cons, 
 use Rattle.words.specs.Words.{IsFactor, IsOver, IsProperFactor, OccursAt, degree_of, words_of_degree}
 use Rattle.words.specs.Order.{IsLetterwiseGreater}
 use Rattle.words.proofs.Degrees.{Contains-range, listed_word, range-bounds, words_of_degree-falling, words_of_degree-says}
-use Rattle.words.proofs.Members.{AllPairs-first, AllPairs-rest, All-from_members, Contains-cases, Contains-flat_map, Contains-flat_map_cases, Contains-map, Contains-map_cases, Contains-more, Contains-none}
+use Rattle.words.proofs.Members.{AllPairs-first, AllPairs-rest, All-from_members, Contains-cases, Contains-flat_map, Contains-flat_map_cases}
+use Rattle.words.proofs.Members.{Contains-map, Contains-map_cases, Contains-more, Contains-none}
 use Rattle.words.proofs.Weights.{degree_of-append, length-le-degree_of}
 use Rattle.free_poly.specs.declared.term.Term.{Term}
 use Rattle.free_poly.specs.Terms.{HasDegree, HasOneDegree, UsesLetters, product, total_at}
@@ -52,10 +54,12 @@ pub lead_degree-all : (weights : List ℕ) (r : List Term) → HasOneDegree weig
 lead_degree-all weights [] h = All-nil (λ t. degree_of weights t.word ≡ 0)
 lead_degree-all weights (t ∷ r) h =
     All-cons (λ s. degree_of weights s.word ≡ degree_of weights t.word) t r refl
-    (All-weaker (λ s. degree_of weights t.word ≡ degree_of weights s.word) (λ s. degree_of weights s.word ≡ degree_of weights t.word) (λ s e. sym e) r (AllPairs-first (λ s t. degree_of weights s.word ≡ degree_of weights t.word) t r h))
+    (All-weaker (λ s. degree_of weights t.word ≡ degree_of weights s.word) (λ s. degree_of weights s.word ≡ degree_of weights t.word)
+    (λ s e. sym e) r (AllPairs-first (λ s t. degree_of weights s.word ≡ degree_of weights t.word) t r h))
 
 -- of two elements with one leading word in a falling list both are one
-one_in_falling : (fs : List (List Term)) → AllPairs HasGreaterLead fs → (f g : List Term) (w : List ℕ) → Contains fs f → Contains fs g → lead_of f ≡ Some w → lead_of g ≡ Some w → f ≡ g
+one_in_falling : (fs : List (List Term)) → AllPairs HasGreaterLead fs → (f g : List Term) (w : List ℕ) → Contains fs f → Contains fs g →
+    lead_of f ≡ Some w → lead_of g ≡ Some w → f ≡ g
 one_in_falling [] h f g w m n lf lg = absurd (Contains-none f m)
 one_in_falling (e ∷ fs) h f g w m n lf lg = elim (Contains-cases e fs f m) [
   | inl is ↦ elim (Contains-cases e fs g n) [
@@ -88,14 +92,17 @@ factor_from_occurs u w k o = record {
 }
 
 -- what holds of each word smaller than the leading one
-below_all : (P : Term → Type 0) (f : List Term) (w : List ℕ) → lead_of f ≡ Some w → IsPolynomial f → ((t : Term) → Contains f t → t.word ≢ w → P t) → All P (below_lead f)
+below_all : (P : Term → Type 0) (f : List Term) (w : List ℕ) → lead_of f ≡ Some w → IsPolynomial f →
+    ((t : Term) → Contains f t → t.word ≢ w → P t) → All P (below_lead f)
 below_all P [] w e h q = cc e
 below_all P (t ∷ f) w e h q =
     let is : t.word ≡ w = cc e in
     All-from_members P f (λ s m. q s (Contains-more t f s m) (λ same.
-    letterwise-apart t.word s.word (All-contains (λ s. IsLetterwiseGreater t.word s.word) f s (AllPairs-first (λ s t. IsLetterwiseGreater s.word t.word) t f h.falling) m) (is ∙ sym same)))
+    letterwise-apart t.word s.word (All-contains (λ s. IsLetterwiseGreater t.word s.word) f s
+    (AllPairs-first (λ s t. IsLetterwiseGreater s.word t.word) t f h.falling) m) (is ∙ sym same)))
 
-module _ (p : ℕ) (weights : List ℕ) (relations : List (List Term)) (st : IsSetting p weights relations) (d : ℕ) (lists : List (List (List ℕ))) (al : AreLists weights d lists (d + 1)) where
+module _ (p : ℕ) (weights : List ℕ) (relations : List (List Term)) (st : IsSetting p weights relations) (d : ℕ)
+    (lists : List (List (List ℕ))) (al : AreLists weights d lists (d + 1)) where
   abbrev ws : List (List ℕ)
   ws = list_at lists d
 
@@ -133,7 +140,8 @@ module _ (p : ℕ) (weights : List ℕ) (relations : List (List Term)) (st : IsS
   ]
 
   -- a word that another fills up to the degree is listed
-  in_list : (u v : List ℕ) → IsOver (length weights) u → IsOver (length weights) v → degree_of weights u + degree_of weights v ≡ d → Contains (list_at lists (degree_of weights u)) u
+  in_list : (u v : List ℕ) → IsOver (length weights) u → IsOver (length weights) v → degree_of weights u + degree_of weights v ≡ d →
+      Contains (list_at lists (degree_of weights u)) u
   in_list u v over_u over_v e =
       let k = degree_of weights u in
       let m : Contains (words_of_degree weights (d - k)) v = in_degree (d - k) v over_v (omega (arith, e)) in
@@ -158,20 +166,28 @@ module _ (p : ℕ) (weights : List ℕ) (relations : List (List Term)) (st : IsS
       let r = All-contains (IsRelation p weights) relations m.relation st.are_relations h.among in
       by_first m.relation r.other r.letters h.among h.degree
     where
-      by_first : (r : List Term) → r ≢ [] → UsesLetters (length weights) r → Contains relations r → HasDegree weights d (product m.left r m.right) → Contains all_rows (coefficients ws (product m.left r m.right))
+      by_first : (r : List Term) → r ≢ [] → UsesLetters (length weights) r → Contains relations r →
+          HasDegree weights d (product m.left r m.right) → Contains all_rows (coefficients ws (product m.left r m.right))
       by_first [] ne letters among deg = absurd (ne refl)
       by_first (t ∷ f) ne letters among deg =
           let r = t ∷ f in
           let over = All-head (λ s. IsOver (length weights) s.word) t f letters in
-          let sizes : degree_of weights m.left + degree_of weights t.word + degree_of weights m.right ≡ d = sym (degree_of-round weights m.left t.word m.right) ∙ All-head (λ s. degree_of weights s.word ≡ d) _ (product m.left f m.right) deg in
+          let sizes : degree_of weights m.left + degree_of weights t.word + degree_of weights m.right ≡ d =
+          sym (degree_of-round weights m.left t.word m.right) ∙ All-head (λ s. degree_of weights s.word ≡ d) _
+          (product m.left f m.right) deg in
           let left : Contains (list_at lists (degree_of weights m.left)) m.left =
-          in_list m.left (t.word ++ m.right) h.left_over (over-append t.word m.right over h.right_over) (ap (λ (n : ℕ). degree_of weights m.left + n) (degree_of-append weights t.word m.right) ∙ omega (arith, sizes)) in
+          in_list m.left (t.word ++ m.right) h.left_over (over-append t.word m.right over h.right_over)
+          (ap (λ (n : ℕ). degree_of weights m.left + n) (degree_of-append weights t.word m.right) ∙ omega (arith, sizes)) in
           let right : Contains (list_at lists (degree_of weights m.right)) m.right =
-          in_list m.right (m.left ++ t.word) h.right_over (over-append m.left t.word h.left_over over) (ap (λ (n : ℕ). degree_of weights m.right + n) (degree_of-append weights m.left t.word) ∙ omega (arith, sizes)) in
+          in_list m.right (m.left ++ t.word) h.right_over (over-append m.left t.word h.left_over over)
+          (ap (λ (n : ℕ). degree_of weights m.right + n) (degree_of-append weights m.left t.word) ∙ omega (arith, sizes)) in
           let there : d - degree_of weights t.word - degree_of weights m.left ≡ degree_of weights m.right = omega (arith, sizes) in
           Contains-flat_map (relation_rows weights lists d) relations r (coefficients ws (product m.left r m.right)) among
-          (Contains-flat_map (rounds r) (range_with_len 0 (d + 1 - degree_of weights t.word)) (degree_of weights m.left) (coefficients ws (product m.left r m.right)) (Contains-range 0 (d + 1 - degree_of weights t.word) (degree_of weights m.left) (omega arith) (omega (arith, sizes)))
-          (Contains-flat_map (λ u. right_rows ws u r (list_at lists (d - degree_of weights t.word - degree_of weights m.left))) (list_at lists (degree_of weights m.left)) m.left (coefficients ws (product m.left r m.right)) left
+          (Contains-flat_map (rounds r) (range_with_len 0 (d + 1 - degree_of weights t.word)) (degree_of weights m.left)
+          (coefficients ws (product m.left r m.right)) (Contains-range 0 (d + 1 - degree_of weights t.word) (degree_of weights m.left)
+          (omega arith) (omega (arith, sizes)))
+          (Contains-flat_map (λ u. right_rows ws u r (list_at lists (d - degree_of weights t.word - degree_of weights m.left)))
+          (list_at lists (degree_of weights m.left)) m.left (coefficients ws (product m.left r m.right)) left
           (Contains-map (λ v. coefficients ws (product m.left r v)) (list_at lists (d - degree_of weights t.word - degree_of weights m.left)) m.right
           (subst (λ (n : ℕ). Contains (list_at lists n) m.right) (sym there) right))))
 
@@ -202,13 +218,15 @@ module _ (p : ℕ) (weights : List ℕ) (relations : List (List Term)) (st : IsS
           left_over = left.0;
           right_over = right.0;
           among = r.1;
-          degree = subst (λ (n : ℕ). HasDegree weights n (product u.0 r.0 v.0)) sum (HasDegree-product weights (lead_degree weights r.0) u.0 r.0 v.0 (lead_degree-all weights r.0 rel.one_degree));
+          degree = subst (λ (n : ℕ). HasDegree weights n (product u.0 r.0 v.0)) sum
+              (HasDegree-product weights (lead_degree weights r.0) u.0 r.0 v.0 (lead_degree-all weights r.0 rel.one_degree));
         };
         is = sym v.2;
       }
 
   -- a row of a product is its vector
-  row_vector : (m : Multiple) → IsMultiple p weights relations d m → (w : List ℕ) → vec p st.modulus ws (row_of m) w ≡ vectors.vector_of p st.modulus (product m.left m.relation m.right) w
+  row_vector : (m : Multiple) → IsMultiple p weights relations d m → (w : List ℕ) →
+      vec p st.modulus ws (row_of m) w ≡ vectors.vector_of p st.modulus (product m.left m.relation m.right) w
   row_vector m h w =
       let f = product m.left m.relation m.right in
       let r = All-contains (IsRelation p weights) relations m.relation st.are_relations h.among in
@@ -216,7 +234,8 @@ module _ (p : ℕ) (weights : List ℕ) (relations : List (List Term)) (st : IsS
       same_residue p _ _ (ap (λ (n : ℕ). n % p) (elim (listed ws w) [
         | inl there ↦ entry_at-coefficients ws f w there
         | inr off ↦ entry_at-absent ws (coefficients ws f) w off
-            ∙ sym (total_at-absent f w (λ k t within e. off (subst (Contains ws) e (in_columns (get_or f k t).word (letters k t within) (h.degree k t within)))))
+            ∙ sym (total_at-absent f w (λ k t within e. off (subst (Contains ws) e
+            (in_columns (get_or f k t).word (letters k t within) (h.degree k t within)))))
       ]))
 
   module _ (table : List (List ℕ)) (is_table : IsTable p (length ws) table) (is_built : IsBuilt p (replicate (length ws) []) all_rows table) where
@@ -232,7 +251,8 @@ module _ (p : ℕ) (weights : List ℕ) (relations : List (List Term)) (st : IsS
 
     made : HasBuilt p st.modulus ws (length ws) IsProductV no_rows all_rows table
     made = has_built p st.modulus ws (length ws) IsProductV no_rows all_rows table (λ c within led. absurd (none_led c within led))
-        (λ row m. let r = listed_row row m in ap length r.is ∙ length-map ws (λ w. total_at (product r.multiple.left r.multiple.relation r.multiple.right) w)) is_built
+        (λ row m. let r = listed_row row m in ap length r.is ∙ length-map ws
+        (λ w. total_at (product r.multiple.left r.multiple.relation r.multiple.right) w)) is_built
 
     product_spanned : (row : List ℕ) → Contains all_rows row → IsInSpan Kd (List ℕ) IsProductV (vec p st.modulus ws row)
     product_spanned row m =
@@ -265,20 +285,25 @@ module _ (p : ℕ) (weights : List ℕ) (relations : List (List Term)) (st : IsS
         by_first [] i e = cc e
         by_first (t ∷ f) i e =
             let is : t.word ≡ w = cc e in
-            let there = in_columns t.word (All-head (λ s. IsOver (length weights) s.word) t f i.element.letters) (All-head (λ s. degree_of weights s.word ≡ d) t f i.element.degree) in
+            let there = in_columns t.word (All-head (λ s. IsOver (length weights) s.word) t f i.element.letters)
+            (All-head (λ s. degree_of weights s.word ≡ d) t f i.element.degree) in
             let c = there.0 in
             let word : get_or ws c [] ≡ t.word = get_or_default ws c [] t.word there.1 ∙ there.2 in
             let v = vectors.vector_of p st.modulus (t ∷ f) in
-            let some : total_at (t ∷ f) t.word ≡ t.coefficient = total_at-found (t ∷ f) 0 t t.word (AreApart-from_polynomial (t ∷ f) i.element.form) (omega arith) refl in
+            let some : total_at (t ∷ f) t.word ≡ t.coefficient = total_at-found (t ∷ f) 0 t t.word
+            (AreApart-from_polynomial (t ∷ f) i.element.form) (omega arith) refl in
             let residue : t.coefficient < p = All-head (λ s. s.coefficient < p) t f i.element.residues in
             let other : t.coefficient ≢ 0 = All-head (λ s. s.coefficient ≢ 0) t f i.element.form.nonzero in
             record {
               column = c;
               within = there.1;
               word = word ∙ is;
-              led = column_led p st.modulus ws columns_falling table is_table v (member_reached v (span_from_ideal p st.modulus weights relations d (t ∷ f) i)) c there.1
-                  (λ n lt. same_residue p _ _ (ap (λ (m : ℕ). m % p) (above_all (get_or ws n []) t f i.element.form (subst (IsLetterwiseGreater (get_or ws n [])) word (columns_falling n c [] lt there.1)))))
-                  (λ zero_there. other (sym (mod-eq_of_lt residue) ∙ ap (λ (m : ℕ). m % p) (sym some) ∙ ap (λ (x : List ℕ). total_at (t ∷ f) x % p) (sym word) ∙ ap (λ (n : Residue p). n.0) zero_there ∙ zero-mod p));
+              led = column_led p st.modulus ws columns_falling table is_table v
+                  (member_reached v (span_from_ideal p st.modulus weights relations d (t ∷ f) i)) c there.1
+                  (λ n lt. same_residue p _ _ (ap (λ (m : ℕ). m % p) (above_all (get_or ws n []) t f i.element.form
+                  (subst (IsLetterwiseGreater (get_or ws n [])) word (columns_falling n c [] lt there.1)))))
+                  (λ zero_there. other (sym (mod-eq_of_lt residue) ∙ ap (λ (m : ℕ). m % p) (sym some)
+                  ∙ ap (λ (x : List ℕ). total_at (t ∷ f) x % p) (sym word) ∙ ap (λ (n : Residue p). n.0) zero_there ∙ zero-mod p));
             }
 
     module _ (G : List (List Term)) (lower : AreLower p weights relations d G) where
@@ -297,14 +322,16 @@ module _ (p : ℕ) (weights : List ℕ) (relations : List (List Term)) (st : IsS
         firsts = element_first p ws table G is_table c f h
 
         member : IsInSpan Kd (List ℕ) IsProductV (vec p st.modulus ws row)
-        member = cleared_from p st.modulus ws IsProductV (length ws) table made.sized rows_spanned (row_at table c) row (is_table.leaders c h.within h.led).size h.cleared (rows_spanned c in_table h.led)
+        member = cleared_from p st.modulus ws IsProductV (length ws) table made.sized rows_spanned (row_at table c) row
+            (is_table.leaders c h.within h.led).size h.cleared (rows_spanned c in_table h.led)
 
         from_row : f ≡ from_words ws (entry_at ws row)
         from_row = h.is ∙ element_on-is ws row columns_falling h.size
 
         is_element : f ≡ element_from p st.modulus weights relations st d (vec p st.modulus ws row)
         is_element = from_row
-            ∙ from_words-same ws (entry_at ws row) (entries p st.modulus (vec p st.modulus ws row)) (λ x m. sym (mod-eq_of_lt (entry_at-all (λ n. n < p) positive ws row h.residues x)))
+            ∙ from_words-same ws (entry_at ws row) (entries p st.modulus (vec p st.modulus ws row))
+            (λ x m. sym (mod-eq_of_lt (entry_at-all (λ n. n < p) positive ws row h.residues x)))
             ∙ ap (λ (xs : List (List ℕ)). from_words xs (entries p st.modulus (vec p st.modulus ws row))) columns_are
 
         inside : IsInIdeal p weights relations d f
@@ -318,11 +345,23 @@ module _ (p : ℕ) (weights : List ℕ) (relations : List (List Term)) (st : IsS
             let i = proper.inside in
             let whole = subst (IsOver (length weights)) i.joined says.0 in
             let over_v = All-back (λ x. x < length weights) i.before v (All-front (λ x. x < length weights) (i.before ++ v) i.after whole) in
-            let less : degree_of weights v < d = omega (arith, says.1, ap (degree_of weights) i.joined, degree_of-round weights i.before v i.after, ap length i.joined, length-append (i.before ++ v) i.after, length-append i.before v, shorter v w proper, length-le-degree_of weights st.are_weights i.before, length-le-degree_of weights st.are_weights i.after) in
+            let less : degree_of weights v < d = omega (
+              arith,
+              says.1,
+              ap (degree_of weights) i.joined,
+              degree_of-round weights i.before v i.after,
+              ap length i.joined,
+              length-append (i.before ++ v) i.after,
+              length-append i.before v,
+              shorter v w proper,
+              length-le-degree_of weights st.are_weights i.before,
+              length-le-degree_of weights st.are_weights i.after,
+            ) in
             let u = (factor_law p weights relations st v over_v).0 l in
             let g = minimal_led p weights relations st u.0 u.2 in
             let j = u.1 in
-            let within_v : degree_of weights u.0 ≤ degree_of weights v = omega (arith, ap (degree_of weights) j.joined, degree_of-round weights j.before u.0 j.after) in
+            let within_v : degree_of weights u.0 ≤ degree_of weights v =
+            omega (arith, ap (degree_of weights) j.joined, degree_of-round weights j.before u.0 j.after) in
             let there = (lower g.0).1 (degree_of weights u.0, omega (arith, within_v, less), g.1) in
             let k = factor_trans u.0 v w j i in
             h.normal g.0 u.0 (length k.before) there g.2 (occurs_from_factor u.0 w k)
@@ -343,7 +382,9 @@ module _ (p : ℕ) (weights : List ℕ) (relations : List (List Term)) (st : IsS
             entry (ap (entry_at ws row) (sym there.word) ∙ entry_at-column ws row k columns_falling h.size there.within ∙ gone))
           where
             entry_there : (t : Term) → Contains f t → entry_at ws row t.word ≢ 0
-            entry_there t m = All-contains (λ s. entry_at ws row s.word ≢ 0) (from_words ws (entry_at ws row)) t (from_words-all (λ s. entry_at ws row s.word ≢ 0) ws (entry_at ws row) (λ x n ne. ne)) (subst (λ (g : List Term). Contains g t) from_row m)
+            entry_there t m = All-contains (λ s. entry_at ws row s.word ≢ 0) (from_words ws (entry_at ws row)) t
+                (from_words-all (λ s. entry_at ws row s.word ≢ 0) ws (entry_at ws row) (λ x n ne. ne))
+                (subst (λ (g : List Term). Contains g t) from_row m)
 
         pub element_reduced : IsReduced p weights relations d f
         element_reduced = record {
@@ -364,12 +405,16 @@ module _ (p : ℕ) (weights : List ℕ) (relations : List (List Term)) (st : IsS
       reduced_normal f w h e deg g v k m lead o =
           let low = (lower g).0 m in
           let deg_v : degree_of weights v ≡ low.0 = degree_of_lead low.0 g v low.2 lead in
-          (h.minimal w e).none_inside v (record { inside = factor_from_occurs v w k o; other = λ is. omega (arith, ap (degree_of weights) is, deg_v, deg, low.1) })
+          (h.minimal w e).none_inside v (record {
+            inside = factor_from_occurs v w k o;
+            other = λ is. omega (arith, ap (degree_of weights) is, deg_v, deg, low.1);
+          })
           (record { member = g; inside = subst (λ (n : ℕ). IsInIdeal p weights relations n g) (sym deg_v) low.2.inside; lead = lead })
         where
           degree_of_lead : (n : ℕ) (q : List Term) (x : List ℕ) → IsReduced p weights relations n q → lead_of q ≡ Some x → degree_of weights x ≡ n
           degree_of_lead n [] x r e = cc e
-          degree_of_lead n (t ∷ q) x r e = let is : t.word ≡ x = cc e in ap (degree_of weights) (sym is) ∙ All-head (λ s. degree_of weights s.word ≡ n) t q r.inside.element.degree
+          degree_of_lead n (t ∷ q) x r e = let is : t.word ≡ x = cc e in ap (degree_of weights) (sym is)
+              ∙ All-head (λ s. degree_of weights s.word ≡ n) t q r.inside.element.degree
 
       pub basis_from_elements : (elements : List (List Term)) → AreElements p ws table G elements (length ws) → IsReducedBasis p weights relations d elements
       basis_from_elements elements are = record {
@@ -381,7 +426,9 @@ module _ (p : ℕ) (weights : List ℕ) (relations : List (List Term)) (st : IsS
               let says = column_says x.0 (subst (Contains ws) at.word (Contains-get_or ws at.column [] at.within)) in
               let own = are.every at.column at.within at.led (subst (IsNormal G) (sym at.word) (reduced_normal f x.0 h x.1 says.1)) in
               let b = has_one_basis p weights relations st d in
-              let same : f ≡ own.0 = one_in_falling b.value b.holds.falling f own.0 x.0 ((b.holds.exactly f).1 h) ((b.holds.exactly own.0).1 (element_reduced at.column own.0 own.2)) x.1 (element_lead at.column own.0 own.2 ∙ ap Some at.word) in
+              let same : f ≡ own.0 = one_in_falling b.value b.holds.falling f own.0 x.0 ((b.holds.exactly f).1 h)
+              ((b.holds.exactly own.0).1 (element_reduced at.column own.0 own.2)) x.1
+              (element_lead at.column own.0 own.2 ∙ ap Some at.word) in
               subst (Contains elements) (sym same) own.1),
         );
         falling = are.falling;

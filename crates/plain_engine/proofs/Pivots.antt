@@ -15,7 +15,8 @@ use Rattle.plain_engine.specs.Table.{IsLeader, IsLed, IsTable, row_at}
 use Rattle.plain_engine.proofs.Rows.{entry_at-column}
 use Rattle.plain_engine.proofs.Spans.{IsSplit, IsTableRow, split, vec}
 
-module _ (p : ℕ) (fm : IsFieldModulus p) (xs : List (List ℕ)) (falling : AllPairs IsLetterwiseGreater xs) (table : List (List ℕ)) (is_table : IsTable p (length xs) table) where
+module _ (p : ℕ) (fm : IsFieldModulus p) (xs : List (List ℕ)) (falling : AllPairs IsLetterwiseGreater xs) (table : List (List ℕ))
+    (is_table : IsTable p (length xs) table) where
   abbrev Kt : Field
   Kt = vectors.K p fm
 
@@ -34,7 +35,8 @@ module _ (p : ℕ) (fm : IsFieldModulus p) (xs : List (List ℕ)) (falling : All
   zero_before : (c k : ℕ) → c < length table → IsLed table c → k < c → tv c (col k) ≡ Kt.zero
   zero_before c k within led lt =
       let l = leader c within led in
-      same_residue p _ _ (ap (λ (n : ℕ). n % p) (entry_at-column xs (row_at table c) k falling l.size (omega (arith, lt, within, is_table.size)) ∙ l.before k lt))
+      same_residue p _ _ (ap (λ (n : ℕ). n % p) (entry_at-column xs (row_at table c) k falling l.size
+      (omega (arith, lt, within, is_table.size)) ∙ l.before k lt))
 
   one_there : (c : ℕ) → c < length table → IsLed table c → tv c (col c) ≡ Kt.one
   one_there c within led =
@@ -51,19 +53,24 @@ module _ (p : ℕ) (fm : IsFieldModulus p) (xs : List (List ℕ)) (falling : All
   from_zero_at : (k n : ℕ) → n < k → (v : Vt) → IsFrom k v → v (col n) ≡ Kt.zero
   from_zero_at k n lt v h = ap (λ (u : Vt). u (col n)) h.4 ∙ zero_before h.0 n h.1 h.2 (omega (arith, lt, h.3))
 
-  later : (k : ℕ) (v : Vt) → (k < length table) → IsLed table k → v (col k) ≡ Kt.zero → IsSplit p fm xs (IsFrom (suc k)) (tv k) v → IsInSpan Kt (List ℕ) (IsFrom (suc k)) v
+  later : (k : ℕ) (v : Vt) → (k < length table) → IsLed table k → v (col k) ≡ Kt.zero → IsSplit p fm xs (IsFrom (suc k)) (tv k) v →
+      IsInSpan Kt (List ℕ) (IsFrom (suc k)) v
   later k v within led none r =
       let rest : Vt = sum_of Kt (List ℕ) r.others in
-      let gone : rest (col k) ≡ Kt.zero = IsInSpan-zero_at Kt (List ℕ) (IsFrom (suc k)) (col k) (λ g h. from_zero_at (suc k) k (omega arith) g h) rest (record { parts = r.others; each = r.each; sum = λ w. refl }) in
+      let gone : rest (col k) ≡ Kt.zero = IsInSpan-zero_at Kt (List ℕ) (IsFrom (suc k)) (col k)
+      (λ g h. from_zero_at (suc k) k (omega arith) g h) rest (record { parts = r.others; each = r.each; sum = λ w. refl }) in
       let factor : Kt.zero ≡ r.factor =
-      sym none ∙ r.sum (col k) ∙ ap (Kt.add (Kt.mul r.factor (tv k (col k)))) gone ∙ Kt.add_zero _ ∙ ap (Kt.mul r.factor) (one_there k within led) ∙ Kt.mul_one r.factor in
+      sym none ∙ r.sum (col k) ∙ ap (Kt.add (Kt.mul r.factor (tv k (col k)))) gone ∙ Kt.add_zero _
+      ∙ ap (Kt.mul r.factor) (one_there k within led) ∙ Kt.mul_one r.factor in
       record {
         parts = r.others;
         each = r.each;
-        sum = λ w. r.sum w ∙ ap (λ (n : Kt.F). Kt.add (Kt.mul n (tv k w)) (rest w)) (sym factor) ∙ ap (λ (n : Kt.F). Kt.add n (rest w)) (Kt.mul_comm Kt.zero (tv k w) ∙ mul_zero Kt (tv k w)) ∙ zero_add Kt (rest w);
+        sum = λ w. r.sum w ∙ ap (λ (n : Kt.F). Kt.add (Kt.mul n (tv k w)) (rest w)) (sym factor)
+            ∙ ap (λ (n : Kt.F). Kt.add n (rest w)) (Kt.mul_comm Kt.zero (tv k w) ∙ mul_zero Kt (tv k w)) ∙ zero_add Kt (rest w);
       }
 
-  from_column : (k : ℕ) → k ≤ length table → (v : Vt) → ((n : ℕ) → n < k → v (col n) ≡ Kt.zero) → IsInSpan Kt (List ℕ) (IsTableRow p fm xs table) v → IsInSpan Kt (List ℕ) (IsFrom k) v
+  from_column : (k : ℕ) → k ≤ length table → (v : Vt) → ((n : ℕ) → n < k → v (col n) ≡ Kt.zero) →
+      IsInSpan Kt (List ℕ) (IsTableRow p fm xs table) v → IsInSpan Kt (List ℕ) (IsFrom k) v
   from_column zero le v none s = weaker (IsTableRow p fm xs table) (IsFrom zero) (λ u h. (h.0, h.1, h.2, omega arith, h.3)) v s
   from_column (suc k) le v none s =
       let earlier = from_column k (omega (arith, le)) v (λ n lt. none n (omega (arith, lt))) s in
@@ -85,10 +92,12 @@ module _ (p : ℕ) (fm : IsFieldModulus p) (xs : List (List ℕ)) (falling : All
         | inr ne ↦ (h.0, h.1, h.2, omega (arith, h.3, ne), h.4)
       ]
 
-  pub column_led : (v : Vt) → IsInSpan Kt (List ℕ) (IsTableRow p fm xs table) v → (c : ℕ) → c < length xs → ((n : ℕ) → n < c → v (get_or xs n []) ≡ Kt.zero) → (v (get_or xs c []) ≡ Kt.zero → ⊥) → IsLed table c
+  pub column_led : (v : Vt) → IsInSpan Kt (List ℕ) (IsTableRow p fm xs table) v → (c : ℕ) → c < length xs →
+      ((n : ℕ) → n < c → v (get_or xs n []) ≡ Kt.zero) → (v (get_or xs c []) ≡ Kt.zero → ⊥) → IsLed table c
   column_led v s c within none some = elim (cases_lt 0 (length (row_at table c))) [
     | inl led ↦ led
-    | inr not ↦ absurd (some (IsInSpan-zero_at Kt (List ℕ) (IsFrom c) (col c) (λ g h. ap (λ (u : Vt). u (col c)) h.4 ∙ zero_before h.0 c h.1 h.2 (behind h.0 h.2 h.3 not)) v
+    | inr not ↦ absurd (some (IsInSpan-zero_at Kt (List ℕ) (IsFrom c) (col c)
+        (λ g h. ap (λ (u : Vt). u (col c)) h.4 ∙ zero_before h.0 c h.1 h.2 (behind h.0 h.2 h.3 not)) v
         (from_column c (omega (arith, within, is_table.size)) v none s)))
   ]
     where

@@ -1,5 +1,6 @@
 -- Rows and products as polynomials, step by step.
-use Rattle.std.proofs.Common.{ap₂, ◌≡◌, ◌+◌, ◌<◌, ℕ, zero, suc, Bool, cond, List, [], ◌∷◌, ◌++◌, drop, length, take, get_or, sym, ap, ◌∙◌, inl, inr, arith, All, AllPairs, bytes_eq, add-zero, zero-add, subst, Some}
+use Rattle.std.proofs.Common.{ap₂, ◌≡◌, ◌+◌, ◌<◌, ℕ, zero, suc, Bool, cond, List, [], ◌∷◌, ◌++◌, drop, length, take, get_or, sym, ap, ◌∙◌, inl, inr}
+use Rattle.std.proofs.Common.{arith, All, AllPairs, bytes_eq, add-zero, zero-add, subst, Some}
 use Rattle.std.specs.List.{Contains}
 use Rattle.std.proofs.lemmas.Bool.{cases_Bool}
 use Rattle.std.proofs.lemmas.List.{append_assoc, drop_more, take_more}
@@ -30,7 +31,8 @@ total_residue p pos (t ∷ f) h r w = elim (cases_Bool (bytes_eq t.word w)) [
   | inl is ↦
       let own = (bytes_eq-Decides t.word w).0 is in
       let none : total_at f w ≡ 0 = total_at-absent f w (λ k d within e. h zero (suc k) d (omega arith) (omega (arith, within)) (own ∙ sym e)) in
-      subst (λ (n : ℕ). n < p) (sym (ap₂ (λ (b : Bool) (n : ℕ). cond b t.coefficient 0 + n) is none ∙ add-zero t.coefficient)) (All-head (λ s. s.coefficient < p) t f r)
+      subst (λ (n : ℕ). n < p) (sym (ap₂ (λ (b : Bool) (n : ℕ). cond b t.coefficient 0 + n) is none ∙ add-zero t.coefficient))
+      (All-head (λ s. s.coefficient < p) t f r)
   | inr other ↦
       subst (λ (n : ℕ). n < p) (sym (ap (λ (b : Bool). cond b t.coefficient 0 + total_at f w) other ∙ zero-add (total_at f w)))
       (total_residue p pos f (AreApart-tail t f h) (All-tail (λ s. s.coefficient < p) t f r) w)
@@ -55,15 +57,18 @@ module _ (xs : List (List ℕ)) (row : List ℕ) (falling : AllPairs IsLetterwis
   element_on-polynomial = subst IsPolynomial (sym (element_on-is xs row falling size)) (from_words-polynomial xs (entry_at xs row) falling)
 
   -- what holds of each term that can be there
-  pub element_on-all : (P : Term → Type 0) → ((x : List ℕ) → Contains xs x → P (record { word = x; coefficient = entry_at xs row x })) → All P (element_on xs row)
+  pub element_on-all : (P : Term → Type 0) → ((x : List ℕ) → Contains xs x → P (record { word = x; coefficient = entry_at xs row x })) →
+      All P (element_on xs row)
   element_on-all P h = subst (All P) (sym (element_on-is xs row falling size)) (from_words-all P xs (entry_at xs row) (λ x m ne. h x m))
 
   pub element_on-residues : (p : ℕ) → 0 < p → All (λ r. r < p) row → HasResidues p (element_on xs row)
   element_on-residues p pos h = element_on-all (λ t. t.coefficient < p) (λ x m. entry_at-all (λ n. n < p) pos xs row h x)
 
 -- one more element none of whose leading words stands in the word
-pub normal_more : (fs : List (List Term)) (i : ℕ) (e : List Term) (w : List ℕ) → i < length fs → e ≡ get_or fs i e → IsNormal (take i fs) w → ((v : List ℕ) (k : ℕ) → lead_of e ≡ Some v → OccursAt v w k → ⊥) → IsNormal (take (i + 1) fs) w
-normal_more fs i e w within is h own g v k m lead o = elim (Contains-push_cases (take i fs) (get_or fs i e) g (subst (λ (xs : List (List Term)). Contains xs g) (take_more fs i e within) m)) [
-  | inl n ↦ h g v k n lead o
-  | inr same ↦ own v k (ap lead_of (is ∙ same) ∙ lead) o
-]
+pub normal_more : (fs : List (List Term)) (i : ℕ) (e : List Term) (w : List ℕ) → i < length fs → e ≡ get_or fs i e → IsNormal (take i fs) w
+    → ((v : List ℕ) (k : ℕ) → lead_of e ≡ Some v → OccursAt v w k → ⊥) → IsNormal (take (i + 1) fs) w
+normal_more fs i e w within is h own g v k m lead o = elim (Contains-push_cases (take i fs) (get_or fs i e) g
+    (subst (λ (xs : List (List Term)). Contains xs g) (take_more fs i e within) m)) [
+      | inl n ↦ h g v k n lead o
+      | inr same ↦ own v k (ap lead_of (is ∙ same) ∙ lead) o
+    ]

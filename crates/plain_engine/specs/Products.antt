@@ -21,4 +21,5 @@ round_rows columns us r vs = flat_map (λ u. right_rows columns u r vs) us
 -- u * r * v of degree d, by the degree of u
 abbrev pub relation_rows : List ℕ → List (List (List ℕ)) → ℕ → List Term → List (List ℕ)
 relation_rows weights lists d r =
-    flat_map (λ k. round_rows (list_at lists d) (list_at lists k) r (list_at lists (d - lead_degree weights r - k))) (range_with_len 0 (d + 1 - lead_degree weights r))
+    flat_map (λ k. round_rows (list_at lists d) (list_at lists k) r (list_at lists (d - lead_degree weights r - k)))
+    (range_with_len 0 (d + 1 - lead_degree weights r))

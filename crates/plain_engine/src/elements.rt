@@ -24,10 +24,12 @@ pub(crate) fn elements_of(
 ) -> Result<Vec<Poly>, NoMemory>
     requires letters { All (IsOver (length alphabet.now.weights)) columns.now }
     requires small { All (λ w. degree_of alphabet.now.weights w ≤ 64) columns.now }
-    requires one_degree { AllPairs (λ v w. degree_of alphabet.now.weights v ≡ degree_of alphabet.now.weights w) columns.now }
+    requires one_degree { AllPairs (λ v w. degree_of alphabet.now.weights v ≡ degree_of alphabet.now.weights w)
+        columns.now }
     requires falling { AllPairs IsLetterwiseGreater columns.now }
     requires table { IsTable field.now (length columns.now) table.now }
-    ensures { IfOk result (λ elements. AreElements field.now columns.now table.now below.now.elements elements.items (length columns.now)) }
+    ensures { IfOk result (λ elements. AreElements field.now columns.now table.now below.now.elements elements.items
+        (length columns.now)) }
 {
     let _modulus = field.modulus();
     let mut elements = Vec::new(alloc);
@@ -80,7 +82,8 @@ fn element_of(
 ) -> Result<Poly, NoMemory>
     requires letters { All (IsOver (length alphabet.now.weights)) columns.now }
     requires small { All (λ w. degree_of alphabet.now.weights w ≤ 64) columns.now }
-    requires one_degree { AllPairs (λ v w. degree_of alphabet.now.weights v ≡ degree_of alphabet.now.weights w) columns.now }
+    requires one_degree { AllPairs (λ v w. degree_of alphabet.now.weights v ≡ degree_of alphabet.now.weights w)
+        columns.now }
     requires falling { AllPairs IsLetterwiseGreater columns.now }
     requires size { length row.now ≡ length columns.now }
     requires residues { All (λ r. r < field.now) row.now }

@@ -28,7 +28,8 @@ pub(crate) fn table_of(
     requires residues { All (HasResidues field.now) presentation.now.relations }
     ensures table { IfOk result (λ table. IsTable field.now (length (list_at lists.now d)) table.items) }
     ensures built { IfOk result (λ table. IsBuilt field.now (replicate (length (list_at lists.now d)) [])
-        (flat_map (relation_rows presentation.now.alphabet.weights lists.now d) presentation.now.relations) table.items) }
+        (flat_map (relation_rows presentation.now.alphabet.weights lists.now d) presentation.now.relations)
+        table.items) }
 {
     element_laws();
     let _letters = presentation.alphabet.len();
@@ -76,7 +77,8 @@ fn insert_relation(
     requires residues { HasResidues field.now relation.now }
     requires table { IsTable field.now (length (list_at lists.now d)) table.old }
     ensures table { OnOk result (IsTable field.now (length (list_at lists.now d)) table.new) }
-    ensures built { OnOk result (IsBuilt field.now table.old (relation_rows alphabet.now.weights lists.now d relation.now) table.new) }
+    ensures built { OnOk result (IsBuilt field.now table.old
+        (relation_rows alphabet.now.weights lists.now d relation.now) table.new) }
 {
     let degree = lead_degree_within(alphabet, relation, d + 1);
     let columns = lists[d as usize].as_slice();
@@ -115,7 +117,8 @@ fn insert_rounds(
     requires residues { HasResidues field.now relation.now }
     requires table { IsTable field.now (length columns.now) table.old }
     ensures table { OnOk result (IsTable field.now (length columns.now) table.new) }
-    ensures built { OnOk result (IsBuilt field.now table.old (round_rows columns.now lefts.now relation.now rights.now) table.new) }
+    ensures built { OnOk result (IsBuilt field.now table.old
+        (round_rows columns.now lefts.now relation.now rights.now) table.new) }
 {
     for left in lefts {
         insert_rights(
@@ -145,7 +148,8 @@ fn insert_rights(
     requires residues { HasResidues field.now relation.now }
     requires table { IsTable field.now (length columns.now) table.old }
     ensures table { OnOk result (IsTable field.now (length columns.now) table.new) }
-    ensures built { OnOk result (IsBuilt field.now table.old (right_rows columns.now left.now relation.now rights.now) table.new) }
+    ensures built { OnOk result (IsBuilt field.now table.old
+        (right_rows columns.now left.now relation.now rights.now) table.new) }
 {
     for right in rights {
         let row = row_of(

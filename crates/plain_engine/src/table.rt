@@ -42,7 +42,9 @@ pub(crate) fn insert(field: &Field, table: &mut [Items<u32>], row: Vec<u32>)
 
 /// The first place where the row is not 0.
 fn first_other(row: &[u32]) -> Option<usize>
-    ensures { MatchOption result (All (λ r. r ≡ 0) row.now) (λ at. (at < length row.now) × (slice_index row.now at ≢ 0) × ((k : ℕ) → k < at → slice_index row.now k ≡ 0)) }
+    ensures { MatchOption result (All (λ r. r ≡ 0) row.now)
+        (λ at. (at < length row.now) × (slice_index row.now at ≢ 0)
+        × ((k : ℕ) → k < at → slice_index row.now k ≡ 0)) }
 {
     for (at, entry) in row.iter().enumerate() {
         if *entry != 0 {

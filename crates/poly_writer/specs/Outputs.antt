@@ -14,8 +14,9 @@ pub record IsBasisText (p : ℕ) (letters : Letters) (relations : List (List Ter
   pub printed : text ≡ basis_text letters.names p bases
 
 -- the printed coefficients of degrees 0 to e
-pub record IsSeriesText (p : ℕ) (letters : Letters) (relations : List (List Term)) (e : ℕ) (text : List ℕ) : Type 0 where
-  pub numbers : List ℕ
-  pub count : length numbers ≡ e + 1
-  pub each : (k : ℕ) → k < e + 1 → IsHilbertCoefficient p letters.weights relations k (slice_index numbers k)
-  pub printed : text ≡ series_text numbers
+pub record IsSeriesText (p : ℕ) (letters : Letters) (relations : List (List Term)) (e : ℕ) (text : List ℕ) : Type 0
+  where
+    pub numbers : List ℕ
+    pub count : length numbers ≡ e + 1
+    pub each : (k : ℕ) → k < e + 1 → IsHilbertCoefficient p letters.weights relations k (slice_index numbers k)
+    pub printed : text ≡ series_text numbers

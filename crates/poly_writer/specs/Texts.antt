@@ -1,5 +1,6 @@
 -- The printed texts, as functions of plain values.
-use Rattle.std.specs.Prelude.{ℕ, ◌+◌, ◌-◌, ◌*◌, ◌==◌, Bool, List, [], ◌∷◌, ◌++◌, if◌then◌else◌, nat_le, length, codes, decimal, slice_index_or}
+use Rattle.std.specs.Prelude.{ℕ, ◌+◌, ◌-◌, ◌*◌, ◌==◌, Bool, List, [], ◌∷◌, ◌++◌, if◌then◌else◌, nat_le, length, codes}
+use Rattle.std.specs.Prelude.{decimal, slice_index_or}
 use Rattle.std.specs.List.{flat_map, join_by}
 use Rattle.free_poly.specs.declared.term.Term.{Term}
 use Rattle.ideal_laws.specs.declared.account.Account.{Account}
@@ -19,7 +20,8 @@ pub record Run : Type 0 where
 -- one more letter before some runs
 abbrev pub with_first : ℕ → List Run → List Run
 with_first x [] = record { letter = x; times = 1 } ∷ []
-with_first x (r ∷ rs) = if x == r.letter then record { letter = x; times = r.times + 1 } ∷ rs else record { letter = x; times = 1 } ∷ r ∷ rs
+with_first x (r ∷ rs) = if x == r.letter then record { letter = x; times = r.times + 1 }
+    ∷ rs else record { letter = x; times = 1 } ∷ r ∷ rs
 
 -- the runs of equal letters of a word, each as long as it can be
 abbrev pub runs_of : List ℕ → List Run
@@ -97,7 +99,8 @@ answer_text word row (Lost holder stamp) = codes " lost " ++ word ++ codes " row
 
 -- the line of a call
 abbrev pub call_line : List (List ℕ) → List (List ℕ) → Call → List ℕ
-call_line names columns c = line (decimal c.stamp ++ codes " " ++ decimal c.seat ++ answer_text (word_text names (slice_index_or columns c.column [])) c.row c.answer)
+call_line names columns c = line (decimal c.stamp ++ codes " " ++ decimal c.seat
+    ++ answer_text (word_text names (slice_index_or columns c.column [])) c.row c.answer)
 
 -- the line before the calls of a degree
 abbrev pub trace_line : ℕ → ℕ → ℕ → List ℕ
@@ -105,4 +108,5 @@ trace_line d rows columns = line (codes "# degree " ++ decimal d ++ codes " rows
 
 -- the account of a degree; empty where the degree has no row
 abbrev pub trace_text : List (List ℕ) → ℕ → Account → List ℕ
-trace_text names d account = if account.rows == 0 then [] else trace_line d account.rows (length account.columns) ++ flat_map (call_line names account.columns) account.calls
+trace_text names d account = if account.rows == 0 then [] else trace_line d account.rows (length account.columns)
+    ++ flat_map (call_line names account.columns) account.calls

@@ -56,7 +56,8 @@ fn push_run(
     times: usize,
 ) -> Result<(), NoMemory>
     requires { letter < length alphabet.now.weights }
-    ensures { IfOk result (λ _. text.new.items ≡ text.old.items ++ run_text alphabet.now.names (record { letter = letter; times = times })) }
+    ensures { IfOk result (λ _. text.new.items ≡ text.old.items
+        ++ run_text alphabet.now.names (record { letter = letter; times = times })) }
 {
     text.extend_from_slice(alphabet.name(letter))?;
     if times != 1 {

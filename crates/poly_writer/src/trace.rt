@@ -69,7 +69,8 @@ fn push_answer(
     answer: Answer,
 ) -> Result<(), NoMemory>
     requires { IsOver (length alphabet.now.weights) word.now }
-    ensures { IfOk result (λ _. text.new.items ≡ text.old.items ++ answer_text (word_text alphabet.now.names word.now) row answer) }
+    ensures { IfOk result (λ _. text.new.items ≡ text.old.items
+        ++ answer_text (word_text alphabet.now.names word.now) row answer) }
 {
     match answer {
         Answer::Won => {

@@ -14,7 +14,8 @@ first_of-later (None ∷ xs) ys none = first_of-later xs ys none
 first_of-later (Some fault ∷ xs) ys none = absurd (let e : Some fault ≡ None = none in cc)
 
 -- no fault of the grammar is first: the token may come
-comes : (next : Option Place) (fault : InputFault) (others : List (Option InputFault)) → first_of (when (is_none next) fault ∷ others) ≡ None → (place : Place) × (next ≡ Some place)
+comes : (next : Option Place) (fault : InputFault) (others : List (Option InputFault)) →
+    first_of (when (is_none next) fault ∷ others) ≡ None → (place : Place) × (next ≡ Some place)
 comes None fault others none = absurd (let e : Some fault ≡ None = none in cc)
 comes (Some place) fault others none = (place, refl)
 
@@ -26,7 +27,9 @@ end-comes place q = absurd (let e : next_place place the_end ≡ Some q.0 = q.1 
 abbrev lexemes : List Piece → List Lexeme
 lexemes ts = map (λ t. t.lexeme) ts
 
-walked : (place : Place) (before : List Placed) (ts : List Piece) (at : ℕ) → first_of (faults_from before (placed_from (Some place) (ts ++ record { lexeme = the_end; at = at } ∷ [])) ++ None ∷ []) ≡ None → reached (Some place) (lexemes (ts ++ record { lexeme = the_end; at = at } ∷ [])) ≡ Some places.AfterEnd
+walked : (place : Place) (before : List Placed) (ts : List Piece) (at : ℕ) →
+    first_of (faults_from before (placed_from (Some place) (ts ++ record { lexeme = the_end; at = at } ∷ [])) ++ None ∷ []) ≡ None →
+    reached (Some place) (lexemes (ts ++ record { lexeme = the_end; at = at } ∷ [])) ≡ Some places.AfterEnd
 walked place before [] at none =
     ap (λ q. reached q []) (end-comes place (comes (next_place place the_end) (refusal place the_end at) _ none))
 walked place before (t ∷ ts) at none =
@@ -40,5 +43,6 @@ walked place before (t ∷ ts) at none =
     ∙ walked q.0 (before ++ here ∷ []) ts at (subst (λ p. first_of (faults_from (before ++ here ∷ []) (placed_from p after) ++ None ∷ []) ≡ None) q.1 later)
 
 -- a text without a fault that has a place is let through
-pub accepted : (text : List ℕ) (tokens : List Token) → place_fault (pieces_of text tokens None) None ≡ None → reached (Some places.Beginning) (map (λ piece. piece.lexeme) (pieces_of text tokens None)) ≡ Some places.AfterEnd
+pub accepted : (text : List ℕ) (tokens : List Token) → place_fault (pieces_of text tokens None) None ≡ None →
+    reached (Some places.Beginning) (map (λ piece. piece.lexeme) (pieces_of text tokens None)) ≡ Some places.AfterEnd
 accepted text tokens none = walked places.Beginning [] (map (piece_of text) tokens) (length text) none

@@ -1,5 +1,6 @@
 -- What gathering keeps small: letters are below the number of names, and each lexeme brings at most 256 of them.
-use Rattle.std.proofs.Common.{ℕ, suc, ◌≡◌, ◌+◌, ◌*◌, ◌<◌, ◌≤◌, ◌||◌, Bool, true, false, cond, List, [], ◌∷◌, ◌++◌, length, Option, Some, None, bytes_eq, sym, ap, ◌∙◌, arith, inl, inr, subst, All, min}
+use Rattle.std.proofs.Common.{ℕ, suc, ◌≡◌, ◌+◌, ◌*◌, ◌<◌, ◌≤◌, ◌||◌, Bool, true, false, cond, List, [], ◌∷◌, ◌++◌, length, Option, Some, None}
+use Rattle.std.proofs.Common.{bytes_eq, sym, ap, ◌∙◌, arith, inl, inr, subst, All, min}
 use Rattle.std.specs.Prelude.{replicate}
 use Rattle.std.specs.Option.{option_to_list}
 use Rattle.std.proofs.Math.Nat.{min-le_right}
@@ -24,7 +25,8 @@ letter_of-below (y ∷ ys) x e = elim (cases_Bool (bytes_eq x y)) [
 
 known_letter-below : (names : List (List ℕ)) (x : List ℕ) → 0 < length names → known_letter names x < length names
 known_letter-below names x some = elim (cases_Bool (is_among x names)) [
-  | inl is ↦ (let e : known_letter names x ≡ letter_of names x = ap (λ (b : Bool). cond b (letter_of names x) 0) is in omega (arith, e, letter_of-below names x is))
+  | inl is ↦ (let e : known_letter names x ≡ letter_of names x = ap (λ (b : Bool). cond b (letter_of names x) 0) is in
+      omega (arith, e, letter_of-below names x is))
   | inr none ↦ (let e : known_letter names x ≡ 0 = ap (λ (b : Bool). cond b (letter_of names x) 0) none in omega arith)
 ]
 
@@ -55,7 +57,14 @@ one_of P true x y h k = h
 one_of P false x y h k = k
 
 IsBounded-more : (m k : ℕ) (s : Gathering) → IsBounded m k s → IsBounded m (k + 1) s
-IsBounded-more m k s h = record { word = h.word; letter = h.letter; few = omega (arith, h.few); terms = more_terms m k s.terms h.terms; relations = more_relations m k s.relations h.relations; count = omega (arith, h.count) }
+IsBounded-more m k s h = record {
+  word = h.word;
+  letter = h.letter;
+  few = omega (arith, h.few);
+  terms = more_terms m k s.terms h.terms;
+  relations = more_relations m k s.relations h.relations;
+  count = omega (arith, h.count);
+}
 
 whole_word-over : (m k : ℕ) (s : Gathering) → IsBounded m k s → IsOver m (whole_word s)
 whole_word-over m k s h = All-append (λ x. x < m) s.word (option_to_list s.letter) h.word h.letter
@@ -66,8 +75,16 @@ present-small p m k s h = record { letters = whole_word-over m k s h; few = omeg
 ended-terms : (p m k : ℕ) (s : Gathering) → IsBounded m k s → All (IsSmall m k) (s.terms ++ present p s ∷ [])
 ended-terms p m k s h = All-push (IsSmall m k) s.terms (present p s) h.terms (present-small p m k s h)
 
-fresh-bounded : (p m k : ℕ) (relations : List (List Term)) (terms : List Term) (negative : Bool) → All (All (IsSmall m k)) relations → length relations ≤ k → All (IsSmall m k) terms → IsBounded m k (fresh p relations terms negative)
-fresh-bounded p m k relations terms negative h few t = record { word = All-nil (λ x. x < m); letter = All-nil (λ x. x < m); few = omega arith; terms = t; relations = h; count = few }
+fresh-bounded : (p m k : ℕ) (relations : List (List Term)) (terms : List Term) (negative : Bool) → All (All (IsSmall m k)) relations →
+    length relations ≤ k → All (IsSmall m k) terms → IsBounded m k (fresh p relations terms negative)
+fresh-bounded p m k relations terms negative h few t = record {
+  word = All-nil (λ x. x < m);
+  letter = All-nil (λ x. x < m);
+  few = omega arith;
+  terms = t;
+  relations = h;
+  count = few;
+}
 
 number-bounded : (p m k : ℕ) (s : Gathering) (v : ℕ) (o : Option ℕ) → IsOver m (option_to_list o) → IsBounded m k s → IsBounded m (k + 1) (with_number p s v o)
 number-bounded p m k s v None l h = record {
@@ -101,7 +118,8 @@ end-bounded p m k s h =
     (omega (arith, h.count, length-append s.relations (ended ∷ []))) (All-nil (IsSmall m (k + 1))))
     (IsBounded-more m k s h)
 
-gather-bounded : (p k : ℕ) (names : List (List ℕ)) (s : Gathering) (l : Lexeme) → 0 < length names → IsBounded (length names) k s → IsBounded (length names) (k + 1) (gather p names s l)
+gather-bounded : (p k : ℕ) (names : List (List ℕ)) (s : Gathering) (l : Lexeme) → 0 < length names → IsBounded (length names) k s →
+    IsBounded (length names) (k + 1) (gather p names s l)
 gather-bounded p k names s (name bytes) some h = record {
   word = h.word;
   letter = All-cons (λ x. x < length names) (known_letter names bytes) [] (known_letter-below names bytes some) (All-nil (λ x. x < length names));
@@ -130,16 +148,20 @@ pub record AreSmall (m k : ℕ) (relations : List (List Term)) : Type 0 where
   pub terms : All (All (IsSmall m k)) relations
   pub count : length relations ≤ k
 
-gathered-from : (p k : ℕ) (names : List (List ℕ)) (s : Gathering) (ls : List Lexeme) → 0 < length names → IsBounded (length names) k s → AreSmall (length names) (k + length ls) (gathered p names s ls)
+gathered-from : (p k : ℕ) (names : List (List ℕ)) (s : Gathering) (ls : List Lexeme) → 0 < length names → IsBounded (length names) k s →
+    AreSmall (length names) (k + length ls) (gathered p names s ls)
 gathered-from p k names s [] some h =
     let e : k ≡ k + 0 = omega arith in
     subst (λ (n : ℕ). AreSmall (length names) n s.relations) e (record { terms = h.relations; count = h.count })
 gathered-from p k names s (l ∷ ls) some h =
     let e : k + 1 + length ls ≡ k + length (l ∷ ls) = omega arith in
-    subst (λ (n : ℕ). AreSmall (length names) n (gathered p names (gather p names s l) ls)) e (gathered-from p (k + 1) names (gather p names s l) ls some (gather-bounded p k names s l some h))
+    subst (λ (n : ℕ). AreSmall (length names) n (gathered p names (gather p names s l) ls)) e
+    (gathered-from p (k + 1) names (gather p names s l) ls some (gather-bounded p k names s l some h))
 
-pub gathered-small : (p : ℕ) (names : List (List ℕ)) (ls : List Lexeme) → 0 < length names → AreSmall (length names) (length ls) (gathered p names (fresh p [] [] false) ls)
+pub gathered-small : (p : ℕ) (names : List (List ℕ)) (ls : List Lexeme) → 0 < length names →
+    AreSmall (length names) (length ls) (gathered p names (fresh p [] [] false) ls)
 gathered-small p names ls some =
     let e : 0 + length ls ≡ length ls = omega arith in
     subst (λ (n : ℕ). AreSmall (length names) n (gathered p names (fresh p [] [] false) ls)) e
-    (gathered-from p 0 names (fresh p [] [] false) ls some (fresh-bounded p (length names) 0 [] [] false (All-nil (All (IsSmall (length names) 0))) (omega arith) (All-nil (IsSmall (length names) 0))))
+    (gathered-from p 0 names (fresh p [] [] false) ls some (fresh-bounded p (length names) 0 [] [] false
+    (All-nil (All (IsSmall (length names) 0))) (omega arith) (All-nil (IsSmall (length names) 0))))

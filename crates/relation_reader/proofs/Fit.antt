@@ -1,5 +1,6 @@
 -- What it says of the lexemes of a text that no fault has a place there.
-use Rattle.std.proofs.Common.{ℕ, ◌≡◌, ◌==◌, ◌||◌, ◌&&◌, Bool, true, false, List, [], ◌∷◌, ◌++◌, length, map, Option, Some, None, is_none, refl, ap, subst, ◌∙◌, append-nil}
+use Rattle.std.proofs.Common.{ℕ, ◌≡◌, ◌==◌, ◌||◌, ◌&&◌, Bool, true, false, List, [], ◌∷◌, ◌++◌, length, map, Option, Some, None, is_none, refl, ap}
+use Rattle.std.proofs.Common.{subst, ◌∙◌, append-nil}
 use Rattle.std.specs.Prelude.{nat_lt, not}
 use Rattle.std.proofs.lemmas.List.Concat.{flat_map-append}
 use Rattle.relation_reader.specs.declared.token.Token.{Token}
@@ -8,7 +9,9 @@ use Rattle.relation_reader.specs.declared.fault.InputFault.TheVariants as faults
 use Rattle.relation_reader.specs.declared.place.Place.{Place}
 use Rattle.relation_reader.specs.declared.place.Place.TheVariants as places
 use Rattle.relation_reader.specs.Grammar.{Lexeme, name, Piece, next_place, refusal}
-use Rattle.relation_reader.specs.Meaning.{Placed, begins_relation, declared_names, declares, faults_from, first_of, is_among, is_declared, is_exponent, is_used, is_weight, letters_from, passes, pieces_of, place_fault, placed_from, relations_begun, takes_exponent, when}
+use Rattle.relation_reader.specs.Meaning.{Placed, begins_relation, declared_names, declares, faults_from, first_of, is_among, is_declared}
+use Rattle.relation_reader.specs.Meaning.{is_exponent, is_used, is_weight, letters_from, passes, pieces_of, place_fault, placed_from, relations_begun}
+use Rattle.relation_reader.specs.Meaning.{takes_exponent, when}
 
 -- a lexeme that has no fault of meaning at a place, behind the declaration of some names
 pub record IsFit (names : List (List ℕ)) (place : Place) (l : Lexeme) : Type 0 where
@@ -50,7 +53,9 @@ none_of : (holds : Bool) (fault : InputFault) (rest : List (Option InputFault)) 
 none_of true fault rest e = absurd (let f : Some fault ≡ None = e in cc)
 none_of false fault rest e = record { here = refl; rest = e }
 
-fit-from : (o : Option Place) (before : List Placed) (ts : List Piece) → first_of (faults_from before (placed_from o ts) ++ None ∷ []) ≡ None → AreFit (declared_names before) o (map (λ (t : Piece). t.lexeme) ts)
+fit-from : (o : Option Place) (before : List Placed) (ts : List Piece) →
+    first_of (faults_from before (placed_from o ts) ++ None ∷ []) ≡ None →
+    AreFit (declared_names before) o (map (λ (t : Piece). t.lexeme) ts)
 fit-from None before ts h = tt
 fit-from (Some place) before [] h = tt
 fit-from (Some place) before (t ∷ ts) h =
@@ -61,7 +66,8 @@ fit-from (Some place) before (t ∷ ts) h =
     let names = declared_names before in
     let letters = letters_from 0 before in
     let last = faults_from (before ++ here ∷ []) rest ++ None ∷ [] in
-    let w8 = when (is_exponent (passes letters) p l || (is_used (λ bytes. passes letters 1) p l && not (takes_exponent rest))) (faults.WordTooLong t.at) ∷ last in
+    let w8 = when (is_exponent (passes letters) p l || (is_used (λ bytes. passes letters 1) p l && not (takes_exponent rest)))
+    (faults.WordTooLong t.at) ∷ last in
     let w7 = when (is_exponent (λ value. nat_lt 256 value) p l) (faults.ExponentTooLarge t.at) ∷ w8 in
     let w6 = when (is_used (λ bytes. not (is_among bytes names)) p l) (faults.UnknownVariable t.at) ∷ w7 in
     let w5 = when (begins_relation p l && relations_begun before == 4096) (faults.TooManyRelations t.at) ∷ w6 in
@@ -77,12 +83,14 @@ fit-from (Some place) before (t ∷ ts) h =
     let a5 = none_of (begins_relation p l && relations_begun before == 4096) (faults.TooManyRelations t.at) w6 a4.rest in
     let a6 = none_of (is_used (λ bytes. not (is_among bytes names)) p l) (faults.UnknownVariable t.at) w7 a5.rest in
     let a7 = none_of (is_exponent (λ value. nat_lt 256 value) p l) (faults.ExponentTooLarge t.at) w8 a6.rest in
-    let a8 = none_of (is_exponent (passes letters) p l || (is_used (λ bytes. passes letters 1) p l && not (takes_exponent rest))) (faults.WordTooLong t.at) last a7.rest in (
+    let a8 = none_of (is_exponent (passes letters) p l || (is_used (λ bytes. passes letters 1) p l && not (takes_exponent rest)))
+    (faults.WordTooLong t.at) last a7.rest in (
       record { few = a2.here; apart = a3.here; weight = a4.here; known = a6.here; small = a7.here },
       subst (λ (names : List (List ℕ)). AreFit names (next_place place t.lexeme) (map (λ (t : Piece). t.lexeme) ts)) (declared_names-push before here)
           (fit-from (next_place place t.lexeme) (before ++ here ∷ []) ts a8.rest),
     )
 
 -- a text without a fault that has a place
-pub fit : (text : List ℕ) (tokens : List Token) → place_fault (pieces_of text tokens None) None ≡ None → AreFit [] (Some places.Beginning) (map (λ (t : Piece). t.lexeme) (pieces_of text tokens None))
+pub fit : (text : List ℕ) (tokens : List Token) → place_fault (pieces_of text tokens None) None ≡ None →
+    AreFit [] (Some places.Beginning) (map (λ (t : Piece). t.lexeme) (pieces_of text tokens None))
 fit text tokens h = fit-from (Some places.Beginning) [] (pieces_of text tokens None) h

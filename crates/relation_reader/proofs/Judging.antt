@@ -1,5 +1,6 @@
 -- Which elements have a fault, and the faults of elements one after another.
-use Rattle.std.proofs.Common.{ℕ, ◌≡◌, ◌≢◌, ◌+◌, ◌<◌, ◌==◌, ◌||◌, Bool, true, false, List, [], ◌∷◌, ◌++◌, length, Option, Some, None, refl, sym, ap, ◌∙◌, arith, inl, inr, All}
+use Rattle.std.proofs.Common.{ℕ, ◌≡◌, ◌≢◌, ◌+◌, ◌<◌, ◌==◌, ◌||◌, Bool, true, false, List, [], ◌∷◌, ◌++◌, length, Option, Some, None, refl, sym, ap}
+use Rattle.std.proofs.Common.{◌∙◌, arith, inl, inr, All}
 use Rattle.std.specs.Prelude.{not}
 use Rattle.std.proofs.lemmas.Bool.{cases_Bool, eqb-true, eq-eqb}
 use Rattle.std.proofs.lemmas.List.Elements.{All-cons, All-head, All-nil, All-weaker}
@@ -22,24 +23,31 @@ use Rattle.relation_reader.proofs.NormalForm.{normal_form}
 
 -- words that do not differ have one degree
 pub one-degree : (weights : List ℕ) (t : Term) (f : List Term) → differs weights (t ∷ f) ≡ false → HasDegree weights (degree_of weights t.word) (t ∷ f)
-one-degree weights t [] e = All-cons (λ (s : Term). degree_of weights s.word ≡ degree_of weights t.word) t [] refl (All-nil (λ (s : Term). degree_of weights s.word ≡ degree_of weights t.word))
+one-degree weights t [] e = All-cons (λ (s : Term). degree_of weights s.word ≡ degree_of weights t.word) t [] refl
+    (All-nil (λ (s : Term). degree_of weights s.word ≡ degree_of weights t.word))
 one-degree weights t (u ∷ f) e =
     let parts = both_false (not (degree_of weights t.word == degree_of weights u.word)) (differs weights (u ∷ f)) e in
-    let same : degree_of weights t.word ≡ degree_of weights u.word = eqb-true (degree_of weights t.word) (degree_of weights u.word) (not_false (degree_of weights t.word == degree_of weights u.word) parts.0) in
+    let same : degree_of weights t.word ≡ degree_of weights u.word =
+    eqb-true (degree_of weights t.word) (degree_of weights u.word)
+    (not_false (degree_of weights t.word == degree_of weights u.word) parts.0) in
     All-cons (λ (s : Term). degree_of weights s.word ≡ degree_of weights t.word) t (u ∷ f) refl
-    (All-weaker (λ (s : Term). degree_of weights s.word ≡ degree_of weights u.word) (λ (s : Term). degree_of weights s.word ≡ degree_of weights t.word) (λ s h. h ∙ sym same) (u ∷ f) (one-degree weights u f parts.1))
+    (All-weaker (λ (s : Term). degree_of weights s.word ≡ degree_of weights u.word)
+    (λ (s : Term). degree_of weights s.word ≡ degree_of weights t.word) (λ s h. h ∙ sym same) (u ∷ f) (one-degree weights u f parts.1))
 
 -- words of one degree do not differ
 pub no-difference : (weights : List ℕ) (f : List Term) → HasOneDegree weights f → differs weights f ≡ false
 no-difference weights [] h = refl
 no-difference weights (t ∷ []) h = refl
 no-difference weights (t ∷ u ∷ f) h =
-    let same : degree_of weights t.word ≡ degree_of weights u.word = All-head (λ (s : Term). degree_of weights t.word ≡ degree_of weights s.word) u f (AllPairs-first (λ (a b : Term). degree_of weights a.word ≡ degree_of weights b.word) t (u ∷ f) h) in
+    let same : degree_of weights t.word ≡ degree_of weights u.word =
+    All-head (λ (s : Term). degree_of weights t.word ≡ degree_of weights s.word) u f
+    (AllPairs-first (λ (a b : Term). degree_of weights a.word ≡ degree_of weights b.word) t (u ∷ f) h) in
     ap (λ (b : Bool). not b || differs weights (u ∷ f)) (eq-eqb (degree_of weights t.word) (degree_of weights u.word) same)
     ∙ no-difference weights (u ∷ f) (AllPairs-rest (λ (a b : Term). degree_of weights a.word ≡ degree_of weights b.word) t (u ∷ f) h)
 
 -- a sum with two degrees is no element of one
-two-degrees : (p : ℕ) (weights : List ℕ) (terms f : List Term) (first other : ℕ) → HasTwoDegrees p weights terms first other → IsElementOf p terms f → differs weights f ≡ false → ⊥
+two-degrees : (p : ℕ) (weights : List ℕ) (terms f : List Term) (first other : ℕ) → HasTwoDegrees p weights terms first other →
+    IsElementOf p terms f → differs weights f ≡ false → ⊥
 two-degrees p weights terms [] first other two element e =
     word_from_same p (λ w. ⊥) terms [] two.greatest (IsSame-back p [] terms element.sum) two.greatest_stands (All-nil (λ t. ⊥))
 two-degrees p weights terms (t ∷ f) first other two element e =
@@ -51,13 +59,15 @@ two-degrees p weights terms (t ∷ f) first other two element e =
     let e : first ≡ other = sym two.first_is ∙ a ∙ sym b ∙ two.other_is in
     omega (arith, two.below)
 
-pub mixed : (p : ℕ) (weights : List ℕ) (terms : List Term) (k first other : ℕ) → HasTwoDegrees p weights terms first other → (f : List Term) → IsElementOf p terms f → first_of (relation_faults weights k (f ∷ [])) ≡ Some (faults.NotHomogeneous k)
+pub mixed : (p : ℕ) (weights : List ℕ) (terms : List Term) (k first other : ℕ) → HasTwoDegrees p weights terms first other → (f : List Term)
+    → IsElementOf p terms f → first_of (relation_faults weights k (f ∷ [])) ≡ Some (faults.NotHomogeneous k)
 mixed p weights terms k first other two f element = elim (cases_Bool (differs weights f)) [
   | inl is ↦ ap (λ (b : Bool). first_of (when b (faults.NotHomogeneous k) ∷ when (is_constant f) (faults.Constant k) ∷ [])) is
   | inr none ↦ absurd (two-degrees p weights terms f first other two element none)
 ]
 
-no_faults : (weights : List ℕ) (k : ℕ) (f : List Term) (constant : Bool) → HasOneDegree weights f → is_constant f ≡ constant → first_of (relation_faults weights k (f ∷ [])) ≡ first_of (when constant (faults.Constant k) ∷ [])
+no_faults : (weights : List ℕ) (k : ℕ) (f : List Term) (constant : Bool) → HasOneDegree weights f → is_constant f ≡ constant →
+    first_of (relation_faults weights k (f ∷ [])) ≡ first_of (when constant (faults.Constant k) ∷ [])
 no_faults weights k f constant one e =
     ap (λ (b : Bool). first_of (when b (faults.NotHomogeneous k) ∷ when (is_constant f) (faults.Constant k) ∷ [])) (no-difference weights f one)
     ∙ ap (λ (b : Bool). first_of (when b (faults.Constant k) ∷ [])) e
@@ -65,20 +75,25 @@ no_faults weights k f constant one e =
 pub sound : (weights : List ℕ) (k : ℕ) (f : List Term) → HasOneDegree weights f → is_constant f ≡ false → first_of (relation_faults weights k (f ∷ [])) ≡ None
 sound weights k f one e = no_faults weights k f false one e
 
-pub constant-fault : (p : ℕ) (weights : List ℕ) (terms : List Term) (k : ℕ) (g : List Term) → IsElementOf p terms g → HasOneDegree weights g → is_constant g ≡ true
+pub constant-fault : (p : ℕ) (weights : List ℕ) (terms : List Term) (k : ℕ) (g : List Term) → IsElementOf p terms g → HasOneDegree weights g
+    → is_constant g ≡ true
     → (f : List Term) → IsElementOf p terms f → first_of (relation_faults weights k (f ∷ [])) ≡ Some (faults.Constant k)
 constant-fault p weights terms k g element one e f other =
     let same : f ≡ g = same_polynomials p f g other.form element.form other.residues element.residues (λ w. other.sum w ∙ sym (element.sum w)) in
     ap (λ (h : List Term). first_of (relation_faults weights k (h ∷ []))) same ∙ no_faults weights k g true one e
 
 -- an element of one degree that is no constant has no empty word
-pub no-empty-word : (weights : List ℕ) → AreWeights weights → (f : List Term) → IsPolynomial f → HasOneDegree weights f → is_constant f ≡ false → All (λ t. t.word ≢ []) f
+pub no-empty-word : (weights : List ℕ) → AreWeights weights → (f : List Term) → IsPolynomial f → HasOneDegree weights f →
+    is_constant f ≡ false → All (λ t. t.word ≢ []) f
 no-empty-word weights aw [] form one e = All-nil (λ t. t.word ≢ [])
-no-empty-word weights aw (t ∷ []) form one e = All-cons (λ (s : Term). s.word ≢ []) t [] (λ empty. (let f : true ≡ false = sym (ap (λ (w : List ℕ). length w == 0) empty) ∙ e in cc)) (All-nil (λ (s : Term). s.word ≢ []))
+no-empty-word weights aw (t ∷ []) form one e = All-cons (λ (s : Term). s.word ≢ []) t []
+    (λ empty. (let f : true ≡ false = sym (ap (λ (w : List ℕ). length w == 0) empty) ∙ e in cc)) (All-nil (λ (s : Term). s.word ≢ []))
 no-empty-word weights aw (t ∷ u ∷ f) form one e =
-    let above : IsLetterwiseGreater t.word u.word = All-head (λ (s : Term). IsLetterwiseGreater t.word s.word) u f (AllPairs-first (λ (a b : Term). IsLetterwiseGreater a.word b.word) t (u ∷ f) form.falling) in
+    let above : IsLetterwiseGreater t.word u.word = All-head (λ (s : Term). IsLetterwiseGreater t.word s.word) u f
+    (AllPairs-first (λ (a b : Term). IsLetterwiseGreater a.word b.word) t (u ∷ f) form.falling) in
     let positive : 0 < degree_of weights t.word = degree_of-positive weights aw t.word (no_least t.word u.word above) in
-    All-weaker (λ (s : Term). degree_of weights s.word ≡ degree_of weights t.word) (λ (s : Term). s.word ≢ []) (λ s same empty. (let z : degree_of weights s.word ≡ 0 = ap (degree_of weights) empty in omega arith)) (t ∷ u ∷ f)
+    All-weaker (λ (s : Term). degree_of weights s.word ≡ degree_of weights t.word) (λ (s : Term). s.word ≢ [])
+    (λ s same empty. (let z : degree_of weights s.word ≡ 0 = ap (degree_of weights) empty in omega arith)) (t ∷ u ∷ f)
     (one-degree weights t (u ∷ f) (no-difference weights (t ∷ u ∷ f) one))
   where
     no_least : (a b : List ℕ) → IsLetterwiseGreater a b → a ≢ []
@@ -98,7 +113,8 @@ first_of-stays [] ys fault e = absurd (let f : None ≡ Some fault = e in cc)
 first_of-stays (None ∷ xs) ys fault e = first_of-stays xs ys fault e
 first_of-stays (Some other ∷ xs) ys fault e = e
 
-relation_faults-append : (weights : List ℕ) (k : ℕ) (fs gs : List (List Term)) → relation_faults weights k (fs ++ gs) ≡ relation_faults weights k fs ++ relation_faults weights (k + length fs) gs
+relation_faults-append : (weights : List ℕ) (k : ℕ) (fs gs : List (List Term)) →
+    relation_faults weights k (fs ++ gs) ≡ relation_faults weights k fs ++ relation_faults weights (k + length fs) gs
 relation_faults-append weights k [] gs = let e : k ≡ k + 0 = omega arith in ap (λ (n : ℕ). relation_faults weights n gs) e
 relation_faults-append weights k (f ∷ fs) gs =
     let e : k + 1 + length fs ≡ k + length (f ∷ fs) = omega arith in
@@ -143,12 +159,15 @@ pub AreSound-push : (p : ℕ) (weights : List ℕ) (ls found : List (List Term))
 AreSound-push p weights ls found l f h element none = record {
   elements = h.elements ++ f ∷ [];
   elements_are = AreElementsOf-append p ls h.elements (l ∷ []) (f ∷ []) h.elements_are (element, tt);
-  no_fault = ap first_of (relation_faults-append weights 1 h.elements (f ∷ [])) ∙ first_of-past (relation_faults weights 1 h.elements) (relation_faults weights (1 + length h.elements) (f ∷ [])) h.no_fault ∙ none (1 + length h.elements);
+  no_fault = ap first_of (relation_faults-append weights 1 h.elements (f ∷ []))
+      ∙ first_of-past (relation_faults weights 1 h.elements) (relation_faults weights (1 + length h.elements) (f ∷ [])) h.no_fault
+      ∙ none (1 + length h.elements);
   others = ap (λ (xs : List (List Term)). xs ++ others_than_zero (f ∷ [])) h.others ∙ sym (others-append h.elements (f ∷ []));
 }
 
 -- the first relation with a fault, whatever stands behind it
-pub AreRefused-from : (p : ℕ) → 0 < p → (weights : List ℕ) (ls found : List (List Term)) (l : List Term) (rest : List (List Term)) (k : ℕ) (fault : InputFault) → AreSound p weights ls found → k ≡ length ls + 1
+pub AreRefused-from : (p : ℕ) → 0 < p → (weights : List ℕ) (ls found : List (List Term)) (l : List Term) (rest : List (List Term)) (k : ℕ)
+    (fault : InputFault) → AreSound p weights ls found → k ≡ length ls + 1
     → ((f : List Term) → IsElementOf p l f → first_of (relation_faults weights k (f ∷ [])) ≡ Some fault) → AreRefused p weights (ls ++ l ∷ rest) fault
 AreRefused-from p some weights ls found l rest k fault h is refused =
     let n = normal_form p some l in

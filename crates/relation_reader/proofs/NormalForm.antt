@@ -37,7 +37,8 @@ with_word w (x ∷ xs) h = elim (compared w x) [
   | greater i ↦ record {
     words = w ∷ x ∷ xs;
     falling = AllPairs-cons IsLetterwiseGreater w (x ∷ xs)
-        (All-cons (IsLetterwiseGreater w) x xs i (All-weaker (IsLetterwiseGreater x) (IsLetterwiseGreater w) (λ y j. letterwise-trans w x y i j) xs (AllPairs-first IsLetterwiseGreater x xs h))) h;
+        (All-cons (IsLetterwiseGreater w) x xs i (All-weaker (IsLetterwiseGreater x) (IsLetterwiseGreater w)
+        (λ y j. letterwise-trans w x y i j) xs (AllPairs-first IsLetterwiseGreater x xs h))) h;
     new = Contains-first w (x ∷ xs);
     old = λ y m. Contains-more w (x ∷ xs) y m;
     only = λ y m. elim (Contains-cases w (x ∷ xs) y m) [
@@ -90,7 +91,8 @@ words_of (t ∷ f) =
     record {
       words = all.words;
       falling = all.falling;
-      each = All-cons (λ s. Contains all.words s.word) t f all.new (All-weaker (λ s. Contains rest.words s.word) (λ s. Contains all.words s.word) (λ s m. all.old s.word m) f rest.each);
+      each = All-cons (λ s. Contains all.words s.word) t f all.new (All-weaker (λ s. Contains rest.words s.word)
+          (λ s. Contains all.words s.word) (λ s m. all.old s.word m) f rest.each);
     }
 
 -- the polynomial that is the sum modulo p
@@ -113,6 +115,7 @@ normal_form p some f =
         | inr none ↦
             from_words-absent l.words c w none
             ∙ sym (zero-mod p)
-            ∙ ap (λ (n : ℕ). n % p) (sym (total_at-absent f w (All-weaker (λ (t : Term). Contains l.words t.word) (λ (t : Term). t.word ≢ w) (λ t m e. none (subst (Contains l.words) e m)) f l.each)))
+            ∙ ap (λ (n : ℕ). n % p) (sym (total_at-absent f w (All-weaker (λ (t : Term). Contains l.words t.word) (λ (t : Term). t.word ≢ w)
+            (λ t m e. none (subst (Contains l.words) e m)) f l.each)))
       ]);
     }

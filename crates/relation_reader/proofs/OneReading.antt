@@ -8,7 +8,9 @@ use Rattle.relation_reader.specs.declared.place.Place.TheVariants as places
 use Rattle.relation_reader.specs.declared.token.Token.{Token}
 use Rattle.relation_reader.specs.Tokens.{SplitsFrom}
 use Rattle.relation_reader.specs.Grammar.{Lexeme, Relation, Tree}
-use Rattle.relation_reader.specs.Meaning.{AreMeanings, HasOneReading, IsFirstPlaced, IsFirstRelation, IsMeaning, IsOutcome, Means, Outcome, Reads, faults_from, first_of, letters_of, others_than_zero, pieces_of, place_fault, placed_from, reading, refused, relation_faults, terms_of_relation}
+use Rattle.relation_reader.specs.Meaning.{AreMeanings, HasOneReading, IsFirstPlaced, IsFirstRelation, IsMeaning, IsOutcome, Means, Outcome, Reads}
+use Rattle.relation_reader.specs.Meaning.{faults_from, first_of, letters_of, others_than_zero, pieces_of, place_fault, placed_from, reading, refused}
+use Rattle.relation_reader.specs.Meaning.{relation_faults, terms_of_relation}
 use Rattle.relation_reader.proofs.TextSplits.{split-from}
 use Rattle.relation_reader.proofs.OneSplit.{splits-once}
 use Rattle.relation_reader.proofs.Trees.{tree-of}
@@ -18,7 +20,8 @@ use Rattle.relation_reader.proofs.NormalForm.{normal_form}
 
 -- Any two outcomes are one.
 
-meanings-once : (p : ℕ) (names : List (List ℕ)) (rs : List Relation) (fs gs : List (List Term)) → AreMeanings p names rs fs → AreMeanings p names rs gs → fs ≡ gs
+meanings-once : (p : ℕ) (names : List (List ℕ)) (rs : List Relation) (fs gs : List (List Term)) → AreMeanings p names rs fs →
+    AreMeanings p names rs gs → fs ≡ gs
 meanings-once p names [] [] [] h k = refl
 meanings-once p names [] [] (g ∷ gs) h k = absurd k
 meanings-once p names [] (f ∷ fs) gs h k = absurd h
@@ -54,14 +57,17 @@ means-once text p l k fs gs m n =
 abbrev relation_fault : Letters → List (List Term) → Option InputFault
 relation_fault l fs = first_of (relation_faults l.weights 1 fs)
 
-relation_fault-once : (text : List ℕ) (p : ℕ) (l k : Letters) (fs gs : List (List Term)) → Means text p l fs → Means text p k gs → relation_fault l fs ≡ relation_fault k gs
-relation_fault-once text p l k fs gs m n = ap (λ j. relation_fault j fs) (letters-once text p l k fs gs m n) ∙ ap (relation_fault k) (means-once text p l k fs gs m n)
+relation_fault-once : (text : List ℕ) (p : ℕ) (l k : Letters) (fs gs : List (List Term)) → Means text p l fs → Means text p k gs →
+    relation_fault l fs ≡ relation_fault k gs
+relation_fault-once text p l k fs gs m n = ap (λ j. relation_fault j fs) (letters-once text p l k fs gs m n)
+    ∙ ap (relation_fault k) (means-once text p l k fs gs m n)
 
 -- the first fault with a place
 abbrev fault_with : List ℕ → List Token → Option InputFault → Option InputFault
 fault_with text tokens stop = place_fault (pieces_of text tokens stop) stop
 
-fault_with-once : (text : List ℕ) (ts us : List Token) (s r : Option InputFault) → SplitsFrom text 0 ts s → SplitsFrom text 0 us r → fault_with text ts s ≡ fault_with text us r
+fault_with-once : (text : List ℕ) (ts us : List Token) (s r : Option InputFault) → SplitsFrom text 0 ts s → SplitsFrom text 0 us r →
+    fault_with text ts s ≡ fault_with text us r
 fault_with-once text ts us s r h k =
     let same = splits-once text 0 ts s us r h k in
     ap (λ vs. fault_with text vs s) same.0 ∙ ap (fault_with text us) same.1
@@ -129,14 +135,24 @@ of-meaning text p l fs m = elim (is_fault (relation_fault l fs)) [
   | inr some ↦ (refused some.0, inr (record { letters = l; meanings = fs; means = m; first = some.1 }))
 ]
 
-means : (text : List ℕ) (p : ℕ) → 0 < p → (tokens : List Token) → SplitsFrom text 0 tokens None → fault_with text tokens None ≡ None → (x : Outcome) × IsOutcome text p x
+means : (text : List ℕ) (p : ℕ) → 0 < p → (tokens : List Token) → SplitsFrom text 0 tokens None → fault_with text tokens None ≡ None →
+    (x : Outcome) × IsOutcome text p x
 means text p some tokens splits none =
     let t = tree-of (lexemes_of text tokens) (accepted text tokens none) in
     let l = letters_of t.0 in
     let ms = meanings-of p some l.names t.0.relations in
-    of-meaning text p l ms.meanings (record { tokens = tokens; splits = splits; tree = t.0; spelled_so = t.1; no_fault = none; letters_are = refl; meanings_are = ms.are })
+    of-meaning text p l ms.meanings (record {
+      tokens = tokens;
+      splits = splits;
+      tree = t.0;
+      spelled_so = t.1;
+      no_fault = none;
+      letters_are = refl;
+      meanings_are = ms.are;
+    })
 
-outcome : (text : List ℕ) (p : ℕ) → 0 < p → (tokens : List Token) (stop : Option InputFault) → SplitsFrom text 0 tokens stop → (x : Outcome) × IsOutcome text p x
+outcome : (text : List ℕ) (p : ℕ) → 0 < p → (tokens : List Token) (stop : Option InputFault) → SplitsFrom text 0 tokens stop →
+    (x : Outcome) × IsOutcome text p x
 outcome text p some tokens stop splits = elim (is_fault (fault_with text tokens stop)) [
   | inl none ↦
       let e : stop ≡ None = no-stop (faults_from [] (placed_from (Some places.Beginning) (pieces_of text tokens stop))) stop none in

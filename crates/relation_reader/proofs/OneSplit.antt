@@ -1,5 +1,6 @@
 -- A text has no second split: where a gap ends, which mark a byte begins and where a token ends are each told once.
-use Rattle.std.proofs.Common.{ℕ, suc, ◌≡◌, ◌≢◌, ◌+◌, ◌-◌, ◌^◌, ◌<◌, ◌≤◌, Bool, true, false, if◌then◌else◌, ◌&&◌, ◌||◌, ◌==◌, List, [], ◌∷◌, ◌++◌, length, take, drop, get_or, bytes_eq, Option, Some, None, inl, inr, refl, sym, ap, subst, ◌∙◌, length-drop, arith}
+use Rattle.std.proofs.Common.{ℕ, suc, ◌≡◌, ◌≢◌, ◌+◌, ◌-◌, ◌^◌, ◌<◌, ◌≤◌, Bool, true, false, if◌then◌else◌, ◌&&◌, ◌||◌, ◌==◌, List, [], ◌∷◌, ◌++◌}
+use Rattle.std.proofs.Common.{length, take, drop, get_or, bytes_eq, Option, Some, None, inl, inr, refl, sym, ap, subst, ◌∙◌, length-drop, arith}
 use Rattle.std.proofs.Math.Seq.{take-add}
 use Rattle.std.proofs.lemmas.List.{drop_more, drop-drop, take-append-drop, length-take}
 use Rattle.std.proofs.lemmas.Bool.{cases_Bool, cases_lt, eqb-true}
@@ -10,7 +11,9 @@ use Rattle.relation_reader.specs.declared.token.Mark.TheVariants as marks
 use Rattle.relation_reader.specs.declared.token.Token.{Token}
 use Rattle.relation_reader.specs.declared.fault.InputFault.{InputFault}
 use Rattle.relation_reader.specs.declared.fault.InputFault.TheVariants as faults
-use Rattle.relation_reader.specs.Tokens.{between, comment, broken, IsBadByte, IsGap, IsNarrow, IsToken, IsWideNumber, SplitsFrom, StopsAt, after_byte, after_bytes, are_all, begins, goes_on, is_digit, is_letter, is_mark_byte, is_name_byte, is_text, span, with_digits}
+use Rattle.relation_reader.specs.Tokens.{between, comment, broken, IsBadByte, IsGap, IsNarrow, IsToken, IsWideNumber, SplitsFrom, StopsAt, after_byte}
+use Rattle.relation_reader.specs.Tokens.{after_bytes, are_all, begins, goes_on, is_digit, is_letter, is_mark_byte, is_name_byte, is_text, span}
+use Rattle.relation_reader.specs.Tokens.{with_digits}
 use Rattle.relation_reader.specs.Scan.{IsFaultAt}
 use Rattle.relation_reader.proofs.Spans.{after_bytes-append, are_all-append, begins-drop}
 use Rattle.relation_reader.proofs.TextSplits.{BreaksAt, same_number, whole}
@@ -56,7 +59,8 @@ no-break text from at stops b =
 no-earlier : (text : List ℕ) (from a b : ℕ) → BreaksAt text from a → BreaksAt text from b → a < b → ⊥
 no-earlier text from a b h k less =
     let ordered : a ≤ b = omega arith in
-    whole (sym k.gap.1 ∙ ap (after_bytes between) (span-append text from a b h.gap.0 ordered ∙ ap (λ xs. span text from a ++ xs) (span-cons text a b h.within less))
+    whole (sym k.gap.1 ∙ ap (after_bytes between) (span-append text from a b h.gap.0 ordered
+    ∙ ap (λ xs. span text from a ++ xs) (span-cons text a b h.within less))
     ∙ gap-ends (span text from a) (span text (a + 1) b) (get_or text a 0) h.gap.1 h.breaks)
 
 breaks-once : (text : List ℕ) (from a b : ℕ) → BreaksAt text from a → BreaksAt text from b → a ≡ b
@@ -111,7 +115,9 @@ abbrev goes : ℕ → ℕ → Bool
 goes k b = if k == 0 then is_name_byte b else if k == 1 then is_digit b else false
 
 abbrev mark_from : ℕ → ℕ → Mark
-mark_from k value = if k == 0 then marks.Name else if k == 1 then marks.Number value else if k == 43 then marks.Plus else if k == 45 then marks.Minus else if k == 42 then marks.Star else if k == 94 then marks.Caret else if k == 44 then marks.Comma else if k == 59 then marks.Semicolon else if k == 58 then marks.Colon else marks.End
+mark_from k value = if k == 0 then marks.Name else if k == 1 then marks.Number value else if k == 43 then marks.Plus else if k == 45 then
+    marks.Minus else if k == 42 then marks.Star else if k == 94 then marks.Caret else if k == 44 then marks.Comma else if k == 59 then
+    marks.Semicolon else if k == 58 then marks.Colon else marks.End
 
 mark-is : (mark : Mark) → mark ≡ mark_from (kind mark) (value_of mark)
 mark-is marks.Name = refl
@@ -138,8 +144,10 @@ digit-kind b e =
 
 bad-kind : (b : ℕ) → (is_letter b || is_digit b || is_mark_byte b) ≡ false → byte_kind b ≡ 9
 bad-kind b e =
-    ap (λ t. if t then 0 else if is_digit b then 1 else if is_mark_byte b then b else 9) (or_first (is_letter b) (is_digit b) (or_first (is_letter b || is_digit b) (is_mark_byte b) e))
-    ∙ ap (λ t. if t then 1 else if is_mark_byte b then b else 9) (or_second (is_letter b) (is_digit b) (or_first (is_letter b || is_digit b) (is_mark_byte b) e))
+    ap (λ t. if t then 0 else if is_digit b then 1 else if is_mark_byte b then b else 9)
+    (or_first (is_letter b) (is_digit b) (or_first (is_letter b || is_digit b) (is_mark_byte b) e))
+    ∙ ap (λ t. if t then 1 else if is_mark_byte b then b else 9) (or_second (is_letter b) (is_digit b)
+    (or_first (is_letter b || is_digit b) (is_mark_byte b) e))
     ∙ ap (λ t. if t then b else 9) (or_second (is_letter b || is_digit b) (is_mark_byte b) e)
 
 other_byte : (test : ℕ → Bool) (b c : ℕ) → test b ≡ true → test c ≡ false → (b == c) ≡ false
@@ -148,7 +156,8 @@ other_byte test b c e f = elim (cases_Bool (b == c)) [
   | inr other ↦ other
 ]
 
-breaks-by : (test : ℕ → Bool) (b : ℕ) → test b ≡ true → test 32 ≡ false → test 9 ≡ false → test 10 ≡ false → test 13 ≡ false → test 37 ≡ false → after_byte between b ≡ broken
+breaks-by : (test : ℕ → Bool) (b : ℕ) → test b ≡ true → test 32 ≡ false → test 9 ≡ false → test 10 ≡ false → test 13 ≡ false →
+    test 37 ≡ false → after_byte between b ≡ broken
 breaks-by test b e f g h i j =
     ap (λ t. if ((t || b == 9) || b == 10) || b == 13 then between else if b == 37 then comment else broken) (other_byte test b 32 e f)
     ∙ ap (λ t. if (t || b == 10) || b == 13 then between else if b == 37 then comment else broken) (other_byte test b 9 e g)
@@ -163,7 +172,8 @@ kind-breaks b known = elim (cases_Bool (is_letter b)) [
     | inl e ↦ breaks-by is_digit b e refl refl refl refl refl
     | inr not_digit ↦ elim (cases_Bool (is_mark_byte b)) [
       | inl e ↦ breaks-by is_mark_byte b e refl refl refl refl refl
-      | inr not_mark ↦ absurd (known (bad-kind b (ap (λ t. (t || is_digit b) || is_mark_byte b) not_letter ∙ ap (λ t. t || is_mark_byte b) not_digit ∙ not_mark)))
+      | inr not_mark ↦ absurd (known (bad-kind b (ap (λ t. (t || is_digit b) || is_mark_byte b) not_letter
+          ∙ ap (λ t. t || is_mark_byte b) not_digit ∙ not_mark)))
     ]
   ]
 ]
@@ -200,8 +210,10 @@ record Spells (mark : Mark) (text : List ℕ) (s e : ℕ) : Type 0 where
   value_is : value_of mark ≡ value_at (kind mark) (span text s e)
   known : kind mark ≢ 9
 
-tail-of : (test : ℕ → Bool) (text : List ℕ) (s e : ℕ) → s < length text → s < e → are_all test (span text s e) ≡ true → are_all test (span text (s + 1) e) ≡ true
-tail-of test text s e within more h = and_second (test (get_or text s 0)) (are_all test (span text (s + 1) e)) (sym (ap (are_all test) (span-cons text s e within more)) ∙ h)
+tail-of : (test : ℕ → Bool) (text : List ℕ) (s e : ℕ) → s < length text → s < e → are_all test (span text s e) ≡ true →
+    are_all test (span text (s + 1) e) ≡ true
+tail-of test text s e within more h = and_second (test (get_or text s 0)) (are_all test (span text (s + 1) e))
+    (sym (ap (are_all test) (span-cons text s e within more)) ∙ h)
 
 record IsByte (c : ℕ) (text : List ℕ) (s e : ℕ) : Type 0 where
   within : s < length text
@@ -220,19 +232,92 @@ spells : (mark : Mark) (text : List ℕ) (s e : ℕ) → is_text mark (span text
 spells marks.Name text s e h =
     let x = span text s e in
     let b = begins-span is_letter text s e (and_first (begins is_letter x) (are_all is_name_byte x) h) in
-    record { within = b.within; more = b.more; kind_is = letter-kind (get_or text s 0) b.here; tail = tail-of is_name_byte text s e b.within b.more (and_second (begins is_letter x) (are_all is_name_byte x) h); value_is = refl; known = λ f. omega arith }
+    record {
+      within = b.within;
+      more = b.more;
+      kind_is = letter-kind (get_or text s 0) b.here;
+      tail =
+          tail-of is_name_byte text s e b.within b.more (and_second (begins is_letter x) (are_all is_name_byte x) h);
+      value_is = refl;
+      known = λ f. omega arith;
+    }
 spells (marks.Number value) text s e h =
     let x = span text s e in
     let n : (begins is_digit x && are_all is_digit x) ≡ true = and_first (begins is_digit x && are_all is_digit x) (with_digits 0 x == value) h in
     let b = begins-span is_digit text s e (and_first (begins is_digit x) (are_all is_digit x) n) in
-    record { within = b.within; more = b.more; kind_is = digit-kind (get_or text s 0) b.here; tail = tail-of is_digit text s e b.within b.more (and_second (begins is_digit x) (are_all is_digit x) n); value_is = sym (eqb-true (with_digits 0 x) value (and_second (begins is_digit x && are_all is_digit x) (with_digits 0 x == value) h)); known = λ f. omega arith }
-spells marks.Plus text s e h = let b = one-byte 43 text s e h in record { within = b.within; more = b.more; kind_is = ap byte_kind b.here; tail = ap (are_all (goes 43)) b.tail; value_is = refl; known = λ f. omega arith }
-spells marks.Minus text s e h = let b = one-byte 45 text s e h in record { within = b.within; more = b.more; kind_is = ap byte_kind b.here; tail = ap (are_all (goes 45)) b.tail; value_is = refl; known = λ f. omega arith }
-spells marks.Star text s e h = let b = one-byte 42 text s e h in record { within = b.within; more = b.more; kind_is = ap byte_kind b.here; tail = ap (are_all (goes 42)) b.tail; value_is = refl; known = λ f. omega arith }
-spells marks.Caret text s e h = let b = one-byte 94 text s e h in record { within = b.within; more = b.more; kind_is = ap byte_kind b.here; tail = ap (are_all (goes 94)) b.tail; value_is = refl; known = λ f. omega arith }
-spells marks.Comma text s e h = let b = one-byte 44 text s e h in record { within = b.within; more = b.more; kind_is = ap byte_kind b.here; tail = ap (are_all (goes 44)) b.tail; value_is = refl; known = λ f. omega arith }
-spells marks.Semicolon text s e h = let b = one-byte 59 text s e h in record { within = b.within; more = b.more; kind_is = ap byte_kind b.here; tail = ap (are_all (goes 59)) b.tail; value_is = refl; known = λ f. omega arith }
-spells marks.Colon text s e h = let b = one-byte 58 text s e h in record { within = b.within; more = b.more; kind_is = ap byte_kind b.here; tail = ap (are_all (goes 58)) b.tail; value_is = refl; known = λ f. omega arith }
+    record {
+      within = b.within;
+      more = b.more;
+      kind_is = digit-kind (get_or text s 0) b.here;
+      tail =
+          tail-of is_digit text s e b.within b.more (and_second (begins is_digit x) (are_all is_digit x) n);
+      value_is =
+          sym (eqb-true (with_digits 0 x) value (and_second (begins is_digit x && are_all is_digit x) (with_digits 0 x == value) h));
+      known = λ f. omega arith;
+    }
+spells marks.Plus text s e h = let b = one-byte 43 text s e h in
+    record {
+      within = b.within;
+      more = b.more;
+      kind_is = ap byte_kind b.here;
+      tail = ap (are_all (goes 43)) b.tail;
+      value_is = refl;
+      known = λ f. omega arith;
+    }
+spells marks.Minus text s e h = let b = one-byte 45 text s e h in
+    record {
+      within = b.within;
+      more = b.more;
+      kind_is = ap byte_kind b.here;
+      tail = ap (are_all (goes 45)) b.tail;
+      value_is = refl;
+      known = λ f. omega arith;
+    }
+spells marks.Star text s e h = let b = one-byte 42 text s e h in
+    record {
+      within = b.within;
+      more = b.more;
+      kind_is = ap byte_kind b.here;
+      tail = ap (are_all (goes 42)) b.tail;
+      value_is = refl;
+      known = λ f. omega arith;
+    }
+spells marks.Caret text s e h = let b = one-byte 94 text s e h in
+    record {
+      within = b.within;
+      more = b.more;
+      kind_is = ap byte_kind b.here;
+      tail = ap (are_all (goes 94)) b.tail;
+      value_is = refl;
+      known = λ f. omega arith;
+    }
+spells marks.Comma text s e h = let b = one-byte 44 text s e h in
+    record {
+      within = b.within;
+      more = b.more;
+      kind_is = ap byte_kind b.here;
+      tail = ap (are_all (goes 44)) b.tail;
+      value_is = refl;
+      known = λ f. omega arith;
+    }
+spells marks.Semicolon text s e h = let b = one-byte 59 text s e h in
+    record {
+      within = b.within;
+      more = b.more;
+      kind_is = ap byte_kind b.here;
+      tail = ap (are_all (goes 59)) b.tail;
+      value_is = refl;
+      known = λ f. omega arith;
+    }
+spells marks.Colon text s e h = let b = one-byte 58 text s e h in
+    record {
+      within = b.within;
+      more = b.more;
+      kind_is = ap byte_kind b.here;
+      tail = ap (are_all (goes 58)) b.tail;
+      value_is = refl;
+      known = λ f. omega arith;
+    }
 spells marks.End text s e h = absurd (let f : false ≡ true = h in cc)
 
 nothing-goes : (rest : List ℕ) → begins (λ b. false) rest ≡ false
@@ -251,17 +336,22 @@ longest-of marks.Semicolon rest h = nothing-goes rest
 longest-of marks.Colon rest h = nothing-goes rest
 longest-of marks.End rest h = nothing-goes rest
 
-no-shorter : (test : ℕ → Bool) (text : List ℕ) (a e f : ℕ) → a ≤ e → f ≤ length text → are_all test (span text a f) ≡ true → begins test (drop e text) ≡ false → e < f → ⊥
+no-shorter : (test : ℕ → Bool) (text : List ℕ) (a e f : ℕ) → a ≤ e → f ≤ length text → are_all test (span text a f) ≡ true →
+    begins test (drop e text) ≡ false → e < f → ⊥
 no-shorter test text a e f ordered within all longest less =
     let inside : e < length text = omega arith in
     let after : e ≤ f = omega arith in
     let split = span-append text a e f ordered after ∙ ap (λ xs. span text a e ++ xs) (span-cons text e f inside less) in
-    let both : (are_all test (span text a e) && are_all test (get_or text e 0 ∷ span text (e + 1) f)) ≡ true = sym (are_all-append test (span text a e) (get_or text e 0 ∷ span text (e + 1) f)) ∙ sym (ap (are_all test) split) ∙ all in
-    let here : test (get_or text e 0) ≡ true = and_first (test (get_or text e 0)) (are_all test (span text (e + 1) f)) (and_second (are_all test (span text a e)) (are_all test (get_or text e 0 ∷ span text (e + 1) f)) both) in
+    let both : (are_all test (span text a e) && are_all test (get_or text e 0 ∷ span text (e + 1) f)) ≡ true =
+    sym (are_all-append test (span text a e) (get_or text e 0 ∷ span text (e + 1) f)) ∙ sym (ap (are_all test) split) ∙ all in
+    let here : test (get_or text e 0) ≡ true = and_first (test (get_or text e 0)) (are_all test (span text (e + 1) f))
+    (and_second (are_all test (span text a e)) (are_all test (get_or text e 0 ∷ span text (e + 1) f)) both) in
     let z : true ≡ false = sym here ∙ sym (begins-drop test text e inside) ∙ longest in
     cc
 
-ends-once : (test : ℕ → Bool) (text : List ℕ) (a e f : ℕ) → a ≤ e → a ≤ f → e ≤ length text → f ≤ length text → are_all test (span text a e) ≡ true → are_all test (span text a f) ≡ true → begins test (drop e text) ≡ false → begins test (drop f text) ≡ false → e ≡ f
+ends-once : (test : ℕ → Bool) (text : List ℕ) (a e f : ℕ) → a ≤ e → a ≤ f → e ≤ length text → f ≤ length text →
+    are_all test (span text a e) ≡ true → are_all test (span text a f) ≡ true → begins test (drop e text) ≡ false →
+    begins test (drop f text) ≡ false → e ≡ f
 ends-once test text a e f i j k l all every longest last = elim (cases_lt e f) [
   | inl less ↦ absurd (no-shorter test text a e f i l every longest less)
   | inr past ↦ elim (cases_lt f e) [
@@ -271,7 +361,8 @@ ends-once test text a e f i j k l all every longest last = elim (cases_lt e f) [
 ]
 
 -- two marks that are spelled from one place on
-same-at : (text : List ℕ) (s : ℕ) (m n : Mark) (e f : ℕ) → e ≤ length text → f ≤ length text → is_text m (span text s e) ≡ true → is_text n (span text s f) ≡ true → goes_on m (drop e text) ≡ false → goes_on n (drop f text) ≡ false → (m ≡ n) × (e ≡ f)
+same-at : (text : List ℕ) (s : ℕ) (m n : Mark) (e f : ℕ) → e ≤ length text → f ≤ length text → is_text m (span text s e) ≡ true →
+    is_text n (span text s f) ≡ true → goes_on m (drop e text) ≡ false → goes_on n (drop f text) ≡ false → (m ≡ n) × (e ≡ f)
 same-at text s m n e f inside within spelled written longest last =
     let a = spells m text s e spelled in
     let b = spells n text s f written in
@@ -279,7 +370,8 @@ same-at text s m n e f inside within spelled written longest last =
     let i : s + 1 ≤ e = omega (arith, a.more) in
     let j : s + 1 ≤ f = omega (arith, b.more) in
     let tail : are_all (goes (kind m)) (span text (s + 1) f) ≡ true = subst (λ (c : ℕ). are_all (goes c) (span text (s + 1) f) ≡ true) (sym k) b.tail in
-    let stops : begins (goes (kind m)) (drop f text) ≡ false = subst (λ (c : ℕ). begins (goes c) (drop f text) ≡ false) (sym k) (longest-of n (drop f text) last) in
+    let stops : begins (goes (kind m)) (drop f text) ≡ false = subst (λ (c : ℕ). begins (goes c) (drop f text) ≡ false) (sym k)
+    (longest-of n (drop f text) last) in
     let ends : e ≡ f = ends-once (goes (kind m)) text (s + 1) e f i j inside within a.tail tail (longest-of m (drop e text) longest) stops in
     let values : value_of m ≡ value_of n = a.value_is ∙ (λ h. value_at (k h) (span text s (ends h))) ∙ sym b.value_is in
     (mark-is m ∙ (λ h. mark_from (k h) (values h)) ∙ sym (mark-is n), ends)
@@ -297,7 +389,8 @@ token-breaks text from t gap h =
 
 -- a number that is too wide is spelled as its mark
 wide-spelled : (text : List ℕ) (at : ℕ) (w : IsWideNumber text at) → is_text (marks.Number (with_digits 0 (span text at w.end))) (span text at w.end) ≡ true
-wide-spelled text at w = ap (λ t. t && with_digits 0 (span text at w.end) == with_digits 0 (span text at w.end)) w.spelled ∙ same_number (with_digits 0 (span text at w.end))
+wide-spelled text at w = ap (λ t. t && with_digits 0 (span text at w.end) == with_digits 0 (span text at w.end)) w.spelled
+    ∙ same_number (with_digits 0 (span text at w.end))
 
 wide-kind : (text : List ℕ) (at : ℕ) (w : IsWideNumber text at) → byte_kind (get_or text at 0) ≡ 1
 wide-kind text at w = (spells (marks.Number (with_digits 0 (span text at w.end))) text at w.end (wide-spelled text at w)).kind_is
@@ -337,8 +430,22 @@ record Stops (text : List ℕ) (from : ℕ) (fault : InputFault) : Type 0 where
   fault_there : IsFaultAt text at fault
 
 stops : (text : List ℕ) (from : ℕ) (fault : InputFault) → StopsAt text from (Some fault) → Stops text from fault
-stops text from (faults.BadByte place) h = record { at = place; breaks = record { gap = h.0; within = h.1.within; breaks = h.1.no_gap }; fault_there = (refl, h.1) }
-stops text from (faults.NumberTooWide place) h = record { at = place; breaks = record { gap = h.0; within = wide-within text place h.1; breaks = kind-breaks (get_or text place 0) (λ f. (let z : 1 ≡ 9 = sym (wide-kind text place h.1) ∙ f in omega arith)) }; fault_there = (refl, h.1) }
+stops text from (faults.BadByte place) h = record {
+  at = place;
+  breaks = record { gap = h.0; within = h.1.within; breaks = h.1.no_gap };
+  fault_there = (refl, h.1);
+}
+stops text from (faults.NumberTooWide place) h = record {
+  at = place;
+  breaks =
+      record {
+        gap = h.0;
+        within = wide-within text place h.1;
+        breaks =
+            kind-breaks (get_or text place 0) (λ f. (let z : 1 ≡ 9 = sym (wide-kind text place h.1) ∙ f in omega arith));
+      };
+  fault_there = (refl, h.1);
+}
 stops text from fault h = absurd h
 
 stop-no-token : (text : List ℕ) (from : ℕ) (stop : Option InputFault) (t : Token) → StopsAt text from stop → IsGap text from t.start → IsToken text t → ⊥
@@ -355,9 +462,11 @@ stops-once text from (Some fault) (Some other) h k =
     let a = stops text from fault h in
     let b = stops text from other k in
     let e : a.at ≡ b.at = breaks-once text from a.at b.at a.breaks b.breaks in
-    ap (λ f. Some f) (fault-is text a.at fault a.fault_there ∙ ap (λ n. fault_from (byte_kind (get_or text n 0)) n) e ∙ sym (fault-is text b.at other b.fault_there))
+    ap (λ f. Some f) (fault-is text a.at fault a.fault_there ∙ ap (λ n. fault_from (byte_kind (get_or text n 0)) n) e
+    ∙ sym (fault-is text b.at other b.fault_there))
 
-pub splits-once : (text : List ℕ) (from : ℕ) (ts : List Token) (s : Option InputFault) (us : List Token) (r : Option InputFault) → SplitsFrom text from ts s → SplitsFrom text from us r → (ts ≡ us) × (s ≡ r)
+pub splits-once : (text : List ℕ) (from : ℕ) (ts : List Token) (s : Option InputFault) (us : List Token) (r : Option InputFault) →
+    SplitsFrom text from ts s → SplitsFrom text from us r → (ts ≡ us) × (s ≡ r)
 splits-once text from [] s [] r h k = (refl, stops-once text from s r h k)
 splits-once text from [] s (u ∷ us) r h k = absurd (stop-no-token text from s u h k.0 k.1)
 splits-once text from (t ∷ ts) s [] r h k = absurd (stop-no-token text from r t k h.0 h.1)

@@ -1,5 +1,7 @@
--- From the declaration of a text without a fault that has a place, and the terms of its relations, to what the text says.
-use Rattle.std.proofs.Common.{ℕ, ◌≡◌, ◌-◌, ◌^◌, ◌<◌, ◌≤◌, List, [], ◌∷◌, ◌++◌, length, get_or, map, take, drop, Option, None, Some, false, inr, refl, sym, ap, ◌∙◌, arith, subst, All}
+-- From the declaration of a text without a fault that has a place, and the terms of its relations, to what the text
+-- says.
+use Rattle.std.proofs.Common.{ℕ, ◌≡◌, ◌-◌, ◌^◌, ◌<◌, ◌≤◌, List, [], ◌∷◌, ◌++◌, length, get_or, map, take, drop, Option, None, Some, false, inr, refl}
+use Rattle.std.proofs.Common.{sym, ap, ◌∙◌, arith, subst, All}
 use Rattle.std.proofs.lemmas.List.{get_or-map, length-drop, length-map, take_all}
 use Rattle.std.proofs.lemmas.List.Elements.{All-map, All-weaker}
 use Rattle.words.specs.Names.{AreNames, IsAlphabet, Letters}
@@ -36,7 +38,8 @@ slice-is xs end = take_all (length xs - end) (drop end xs) (omega (arith, length
 
 -- the declaration of a text
 abbrev pub IsDeclared : List ℕ → List Token → List (List ℕ) → List ℕ → ℕ → Type 0
-IsDeclared text tokens names weights end = listed [] [] 1 (lexemes_of text (drop 1 tokens)) ≡ record { letters = record { names = names; weights = weights }; rest = lexemes_of text (drop end tokens) }
+IsDeclared text tokens names weights end = listed [] [] 1 (lexemes_of text (drop 1 tokens))
+    ≡ record { letters = record { names = names; weights = weights }; rest = lexemes_of text (drop end tokens) }
 
 -- names and weights that make an alphabet
 pub record DeclaredLetters (names : List (List ℕ)) (weights : List ℕ) : Type 0 where
@@ -44,7 +47,8 @@ pub record DeclaredLetters (names : List (List ℕ)) (weights : List ℕ) : Type
   pub weights_fit : AreWeights weights
   pub count : length weights ≡ length names
 
-module _ (text : List ℕ) (tokens : List Token) (none : place_fault (pieces_of text tokens None) None ≡ None) (names : List (List ℕ)) (weights : List ℕ) (end : ℕ) (walk : IsDeclared text tokens names weights end) where
+module _ (text : List ℕ) (tokens : List Token) (none : place_fault (pieces_of text tokens None) None ≡ None) (names : List (List ℕ))
+    (weights : List ℕ) (end : ℕ) (walk : IsDeclared text tokens names weights end) where
   abbrev tree_letters : Letters
   tree_letters = letters_of (understood text tokens none).tree
 
@@ -64,8 +68,10 @@ module _ (text : List ℕ) (tokens : List Token) (none : place_fault (pieces_of 
     count = ap length weights-are ∙ (understood text tokens none).count ∙ sym (ap length names-are);
   }
 
-  module _ (p : ℕ) (some : 0 < p) (splits : SplitsFrom text 0 tokens None) (small : length text ≤ 1048576) (letters : Letters) (same_names : letters.names ≡ names) (same_weights : letters.weights ≡ weights)
-      (sums : List (List Term)) (gathers : sums ≡ gathered p letters.names (fresh p [] [] false) (lexemes_of text (take (length tokens - end) (drop end tokens)))) where
+  module _ (p : ℕ) (some : 0 < p) (splits : SplitsFrom text 0 tokens None) (small : length text ≤ 1048576) (letters : Letters)
+      (same_names : letters.names ≡ names) (same_weights : letters.weights ≡ weights)
+      (sums : List (List Term)) (gathers : sums ≡ gathered p letters.names (fresh p [] [] false)
+      (lexemes_of text (take (length tokens - end) (drop end tokens)))) where
     letters-are : letters ≡ tree_letters
     letters-are = λ i. record { names = (same_names ∙ names-are) i; weights = (same_weights ∙ weights-are) i }
 
@@ -79,7 +85,8 @@ module _ (text : List ℕ) (tokens : List Token) (none : place_fault (pieces_of 
 
     sums-residues : All (HasResidues p) sums
     sums-residues = subst (All (HasResidues p)) (sym sums-are)
-        (All-map (HasResidues p) (reduced_terms p tree_letters.names) (understood text tokens none).tree.relations (λ k d within. reduced-residues p some tree_letters.names (get_or (understood text tokens none).tree.relations k d)))
+        (All-map (HasResidues p) (reduced_terms p tree_letters.names) (understood text tokens none).tree.relations
+        (λ k d within. reduced-residues p some tree_letters.names (get_or (understood text tokens none).tree.relations k d)))
 
     alphabet : IsAlphabet letters
     alphabet =
@@ -111,7 +118,8 @@ module _ (text : List ℕ) (tokens : List Token) (none : place_fault (pieces_of 
     summable : (f : List Term) → HasResidues p f → All (IsSmall (length letters.names) lexemes_count) f → AreSummable p letters.weights f
     summable f residues h = record {
       residues = residues;
-      letters = subst (λ (m : ℕ). UsesLetters m f) alphabet.count (All-weaker (IsSmall (length letters.names) lexemes_count) (λ (t : Term). IsOver (length letters.names) t.word) (λ t s. s.letters) f h);
+      letters = subst (λ (m : ℕ). UsesLetters m f) alphabet.count (All-weaker (IsSmall (length letters.names) lexemes_count)
+          (λ (t : Term). IsOver (length letters.names) t.word) (λ t s. s.letters) f h);
       degrees = All-weaker (IsSmall (length letters.names) lexemes_count) (λ (t : Term). degree_of letters.weights t.word < 2 ^ 64)
           (λ t s. omega (arith, s.few, lexemes-few, degree_of-bound letters.weights alphabet.weights t.word)) f h;
     }
@@ -122,7 +130,8 @@ module _ (text : List ℕ) (tokens : List Token) (none : place_fault (pieces_of 
     pub reads : (found : List (List Term)) → AreSound p letters.weights sums found → Reads text p letters found
     reads found h = record {
       meanings = h.elements;
-      means = means-from text p tokens letters h.elements splits none (understood text tokens none) letters-are (subst (λ (ls : List (List Term)). AreElementsOf p ls h.elements) sums-are h.elements_are);
+      means = means-from text p tokens letters h.elements splits none (understood text tokens none) letters-are
+          (subst (λ (ls : List (List Term)). AreElementsOf p ls h.elements) sums-are h.elements_are);
       no_fault = h.no_fault;
       others = h.others;
     }
@@ -132,7 +141,8 @@ module _ (text : List ℕ) (tokens : List Token) (none : place_fault (pieces_of 
     refuses (answers.Text fault) h = inr (record {
       letters = letters;
       meanings = h.elements;
-      means = means-from text p tokens letters h.elements splits none (understood text tokens none) letters-are (subst (λ (ls : List (List Term)). AreElementsOf p ls h.elements) sums-are h.elements_are);
+      means = means-from text p tokens letters h.elements splits none (understood text tokens none) letters-are
+          (subst (λ (ls : List (List Term)). AreElementsOf p ls h.elements) sums-are h.elements_are);
       first = h.first;
     })
 

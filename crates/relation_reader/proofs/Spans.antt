@@ -1,11 +1,13 @@
 -- Spans that grow by one byte, and the tokens that they complete.
-use Rattle.std.proofs.Common.{ℕ, ◌≡◌, ◌+◌, ◌-◌, ◌*◌, ◌<◌, ◌≤◌, Bool, true, false, ◌&&◌, List, [], ◌∷◌, ◌++◌, length, take, drop, get_or, Option, Some, refl, sym, ap, subst, ◌∙◌, append_assoc, length-drop, arith}
+use Rattle.std.proofs.Common.{ℕ, ◌≡◌, ◌+◌, ◌-◌, ◌*◌, ◌<◌, ◌≤◌, Bool, true, false, ◌&&◌, List, [], ◌∷◌, ◌++◌, length, take, drop, get_or, Option, Some}
+use Rattle.std.proofs.Common.{refl, sym, ap, subst, ◌∙◌, append_assoc, length-drop, arith}
 use Rattle.std.proofs.Math.Seq.{drop-length}
 use Rattle.std.proofs.lemmas.List.{take_more, take_all, get_or-drop, drop_more}
 use Rattle.relation_reader.specs.declared.token.Token.{Token}
 use Rattle.relation_reader.specs.declared.fault.InputFault.{InputFault}
 use Rattle.relation_reader.specs.declared.fault.InputFault.TheVariants as faults
-use Rattle.relation_reader.specs.Tokens.{Gap, IsBadByte, IsGap, IsToken, IsWideNumber, SplitsFrom, StopsAt, after_byte, after_bytes, are_all, begins, span, with_digits}
+use Rattle.relation_reader.specs.Tokens.{Gap, IsBadByte, IsGap, IsToken, IsWideNumber, SplitsFrom, StopsAt, after_byte, after_bytes, are_all, begins}
+use Rattle.relation_reader.specs.Tokens.{span, with_digits}
 use Rattle.relation_reader.specs.Scan.{IsFaultAt}
 
 pub span-none : (text : List ℕ) (start : ℕ) → span text start start ≡ []
@@ -26,13 +28,16 @@ span-one text at within =
     span-next text at at ordered within ∙ ap (λ xs. xs ++ get_or text at 0 ∷ []) (span-none text at)
 
 pub span-rest : (text : List ℕ) (start : ℕ) → span text start (length text) ≡ drop start text
-span-rest text start = ap (λ n. take n (drop start text)) (sym (length-drop start text)) ∙ (let whole : length (drop start text) ≤ length (drop start text) = omega arith in take_all (length (drop start text)) (drop start text) whole)
+span-rest text start = ap (λ n. take n (drop start text)) (sym (length-drop start text))
+    ∙ (let whole : length (drop start text) ≤ length (drop start text) = omega arith in
+    take_all (length (drop start text)) (drop start text) whole)
 
 pub after_bytes-append : (gap : Gap) (xs ys : List ℕ) → after_bytes gap (xs ++ ys) ≡ after_bytes (after_bytes gap xs) ys
 after_bytes-append gap [] ys = refl
 after_bytes-append gap (x ∷ xs) ys = after_bytes-append (after_byte gap x) xs ys
 
-pub gap-next : (gap : Gap) (text : List ℕ) (start end : ℕ) → start ≤ end → end < length text → after_bytes gap (span text start (end + 1)) ≡ after_byte (after_bytes gap (span text start end)) (get_or text end 0)
+pub gap-next : (gap : Gap) (text : List ℕ) (start end : ℕ) → start ≤ end → end < length text →
+    after_bytes gap (span text start (end + 1)) ≡ after_byte (after_bytes gap (span text start end)) (get_or text end 0)
 gap-next gap text start end ordered within =
     ap (after_bytes gap) (span-next text start end ordered within)
     ∙ after_bytes-append gap (span text start end) (get_or text end 0 ∷ [])
@@ -41,7 +46,8 @@ with_digits-append : (n : ℕ) (xs : List ℕ) (b : ℕ) → with_digits n (xs +
 with_digits-append n [] b = refl
 with_digits-append n (x ∷ xs) b = with_digits-append (n * 10 + (x - 48)) xs b
 
-pub digits-next : (text : List ℕ) (start end : ℕ) → start ≤ end → end < length text → with_digits 0 (span text start (end + 1)) ≡ with_digits 0 (span text start end) * 10 + (get_or text end 0 - 48)
+pub digits-next : (text : List ℕ) (start end : ℕ) → start ≤ end → end < length text →
+    with_digits 0 (span text start (end + 1)) ≡ with_digits 0 (span text start end) * 10 + (get_or text end 0 - 48)
 digits-next text start end ordered within =
     ap (with_digits 0) (span-next text start end ordered within)
     ∙ with_digits-append 0 (span text start end) (get_or text end 0)
@@ -58,7 +64,8 @@ pub are_all-append : (test : ℕ → Bool) (xs ys : List ℕ) → are_all test (
 are_all-append test [] ys = refl
 are_all-append test (x ∷ xs) ys = ap (λ b. test x && b) (are_all-append test xs ys) ∙ and_assoc (test x) (are_all test xs) (are_all test ys)
 
-begun-append : (first other : ℕ → Bool) (xs : List ℕ) (b : ℕ) → (begins first xs && are_all other xs) ≡ true → other b ≡ true → (begins first (xs ++ b ∷ []) && are_all other (xs ++ b ∷ [])) ≡ true
+begun-append : (first other : ℕ → Bool) (xs : List ℕ) (b : ℕ) → (begins first xs && are_all other xs) ≡ true → other b ≡ true →
+    (begins first (xs ++ b ∷ []) && are_all other (xs ++ b ∷ [])) ≡ true
 begun-append first other [] b holds more = cc
 begun-append first other (x ∷ xs) b holds more =
     ap (λ t. first x && t) (are_all-append other (x ∷ xs) (b ∷ []))
@@ -67,13 +74,16 @@ begun-append first other (x ∷ xs) b holds more =
     ∙ holds
 
 -- a name or a number that goes on
-pub begun-next : (first other : ℕ → Bool) (text : List ℕ) (start end : ℕ) → start ≤ end → end < length text → (begins first (span text start end) && are_all other (span text start end)) ≡ true → other (get_or text end 0) ≡ true → (begins first (span text start (end + 1)) && are_all other (span text start (end + 1))) ≡ true
+pub begun-next : (first other : ℕ → Bool) (text : List ℕ) (start end : ℕ) → start ≤ end → end < length text →
+    (begins first (span text start end) && are_all other (span text start end)) ≡ true → other (get_or text end 0) ≡ true →
+    (begins first (span text start (end + 1)) && are_all other (span text start (end + 1))) ≡ true
 begun-next first other text start end ordered within holds more =
     ap (λ xs. begins first xs && are_all other xs) (span-next text start end ordered within)
     ∙ begun-append first other (span text start end) (get_or text end 0) holds more
 
 -- a name or a number of one byte
-pub begun-one : (first other : ℕ → Bool) (text : List ℕ) (at : ℕ) → at < length text → first (get_or text at 0) ≡ true → other (get_or text at 0) ≡ true → (begins first (span text at (at + 1)) && are_all other (span text at (at + 1))) ≡ true
+pub begun-one : (first other : ℕ → Bool) (text : List ℕ) (at : ℕ) → at < length text → first (get_or text at 0) ≡ true →
+    other (get_or text at 0) ≡ true → (begins first (span text at (at + 1)) && are_all other (span text at (at + 1))) ≡ true
 begun-one first other text at within e f =
     ap (λ xs. begins first xs && are_all other xs) (span-one text at within)
     ∙ ap (λ b. b && (other (get_or text at 0) && true)) e
@@ -89,7 +99,8 @@ begins-end test text = ap (begins test) (drop-length text)
 abbrev pub Completes : List ℕ → List Token → ℕ → Type 0
 Completes text tokens at = (ts : List Token) (stop : Option InputFault) → SplitsFrom text at ts stop → SplitsFrom text 0 (tokens ++ ts) stop
 
-pub Completes-next : (text : List ℕ) (tokens : List Token) (at : ℕ) (t : Token) → Completes text tokens at → IsGap text at t.start → IsToken text t → Completes text (tokens ++ t ∷ []) t.end
+pub Completes-next : (text : List ℕ) (tokens : List Token) (at : ℕ) (t : Token) → Completes text tokens at → IsGap text at t.start →
+    IsToken text t → Completes text (tokens ++ t ∷ []) t.end
 Completes-next text tokens at t completes gap token = λ ts stop s.
     subst (λ us. SplitsFrom text 0 us stop) (sym (append_assoc tokens (t ∷ []) ts)) (completes (t ∷ ts) stop (gap, token, s))
 

@@ -3,7 +3,9 @@ use Rattle.std.proofs.Common.{ℕ, ◌≡◌, Bool, true, false, List, [], ◌�
 use Rattle.std.specs.List.{flat_map}
 use Rattle.relation_reader.specs.declared.place.Place.{Place}
 use Rattle.relation_reader.specs.declared.place.Place.TheVariants as places
-use Rattle.relation_reader.specs.Grammar.{Lexeme, name, number, star, comma, semicolon, the_end, Item, Factor, constant, power, Summand, Sign, positive, negative, Signed, Relation, Tree, reached, spelled, spelled_factor, spelled_first_sign, spelled_item, spelled_relation, spelled_relations, spelled_sign, spelled_summand}
+use Rattle.relation_reader.specs.Grammar.{Lexeme, name, number, star, comma, semicolon, the_end, Item, Factor, constant, power, Summand, Sign}
+use Rattle.relation_reader.specs.Grammar.{positive, negative, Signed, Relation, Tree, reached, spelled, spelled_factor, spelled_first_sign}
+use Rattle.relation_reader.specs.Grammar.{spelled_item, spelled_relation, spelled_relations, spelled_sign, spelled_summand}
 
 -- the text behind the last relation
 abbrev pub ending : List Lexeme
@@ -49,7 +51,8 @@ signed_end b (s ∷ ss) = signed_end (summand_end s.summand) ss
 abbrev relation_end : Relation → Bool
 relation_end r = signed_end (summand_end r.first) r.others
 
-factor-walk : (f : Factor) (rest : List Lexeme) → reached (Some places.AfterOperator) (spelled_factor f ++ rest) ≡ reached (Some (end_place (factor_end f))) rest
+factor-walk : (f : Factor) (rest : List Lexeme) → reached (Some places.AfterOperator) (spelled_factor f ++ rest)
+    ≡ reached (Some (end_place (factor_end f))) rest
 factor-walk (constant value) rest = refl
 factor-walk (power letter None) rest = refl
 factor-walk (power letter (Some value)) rest = refl
@@ -72,7 +75,8 @@ semicolon-walk : (b : Bool) (rest : List Lexeme) → reached (Some (end_place b)
 semicolon-walk true rest = refl
 semicolon-walk false rest = refl
 
-others-walk : (b : Bool) (fs : List Factor) (rest : List Lexeme) → reached (Some (end_place b)) (starred fs ++ rest) ≡ reached (Some (end_place (last_end b fs))) rest
+others-walk : (b : Bool) (fs : List Factor) (rest : List Lexeme) →
+    reached (Some (end_place b)) (starred fs ++ rest) ≡ reached (Some (end_place (last_end b fs))) rest
 others-walk b [] rest = refl
 others-walk b (f ∷ fs) rest =
     ap (λ ls. reached (Some (end_place b)) (star ∷ ls)) (append_assoc (spelled_factor f) (starred fs) rest)
@@ -80,16 +84,19 @@ others-walk b (f ∷ fs) rest =
     ∙ factor-walk f (starred fs ++ rest)
     ∙ others-walk (factor_end f) fs rest
 
-summand-walk : (s : Summand) (rest : List Lexeme) → reached (Some places.AfterOperator) (spelled_summand s ++ rest) ≡ reached (Some (end_place (summand_end s))) rest
+summand-walk : (s : Summand) (rest : List Lexeme) → reached (Some places.AfterOperator) (spelled_summand s ++ rest)
+    ≡ reached (Some (end_place (summand_end s))) rest
 summand-walk s rest =
     ap (reached (Some places.AfterOperator)) (append_assoc (spelled_factor s.first) (starred s.others) rest)
     ∙ factor-walk s.first (starred s.others ++ rest)
     ∙ others-walk (factor_end s.first) s.others rest
 
-signeds-walk : (b : Bool) (ss : List Signed) (rest : List Lexeme) → reached (Some (end_place b)) (signeds ss ++ rest) ≡ reached (Some (end_place (signed_end b ss))) rest
+signeds-walk : (b : Bool) (ss : List Signed) (rest : List Lexeme) →
+    reached (Some (end_place b)) (signeds ss ++ rest) ≡ reached (Some (end_place (signed_end b ss))) rest
 signeds-walk b [] rest = refl
 signeds-walk b (s ∷ ss) rest =
-    ap (reached (Some (end_place b))) (append_assoc (spelled_sign s.sign ++ spelled_summand s.summand) (signeds ss) rest ∙ append_assoc (spelled_sign s.sign) (spelled_summand s.summand) (signeds ss ++ rest))
+    ap (reached (Some (end_place b))) (append_assoc (spelled_sign s.sign ++ spelled_summand s.summand) (signeds ss) rest
+    ∙ append_assoc (spelled_sign s.sign) (spelled_summand s.summand) (signeds ss ++ rest))
     ∙ sign-walk b s.sign (spelled_summand s.summand ++ (signeds ss ++ rest))
     ∙ summand-walk s.summand (signeds ss ++ rest)
     ∙ signeds-walk (summand_end s.summand) ss rest
@@ -99,7 +106,8 @@ abbrev pub start_place : Bool → Place
 start_place true = places.AfterList
 start_place false = places.AfterComma
 
-start-factor : (b : Bool) (f : Factor) (rest : List Lexeme) → reached (Some (start_place b)) (spelled_factor f ++ rest) ≡ reached (Some places.AfterOperator) (spelled_factor f ++ rest)
+start-factor : (b : Bool) (f : Factor) (rest : List Lexeme) → reached (Some (start_place b)) (spelled_factor f ++ rest)
+    ≡ reached (Some places.AfterOperator) (spelled_factor f ++ rest)
 start-factor true (constant value) rest = refl
 start-factor true (power letter None) rest = refl
 start-factor true (power letter (Some value)) rest = refl
@@ -107,22 +115,27 @@ start-factor false (constant value) rest = refl
 start-factor false (power letter None) rest = refl
 start-factor false (power letter (Some value)) rest = refl
 
-start-summand : (b : Bool) (s : Summand) (rest : List Lexeme) → reached (Some (start_place b)) (spelled_summand s ++ rest) ≡ reached (Some places.AfterOperator) (spelled_summand s ++ rest)
+start-summand : (b : Bool) (s : Summand) (rest : List Lexeme) → reached (Some (start_place b)) (spelled_summand s ++ rest)
+    ≡ reached (Some places.AfterOperator) (spelled_summand s ++ rest)
 start-summand b s rest =
     ap (reached (Some (start_place b))) (append_assoc (spelled_factor s.first) (starred s.others) rest)
     ∙ start-factor b s.first (starred s.others ++ rest)
     ∙ ap (reached (Some places.AfterOperator)) (sym (append_assoc (spelled_factor s.first) (starred s.others) rest))
 
-first-walk : (b : Bool) (s : Option Sign) (m : Summand) (rest : List Lexeme) → reached (Some (start_place b)) (spelled_first_sign s ++ (spelled_summand m ++ rest)) ≡ reached (Some places.AfterOperator) (spelled_summand m ++ rest)
+first-walk : (b : Bool) (s : Option Sign) (m : Summand) (rest : List Lexeme) →
+    reached (Some (start_place b)) (spelled_first_sign s ++ (spelled_summand m ++ rest))
+    ≡ reached (Some places.AfterOperator) (spelled_summand m ++ rest)
 first-walk b None m rest = start-summand b m rest
 first-walk true (Some positive) m rest = refl
 first-walk true (Some negative) m rest = refl
 first-walk false (Some positive) m rest = refl
 first-walk false (Some negative) m rest = refl
 
-relation-walk : (b : Bool) (r : Relation) (rest : List Lexeme) → reached (Some (start_place b)) (spelled_relation r ++ rest) ≡ reached (Some (end_place (relation_end r))) rest
+relation-walk : (b : Bool) (r : Relation) (rest : List Lexeme) →
+    reached (Some (start_place b)) (spelled_relation r ++ rest) ≡ reached (Some (end_place (relation_end r))) rest
 relation-walk b r rest =
-    ap (reached (Some (start_place b))) (append_assoc (spelled_first_sign r.sign ++ spelled_summand r.first) (signeds r.others) rest ∙ append_assoc (spelled_first_sign r.sign) (spelled_summand r.first) (signeds r.others ++ rest))
+    ap (reached (Some (start_place b))) (append_assoc (spelled_first_sign r.sign ++ spelled_summand r.first) (signeds r.others) rest
+    ∙ append_assoc (spelled_first_sign r.sign) (spelled_summand r.first) (signeds r.others ++ rest))
     ∙ first-walk b r.sign r.first (signeds r.others ++ rest)
     ∙ summand-walk r.first (signeds r.others ++ rest)
     ∙ signeds-walk (summand_end r.first) r.others rest
@@ -155,11 +168,14 @@ abbrev items_end : Bool → List Item → Bool
 items_end b [] = b
 items_end b (item ∷ items) = items_end (weight_end item.weight) items
 
-first-item : (x : List ℕ) (w : Option ℕ) (rest : List Lexeme) → reached (Some places.AfterVars) (spelled_item (record { name = x; weight = w }) ++ rest) ≡ reached (Some (item_place (weight_end w))) rest
+first-item : (x : List ℕ) (w : Option ℕ) (rest : List Lexeme) → reached (Some places.AfterVars)
+    (spelled_item (record { name = x; weight = w }) ++ rest) ≡ reached (Some (item_place (weight_end w))) rest
 first-item x None rest = refl
 first-item x (Some value) rest = refl
 
-next-item : (b : Bool) (x : List ℕ) (w : Option ℕ) (rest : List Lexeme) → reached (Some (item_place b)) (comma ∷ (spelled_item (record { name = x; weight = w }) ++ rest)) ≡ reached (Some (item_place (weight_end w))) rest
+next-item : (b : Bool) (x : List ℕ) (w : Option ℕ) (rest : List Lexeme) →
+    reached (Some (item_place b)) (comma ∷ (spelled_item (record { name = x; weight = w }) ++ rest))
+    ≡ reached (Some (item_place (weight_end w))) rest
 next-item true x None rest = refl
 next-item true x (Some value) rest = refl
 next-item false x None rest = refl
@@ -169,7 +185,8 @@ list-end : (b : Bool) (rest : List Lexeme) → reached (Some (item_place b)) (se
 list-end true rest = refl
 list-end false rest = refl
 
-items-walk : (b : Bool) (items : List Item) (rest : List Lexeme) → reached (Some (item_place b)) (listed items ++ rest) ≡ reached (Some (item_place (items_end b items))) rest
+items-walk : (b : Bool) (items : List Item) (rest : List Lexeme) →
+    reached (Some (item_place b)) (listed items ++ rest) ≡ reached (Some (item_place (items_end b items))) rest
 items-walk b [] rest = refl
 items-walk b (item ∷ items) rest =
     ap (λ ls. reached (Some (item_place b)) (comma ∷ ls)) (append_assoc (spelled_item item) (listed items) rest)

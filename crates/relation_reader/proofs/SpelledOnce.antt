@@ -1,9 +1,12 @@
 -- A text of the grammar is spelled by one tree: its lexemes, read from the right, give it back.
 use Rattle.std.proofs.Common.{ℕ, ◌≡◌, List, [], ◌∷◌, ◌++◌, Option, Some, None, refl, sym, ap, subst, ◌∙◌, append_assoc}
-use Rattle.relation_reader.specs.Grammar.{Lexeme, name, number, plus, minus, star, caret, comma, semicolon, colon, Item, Factor, constant, power, Summand, Sign, positive, negative, Signed, Relation, Tree, spelled, spelled_factor, spelled_first_sign, spelled_item, spelled_relation, spelled_relations, spelled_sign, spelled_summand}
+use Rattle.relation_reader.specs.Grammar.{Lexeme, name, number, plus, minus, star, caret, comma, semicolon, colon, Item, Factor, constant, power}
+use Rattle.relation_reader.specs.Grammar.{Summand, Sign, positive, negative, Signed, Relation, Tree, spelled, spelled_factor, spelled_first_sign}
+use Rattle.relation_reader.specs.Grammar.{spelled_item, spelled_relation, spelled_relations, spelled_sign, spelled_summand}
 use Rattle.relation_reader.proofs.Spelled.{commaed, ending, listed, signeds, starred}
 
--- what some lexemes of relations begin with: a number, an exponent, a summand, further factors, further summands, a relation, further relations; and all their relations
+-- what some lexemes of relations begin with: a number, an exponent, a summand, further factors, further summands, a
+-- relation, further relations; and all their relations
 record Behind : Type 0 where
   value : ℕ
   exponent : Option ℕ
@@ -18,7 +21,16 @@ abbrev no_summand : Summand
 no_summand = record { first = constant 0; others = [] }
 
 abbrev nothing : Behind
-nothing = record { value = 0; exponent = None; summand = no_summand; others = []; signed = []; relation = record { sign = None; first = no_summand; others = [] }; relations = []; all = [] }
+nothing = record {
+  value = 0;
+  exponent = None;
+  summand = no_summand;
+  others = [];
+  signed = [];
+  relation = record { sign = None; first = no_summand; others = [] };
+  relations = [];
+  all = [];
+}
 
 abbrev with_factor : Factor → Behind → Behind
 with_factor f x =
@@ -66,7 +78,8 @@ record IsPart (x : Behind) (s : Summand) (ss : List Signed) (rs : List Relation)
   relations_are : x.relations ≡ rs
   head : IsHead x (record { sign = None; first = s; others = ss }) rs
 
-factor-part : (f : Factor) (rest : List Lexeme) (fs : List Factor) (ss : List Signed) (rs : List Relation) → IsTail (behind rest) fs ss rs → IsPart (behind (spelled_factor f ++ rest)) (record { first = f; others = fs }) ss rs
+factor-part : (f : Factor) (rest : List Lexeme) (fs : List Factor) (ss : List Signed) (rs : List Relation) → IsTail (behind rest) fs ss rs →
+    IsPart (behind (spelled_factor f ++ rest)) (record { first = f; others = fs }) ss rs
 factor-part (constant value) rest fs ss rs tail = record {
   summand_is = λ i. record { first = constant value; others = tail.others_are i };
   signed_are = tail.signed_are;
@@ -74,7 +87,8 @@ factor-part (constant value) rest fs ss rs tail = record {
   head = record {
     relation_is = λ i. record { sign = None; first = record { first = constant value; others = tail.others_are i }; others = tail.signed_are i };
     relations_are = tail.relations_are;
-    all_are = λ i. record { sign = None; first = record { first = constant value; others = tail.others_are i }; others = tail.signed_are i } ∷ tail.relations_are i;
+    all_are = λ i. record { sign = None; first = record { first = constant value; others = tail.others_are i }; others = tail.signed_are i }
+        ∷ tail.relations_are i;
   };
 }
 factor-part (power letter (Some value)) rest fs ss rs tail = record {
@@ -84,7 +98,11 @@ factor-part (power letter (Some value)) rest fs ss rs tail = record {
   head = record {
     relation_is = λ i. record { sign = None; first = record { first = power letter (Some value); others = tail.others_are i }; others = tail.signed_are i };
     relations_are = tail.relations_are;
-    all_are = λ i. record { sign = None; first = record { first = power letter (Some value); others = tail.others_are i }; others = tail.signed_are i } ∷ tail.relations_are i;
+    all_are = λ i. record {
+      sign = None;
+      first = record { first = power letter (Some value); others = tail.others_are i };
+      others = tail.signed_are i;
+    } ∷ tail.relations_are i;
   };
 }
 factor-part (power letter None) rest fs ss rs tail = record {
@@ -92,13 +110,22 @@ factor-part (power letter None) rest fs ss rs tail = record {
   signed_are = tail.signed_are;
   relations_are = tail.relations_are;
   head = record {
-    relation_is = λ i. record { sign = None; first = record { first = power letter (tail.exponent_is i); others = tail.others_are i }; others = tail.signed_are i };
+    relation_is = λ i. record {
+      sign = None;
+      first = record { first = power letter (tail.exponent_is i); others = tail.others_are i };
+      others = tail.signed_are i;
+    };
     relations_are = tail.relations_are;
-    all_are = λ i. record { sign = None; first = record { first = power letter (tail.exponent_is i); others = tail.others_are i }; others = tail.signed_are i } ∷ tail.relations_are i;
+    all_are = λ i. record {
+      sign = None;
+      first = record { first = power letter (tail.exponent_is i); others = tail.others_are i };
+      others = tail.signed_are i;
+    } ∷ tail.relations_are i;
   };
 }
 
-others-tail : (fs : List Factor) (rest : List Lexeme) (ss : List Signed) (rs : List Relation) → IsTail (behind rest) [] ss rs → IsTail (behind (starred fs ++ rest)) fs ss rs
+others-tail : (fs : List Factor) (rest : List Lexeme) (ss : List Signed) (rs : List Relation) → IsTail (behind rest) [] ss rs →
+    IsTail (behind (starred fs ++ rest)) fs ss rs
 others-tail [] rest ss rs tail = tail
 others-tail (f ∷ fs) rest ss rs tail =
     let part = factor-part f (starred fs ++ rest) fs ss rs (others-tail fs rest ss rs tail) in
@@ -110,22 +137,38 @@ others-tail (f ∷ fs) rest ss rs tail =
     } in
     subst (λ ls. IsTail (behind (star ∷ ls)) (f ∷ fs) ss rs) (sym (append_assoc (spelled_factor f) (starred fs) rest)) starts
 
-summand-part : (s : Summand) (rest : List Lexeme) (ss : List Signed) (rs : List Relation) → IsTail (behind rest) [] ss rs → IsPart (behind (spelled_summand s ++ rest)) s ss rs
+summand-part : (s : Summand) (rest : List Lexeme) (ss : List Signed) (rs : List Relation) → IsTail (behind rest) [] ss rs →
+    IsPart (behind (spelled_summand s ++ rest)) s ss rs
 summand-part s rest ss rs tail =
-    subst (λ ls. IsPart (behind ls) s ss rs) (sym (append_assoc (spelled_factor s.first) (starred s.others) rest)) (factor-part s.first (starred s.others ++ rest) s.others ss rs (others-tail s.others rest ss rs tail))
+    subst (λ ls. IsPart (behind ls) s ss rs) (sym (append_assoc (spelled_factor s.first) (starred s.others) rest))
+    (factor-part s.first (starred s.others ++ rest) s.others ss rs (others-tail s.others rest ss rs tail))
 
-sign-tail : (sign : Sign) (ls : List Lexeme) (s : Summand) (ss : List Signed) (rs : List Relation) → IsPart (behind ls) s ss rs → IsTail (behind (spelled_sign sign ++ ls)) [] (record { sign = sign; summand = s } ∷ ss) rs
-sign-tail positive ls s ss rs part = record { exponent_is = refl; others_are = refl; signed_are = λ i. record { sign = positive; summand = part.summand_is i } ∷ part.signed_are i; relations_are = part.relations_are }
-sign-tail negative ls s ss rs part = record { exponent_is = refl; others_are = refl; signed_are = λ i. record { sign = negative; summand = part.summand_is i } ∷ part.signed_are i; relations_are = part.relations_are }
+sign-tail : (sign : Sign) (ls : List Lexeme) (s : Summand) (ss : List Signed) (rs : List Relation) → IsPart (behind ls) s ss rs →
+    IsTail (behind (spelled_sign sign ++ ls)) [] (record { sign = sign; summand = s } ∷ ss) rs
+sign-tail positive ls s ss rs part = record {
+  exponent_is = refl;
+  others_are = refl;
+  signed_are = λ i. record { sign = positive; summand = part.summand_is i } ∷ part.signed_are i;
+  relations_are = part.relations_are;
+}
+sign-tail negative ls s ss rs part = record {
+  exponent_is = refl;
+  others_are = refl;
+  signed_are = λ i. record { sign = negative; summand = part.summand_is i } ∷ part.signed_are i;
+  relations_are = part.relations_are;
+}
 
 signed-tail : (ss : List Signed) (rest : List Lexeme) (rs : List Relation) → IsTail (behind rest) [] [] rs → IsTail (behind (signeds ss ++ rest)) [] ss rs
 signed-tail [] rest rs tail = tail
 signed-tail (s ∷ ss) rest rs tail =
     subst (λ ls. IsTail (behind ls) [] (s ∷ ss) rs)
-    (sym (append_assoc (spelled_sign s.sign ++ spelled_summand s.summand) (signeds ss) rest ∙ append_assoc (spelled_sign s.sign) (spelled_summand s.summand) (signeds ss ++ rest)))
-    (sign-tail s.sign (spelled_summand s.summand ++ (signeds ss ++ rest)) s.summand ss rs (summand-part s.summand (signeds ss ++ rest) ss rs (signed-tail ss rest rs tail)))
+    (sym (append_assoc (spelled_sign s.sign ++ spelled_summand s.summand) (signeds ss) rest
+    ∙ append_assoc (spelled_sign s.sign) (spelled_summand s.summand) (signeds ss ++ rest)))
+    (sign-tail s.sign (spelled_summand s.summand ++ (signeds ss ++ rest)) s.summand ss rs
+    (summand-part s.summand (signeds ss ++ rest) ss rs (signed-tail ss rest rs tail)))
 
-first-head : (sign : Option Sign) (ls : List Lexeme) (s : Summand) (ss : List Signed) (rs : List Relation) → IsPart (behind ls) s ss rs → IsHead (behind (spelled_first_sign sign ++ ls)) (record { sign = sign; first = s; others = ss }) rs
+first-head : (sign : Option Sign) (ls : List Lexeme) (s : Summand) (ss : List Signed) (rs : List Relation) → IsPart (behind ls) s ss rs →
+    IsHead (behind (spelled_first_sign sign ++ ls)) (record { sign = sign; first = s; others = ss }) rs
 first-head None ls s ss rs part = part.head
 first-head (Some positive) ls s ss rs part = record {
   relation_is = λ i. record { sign = Some positive; first = part.summand_is i; others = part.signed_are i };
@@ -141,8 +184,10 @@ first-head (Some negative) ls s ss rs part = record {
 relation-head : (r : Relation) (rest : List Lexeme) (rs : List Relation) → IsTail (behind rest) [] [] rs → IsHead (behind (spelled_relation r ++ rest)) r rs
 relation-head r rest rs tail =
     subst (λ ls. IsHead (behind ls) r rs)
-    (sym (append_assoc (spelled_first_sign r.sign ++ spelled_summand r.first) (signeds r.others) rest ∙ append_assoc (spelled_first_sign r.sign) (spelled_summand r.first) (signeds r.others ++ rest)))
-    (first-head r.sign (spelled_summand r.first ++ (signeds r.others ++ rest)) r.first r.others rs (summand-part r.first (signeds r.others ++ rest) r.others rs (signed-tail r.others rest rs tail)))
+    (sym (append_assoc (spelled_first_sign r.sign ++ spelled_summand r.first) (signeds r.others) rest
+    ∙ append_assoc (spelled_first_sign r.sign) (spelled_summand r.first) (signeds r.others ++ rest)))
+    (first-head r.sign (spelled_summand r.first ++ (signeds r.others ++ rest)) r.first r.others rs
+    (summand-part r.first (signeds r.others ++ rest) r.others rs (signed-tail r.others rest rs tail)))
 
 further-tail : (rs : List Relation) → IsTail (behind (commaed rs ++ ending)) [] [] rs
 further-tail [] = record { exponent_is = refl; others_are = refl; signed_are = refl; relations_are = refl }
@@ -162,7 +207,8 @@ relations-all (r ∷ rs) =
     ap (λ ls. (behind ls).all) (append_assoc (spelled_relation r) (commaed rs) ending)
     ∙ (relation-head r (commaed rs ++ ending) rs (further-tail rs)).all_are
 
--- what some lexemes of a declaration begin with: a number, a weight, an item, further items; and the relations behind it
+-- what some lexemes of a declaration begin with: a number, a weight, an item, further items; and the relations behind
+-- it
 record Declared : Type 0 where
   value : ℕ
   weight : Option ℕ
@@ -194,8 +240,14 @@ record IsItem (x : Declared) (item : Item) (items : List Item) (rs : List Relati
   items_are : x.items ≡ items
   relations_are : x.relations ≡ rs
 
-item-first : (bytes : List ℕ) (weight : Option ℕ) (rest : List Lexeme) (items : List Item) (rs : List Relation) → IsList (declared rest) items rs → IsItem (declared (spelled_item (record { name = bytes; weight = weight }) ++ rest)) (record { name = bytes; weight = weight }) items rs
-item-first bytes None rest items rs list = record { item_is = λ i. record { name = bytes; weight = list.weight_is i }; items_are = list.items_are; relations_are = list.relations_are }
+item-first : (bytes : List ℕ) (weight : Option ℕ) (rest : List Lexeme) (items : List Item) (rs : List Relation) →
+    IsList (declared rest) items rs → IsItem (declared (spelled_item (record { name = bytes; weight = weight }) ++ rest))
+    (record { name = bytes; weight = weight }) items rs
+item-first bytes None rest items rs list = record {
+  item_is = λ i. record { name = bytes; weight = list.weight_is i };
+  items_are = list.items_are;
+  relations_are = list.relations_are;
+}
 item-first bytes (Some value) rest items rs list = record { item_is = refl; items_are = list.items_are; relations_are = list.relations_are }
 
 items-list : (items : List Item) (rs : List Relation) → IsList (declared (listed items ++ (semicolon ∷ (spelled_relations rs ++ ending)))) items rs

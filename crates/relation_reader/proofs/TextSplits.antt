@@ -1,5 +1,6 @@
 -- Each text has a split into tokens.
-use Rattle.std.proofs.Common.{ℕ, zero, suc, ◌≡◌, ◌≢◌, ◌+◌, ◌-◌, ◌^◌, ◌<◌, ◌≤◌, Bool, true, false, ◌&&◌, ◌||◌, ◌==◌, List, [], ◌∷◌, length, drop, get_or, Option, Some, None, ◌⊎◌, inl, inr, refl, sym, ap, subst, ◌∙◌, arith}
+use Rattle.std.proofs.Common.{ℕ, zero, suc, ◌≡◌, ◌≢◌, ◌+◌, ◌-◌, ◌^◌, ◌<◌, ◌≤◌, Bool, true, false, ◌&&◌, ◌||◌, ◌==◌, List, [], ◌∷◌, length, drop}
+use Rattle.std.proofs.Common.{get_or, Option, Some, None, ◌⊎◌, inl, inr, refl, sym, ap, subst, ◌∙◌, arith}
 use Rattle.std.proofs.lemmas.Bool.{cases_Bool, cases_lt, eqb-true}
 use Rattle.std.proofs.lemmas.Bool.Decides.{nat_tests}
 use Rattle.relation_reader.specs.declared.token.Mark.{Mark}
@@ -7,7 +8,8 @@ use Rattle.relation_reader.specs.declared.token.Mark.TheVariants as marks
 use Rattle.relation_reader.specs.declared.token.Token.{Token}
 use Rattle.relation_reader.specs.declared.fault.InputFault.{InputFault}
 use Rattle.relation_reader.specs.declared.fault.InputFault.TheVariants as faults
-use Rattle.relation_reader.specs.Tokens.{Gap, between, comment, broken, IsGap, SplitsFrom, StopsAt, after_byte, after_bytes, are_all, begins, is_digit, is_letter, is_mark_byte, is_name_byte, is_text, span, with_digits}
+use Rattle.relation_reader.specs.Tokens.{Gap, between, comment, broken, IsGap, SplitsFrom, StopsAt, after_byte, after_bytes, are_all, begins}
+use Rattle.relation_reader.specs.Tokens.{is_digit, is_letter, is_mark_byte, is_name_byte, is_text, span, with_digits}
 use Rattle.relation_reader.specs.Scan.{IsFaultAt, IsMarkOf, IsTokenAt}
 use Rattle.relation_reader.proofs.Spans.{StopsAt-fault, begins-drop, begins-end, begun-next, begun-one, gap-next, span-none, span-one, span-rest}
 
@@ -19,12 +21,14 @@ pub record RunEnd (first other : ℕ → Bool) (text : List ℕ) (start : ℕ) :
   pub spelled : (begins first (span text start end) && are_all other (span text start end)) ≡ true
   pub longest : begins other (drop end text) ≡ false
 
-run-last : (first other : ℕ → Bool) (text : List ℕ) (start at : ℕ) → start < at → at ≤ length text → length text ≤ at → (begins first (span text start at) && are_all other (span text start at)) ≡ true → RunEnd first other text start
+run-last : (first other : ℕ → Bool) (text : List ℕ) (start at : ℕ) → start < at → at ≤ length text → length text ≤ at →
+    (begins first (span text start at) && are_all other (span text start at)) ≡ true → RunEnd first other text start
 run-last first other text start at more within past holds =
     let e : at ≡ length text = omega arith in
     record { end = at; more = more; within = within; spelled = holds; longest = ap (λ n. begins other (drop n text)) e ∙ begins-end other text }
 
-pub run-end : (first other : ℕ → Bool) (text : List ℕ) (start n at : ℕ) → length text - at ≤ n → start < at → at ≤ length text → (begins first (span text start at) && are_all other (span text start at)) ≡ true → RunEnd first other text start
+pub run-end : (first other : ℕ → Bool) (text : List ℕ) (start n at : ℕ) → length text - at ≤ n → start < at → at ≤ length text →
+    (begins first (span text start at) && are_all other (span text start at)) ≡ true → RunEnd first other text start
 run-end first other text start zero at few more within holds =
     let past : length text ≤ at = omega arith in
     run-last first other text start at more within past holds
@@ -63,14 +67,16 @@ breaks-between between b whole e = refl
 breaks-between comment b whole e = absurd (after_comment b e)
 breaks-between broken b whole e = absurd (whole refl)
 
-gap-last : (text : List ℕ) (from at : ℕ) (g : Gap) → from ≤ at → at ≤ length text → length text ≤ at → after_bytes between (span text from at) ≡ g → g ≢ broken → StopsAt text from None
+gap-last : (text : List ℕ) (from at : ℕ) (g : Gap) → from ≤ at → at ≤ length text → length text ≤ at →
+    after_bytes between (span text from at) ≡ g → g ≢ broken → StopsAt text from None
 gap-last text from at g ordered within past holds whole =
     let e : at ≡ length text = omega arith in
     let inside : from ≤ length text = omega arith in
     let rest : after_bytes between (drop from text) ≡ g = sym (ap (after_bytes between) (ap (span text from) e ∙ span-rest text from)) ∙ holds in
     (inside, λ f. whole (sym rest ∙ f))
 
-pub gap-end : (text : List ℕ) (from n at : ℕ) (g : Gap) → length text - at ≤ n → from ≤ at → at ≤ length text → after_bytes between (span text from at) ≡ g → g ≢ broken → StopsAt text from None ⊎ ((end : ℕ) × BreaksAt text from end)
+pub gap-end : (text : List ℕ) (from n at : ℕ) (g : Gap) → length text - at ≤ n → from ≤ at → at ≤ length text →
+    after_bytes between (span text from at) ≡ g → g ≢ broken → StopsAt text from None ⊎ ((end : ℕ) × BreaksAt text from end)
 gap-end text from zero at g few ordered within holds whole =
     let past : length text ≤ at = omega arith in
     inl (gap-last text from at g ordered within past holds whole)
@@ -84,7 +90,8 @@ gap-end text from (suc n) at g few ordered within holds whole = elim (cases_lt a
         let few' : length text - (at + 1) ≤ n = omega arith in
         let ordered' : from ≤ at + 1 = omega arith in
         let within' : at + 1 ≤ length text = omega arith in
-        gap-end text from n (at + 1) (after_byte g (get_or text at 0)) few' ordered' within' (gap-next between text from at ordered below ∙ ap (λ h. after_byte h (get_or text at 0)) holds) goes
+        gap-end text from n (at + 1) (after_byte g (get_or text at 0)) few' ordered' within'
+        (gap-next between text from at ordered below ∙ ap (λ h. after_byte h (get_or text at 0)) holds) goes
   ]
 ]
 
@@ -104,9 +111,17 @@ mark-of b e = elim (cases_Bool (b == 43)) [
         | inr n94 ↦ elim (cases_Bool (b == 44)) [
           | inl f ↦ (marks.Comma, subst (λ n. IsMarkOf n marks.Comma) (sym (eqb-true b 44 f)) (record { spelled = refl; longest = λ rest. refl; narrow = tt }))
           | inr n44 ↦ elim (cases_Bool (b == 59)) [
-            | inl f ↦ (marks.Semicolon, subst (λ n. IsMarkOf n marks.Semicolon) (sym (eqb-true b 59 f)) (record { spelled = refl; longest = λ rest. refl; narrow = tt }))
+            | inl f ↦ (
+              marks.Semicolon,
+              subst (λ n. IsMarkOf n marks.Semicolon) (sym (eqb-true b 59 f))
+                  (record { spelled = refl; longest = λ rest. refl; narrow = tt }),
+            )
             | inr n59 ↦
-                let f : (b == 58) ≡ true = sym (ap (λ t. (((((t || b == 45) || b == 42) || b == 94) || b == 44) || b == 59) || b == 58) n43 ∙ ap (λ t. ((((t || b == 42) || b == 94) || b == 44) || b == 59) || b == 58) n45 ∙ ap (λ t. (((t || b == 94) || b == 44) || b == 59) || b == 58) n42 ∙ ap (λ t. ((t || b == 44) || b == 59) || b == 58) n94 ∙ ap (λ t. (t || b == 59) || b == 58) n44 ∙ ap (λ t. t || b == 58) n59) ∙ e in
+                let f : (b == 58) ≡ true = sym (ap (λ t. (((((t || b == 45) || b == 42) || b == 94) || b == 44) || b == 59) || b == 58) n43
+                ∙ ap (λ t. ((((t || b == 42) || b == 94) || b == 44) || b == 59) || b == 58) n45
+                ∙ ap (λ t. (((t || b == 94) || b == 44) || b == 59) || b == 58) n42
+                ∙ ap (λ t. ((t || b == 44) || b == 59) || b == 58) n94 ∙ ap (λ t. (t || b == 59) || b == 58) n44
+                ∙ ap (λ t. t || b == 58) n59) ∙ e in
                 (marks.Colon, subst (λ n. IsMarkOf n marks.Colon) (sym (eqb-true b 58 f)) (record { spelled = refl; longest = λ rest. refl; narrow = tt }))
           ]
         ]
@@ -118,7 +133,8 @@ mark-of b e = elim (cases_Bool (b == 43)) [
 pub same_number : (n : ℕ) → (n == n) ≡ true
 same_number n = grind (arith, nat_tests)
 
-pub token-there : (text : List ℕ) (at : ℕ) → at < length text → after_byte between (get_or text at 0) ≡ broken → ((t : Token) × IsTokenAt text at t) ⊎ ((fault : InputFault) × IsFaultAt text at fault)
+pub token-there : (text : List ℕ) (at : ℕ) → at < length text → after_byte between (get_or text at 0) ≡ broken →
+    ((t : Token) × IsTokenAt text at t) ⊎ ((fault : InputFault) × IsFaultAt text at fault)
 token-there text at within breaks =
     let b = get_or text at 0 in
     let few : length text - (at + 1) ≤ length text = omega arith in
@@ -126,21 +142,83 @@ token-there text at within breaks =
     let inside : at + 1 ≤ length text = omega arith in
     elim (cases_Bool (is_letter b)) [
       | inl letter ↦
-          let r = run-end is_letter is_name_byte text at (length text) (at + 1) few more inside (begun-one is_letter is_name_byte text at within letter (letter-name b letter)) in
-          inl (record { mark = marks.Name; start = at; end = r.end }, record { from = refl; more = r.more; token = record { within = r.within; spelled = r.spelled; longest = r.longest; narrow = tt } })
+          let r = run-end is_letter is_name_byte text at (length text) (at + 1) few more inside
+          (begun-one is_letter is_name_byte text at within letter (letter-name b letter)) in
+          inl (
+            record { mark = marks.Name; start = at; end = r.end },
+            record {
+              from = refl;
+              more = r.more;
+              token = record {
+                within = r.within;
+                spelled = r.spelled;
+                longest = r.longest;
+                narrow = tt;
+              };
+            },
+          )
       | inr no_letter ↦ elim (cases_Bool (is_digit b)) [
         | inl digit ↦
             let r = run-end is_digit is_digit text at (length text) (at + 1) few more inside (begun-one is_digit is_digit text at within digit digit) in
             let value = with_digits 0 (span text at r.end) in
             elim (cases_lt value (2 ^ 128)) [
-              | inl narrow ↦ inl (record { mark = marks.Number value; start = at; end = r.end }, record { from = refl; more = r.more; token = record { within = r.within; spelled = ap (λ t. t && value == value) r.spelled ∙ same_number value; longest = r.longest; narrow = narrow } })
-              | inr wide ↦ inr (faults.NumberTooWide at, (refl, record { end = r.end; within = r.within; spelled = r.spelled; longest = r.longest; wide = wide }))
+              | inl narrow ↦ inl (
+                record { mark = marks.Number value; start = at; end = r.end },
+                record {
+                  from = refl;
+                  more = r.more;
+                  token = record {
+                    within = r.within;
+                    spelled = ap (λ t. t && value == value) r.spelled
+                        ∙ same_number value;
+                    longest = r.longest;
+                    narrow = narrow;
+                  };
+                },
+              )
+              | inr wide ↦ inr (
+                faults.NumberTooWide at,
+                (
+                  refl,
+                  record {
+                    end = r.end;
+                    within = r.within;
+                    spelled = r.spelled;
+                    longest = r.longest;
+                    wide = wide;
+                  },
+                ),
+              )
             ]
         | inr no_digit ↦ elim (cases_Bool (is_mark_byte b)) [
           | inl holds_here ↦
               let m = mark-of b holds_here in
-              inl (record { mark = m.0; start = at; end = at + 1 }, record { from = refl; more = more; token = record { within = inside; spelled = ap (is_text m.0) (span-one text at within) ∙ m.1.spelled; longest = m.1.longest (drop (at + 1) text); narrow = m.1.narrow } })
-          | inr no_mark ↦ inr (faults.BadByte at, (refl, record { within = within; no_gap = breaks; no_token = ap (λ t. (t || is_digit b) || is_mark_byte b) no_letter ∙ ap (λ t. t || is_mark_byte b) no_digit ∙ no_mark }))
+              inl (
+                record { mark = m.0; start = at; end = at + 1 },
+                record {
+                  from = refl;
+                  more = more;
+                  token = record {
+                    within = inside;
+                    spelled = ap (is_text m.0) (span-one text at within)
+                        ∙ m.1.spelled;
+                    longest = m.1.longest (drop (at + 1) text);
+                    narrow = m.1.narrow;
+                  };
+                },
+              )
+          | inr no_mark ↦ inr (
+            faults.BadByte at,
+            (
+              refl,
+              record {
+                within = within;
+                no_gap = breaks;
+                no_token =
+                    ap (λ t. (t || is_digit b) || is_mark_byte b) no_letter ∙ ap (λ t. t || is_mark_byte b) no_digit ∙ no_mark;
+              },
+            ),
+          )
         ]
       ]
     ]
@@ -155,7 +233,11 @@ pub whole : between ≢ broken
 whole = λ e. cc
 
 token-first : (text : List ℕ) (from at : ℕ) (t : Token) → BreaksAt text from at → IsTokenAt text at t → Split text t.end → Split text from
-token-first text from at t b h rest = record { tokens = t ∷ rest.tokens; stop = rest.stop; splits = (subst (IsGap text from) (sym h.from) b.gap, h.token, rest.splits) }
+token-first text from at t b h rest = record {
+  tokens = t ∷ rest.tokens;
+  stop = rest.stop;
+  splits = (subst (IsGap text from) (sym h.from) b.gap, h.token, rest.splits);
+}
 
 pub split-from : (text : List ℕ) (n from : ℕ) → length text - from < n → from ≤ length text → Split text from
 split-from text zero from few within = absurd (omega arith)

@@ -4,7 +4,10 @@ use Rattle.std.proofs.lemmas.Bool.{cases_Bool}
 use Rattle.std.proofs.lemmas.Slice.Eq.{bytes_eq-Decides}
 use Rattle.relation_reader.specs.declared.place.Place.{Place}
 use Rattle.relation_reader.specs.declared.place.Place.TheVariants as places
-use Rattle.relation_reader.specs.Grammar.{Lexeme, name, number, plus, minus, star, caret, comma, semicolon, colon, the_end, Item, Factor, constant, power, Summand, Sign, positive, negative, Signed, Relation, Tree, reached, spelled, spelled_exponent, spelled_factor, spelled_first_sign, spelled_item, spelled_relation, spelled_relations, spelled_sign, spelled_weight}
+use Rattle.relation_reader.specs.Grammar.{Lexeme, name, number, plus, minus, star, caret, comma, semicolon, colon, the_end, Item, Factor, constant}
+use Rattle.relation_reader.specs.Grammar.{power, Summand, Sign, positive, negative, Signed, Relation, Tree, reached, spelled, spelled_exponent}
+use Rattle.relation_reader.specs.Grammar.{spelled_factor, spelled_first_sign, spelled_item, spelled_relation, spelled_relations, spelled_sign}
+use Rattle.relation_reader.specs.Grammar.{spelled_weight}
 use Rattle.relation_reader.proofs.Spelled.{commaed, ending, listed, signeds, starred}
 
 -- the text behind a factor
@@ -104,16 +107,36 @@ abbrev summand : Factor → List Factor → Summand
 summand f fs = record { first = f; others = fs }
 
 star_first : (ls : List Lexeme) → LeftAfterOperator ls → LeftAfterFactor (star ∷ ls)
-star_first ls x = record { others = x.factor ∷ x.others; signed = x.signed; relations = x.relations; is = ap (λ t. star ∷ t) (x.is ∙ sym (append_assoc (spelled_factor x.factor) (starred x.others) (signeds x.signed ++ (commaed x.relations ++ ending)))) }
+star_first ls x = record {
+  others = x.factor ∷ x.others;
+  signed = x.signed;
+  relations = x.relations;
+  is =
+      ap (λ t. star ∷ t) (x.is ∙ sym (append_assoc (spelled_factor x.factor) (starred x.others)
+      (signeds x.signed ++ (commaed x.relations ++ ending))));
+}
 
 sign_first : (s : Sign) (ls : List Lexeme) → LeftAfterOperator ls → LeftAfterFactor (spelled_sign s ++ ls)
-sign_first s ls x = record { others = []; signed = record { sign = s; summand = summand x.factor x.others } ∷ x.signed; relations = x.relations; is = ap (λ t. spelled_sign s ++ t) x.is ∙ regroup (spelled_sign s) (spelled_factor x.factor) (starred x.others) (signeds x.signed) (commaed x.relations ++ ending) }
+sign_first s ls x = record {
+  others = [];
+  signed = record { sign = s; summand = summand x.factor x.others } ∷ x.signed;
+  relations = x.relations;
+  is = ap (λ t. spelled_sign s ++ t) x.is ∙ regroup (spelled_sign s) (spelled_factor x.factor) (starred x.others)
+      (signeds x.signed) (commaed x.relations ++ ending);
+}
 
-relation_text : (ls : List Lexeme) (x : LeftAfterComma ls) → ls ≡ (spelled_relation (record { sign = x.sign; first = summand x.factor x.others; others = x.signed }) ++ commaed x.relations) ++ ending
-relation_text ls x = x.is ∙ regroup-more (spelled_first_sign x.sign) (spelled_factor x.factor) (starred x.others) (signeds x.signed) (commaed x.relations) ending
+relation_text : (ls : List Lexeme) (x : LeftAfterComma ls) → ls ≡
+    (spelled_relation (record { sign = x.sign; first = summand x.factor x.others; others = x.signed }) ++ commaed x.relations) ++ ending
+relation_text ls x = x.is ∙ regroup-more (spelled_first_sign x.sign) (spelled_factor x.factor) (starred x.others) (signeds x.signed)
+    (commaed x.relations) ending
 
 comma_first : (ls : List Lexeme) → LeftAfterComma ls → LeftAfterFactor (comma ∷ ls)
-comma_first ls x = record { others = []; signed = []; relations = record { sign = x.sign; first = summand x.factor x.others; others = x.signed } ∷ x.relations; is = ap (λ t. comma ∷ t) (relation_text ls x) }
+comma_first ls x = record {
+  others = [];
+  signed = [];
+  relations = record { sign = x.sign; first = summand x.factor x.others; others = x.signed } ∷ x.relations;
+  is = ap (λ t. comma ∷ t) (relation_text ls x);
+}
 
 semicolon_first : (ls : List Lexeme) → ls ≡ the_end ∷ [] → LeftAfterFactor (semicolon ∷ ls)
 semicolon_first ls e = record { others = []; signed = []; relations = []; is = ap (λ t. semicolon ∷ t) e }
@@ -128,16 +151,32 @@ number_first : (v : ℕ) (ls : List Lexeme) → LeftAfterFactor ls → LeftAfter
 number_first v ls x = record { factor = constant v; others = x.others; signed = x.signed; relations = x.relations; is = ap (λ t. number v ∷ t) x.is }
 
 signed_relation : (s : Sign) (ls : List Lexeme) → LeftAfterOperator ls → LeftAfterComma (spelled_sign s ++ ls)
-signed_relation s ls x = record { sign = Some s; factor = x.factor; others = x.others; signed = x.signed; relations = x.relations; is = ap (λ t. spelled_sign s ++ t) x.is }
+signed_relation s ls x = record {
+  sign = Some s;
+  factor = x.factor;
+  others = x.others;
+  signed = x.signed;
+  relations = x.relations;
+  is = ap (λ t. spelled_sign s ++ t) x.is;
+}
 
 plain_relation : (ls : List Lexeme) → LeftAfterOperator ls → LeftAfterComma ls
 plain_relation ls x = record { sign = None; factor = x.factor; others = x.others; signed = x.signed; relations = x.relations; is = x.is }
 
 first_relation : (ls : List Lexeme) → LeftAfterComma ls → LeftAfterList ls
-first_relation ls x = record { relations = record { sign = x.sign; first = summand x.factor x.others; others = x.signed } ∷ x.relations; is = relation_text ls x }
+first_relation ls x = record {
+  relations = record { sign = x.sign; first = summand x.factor x.others; others = x.signed } ∷ x.relations;
+  is = relation_text ls x;
+}
 
 item_first : (ls : List Lexeme) → BeforeItem ls → LeftAfterWeight (comma ∷ ls)
-item_first ls x = record { items = x.item ∷ x.items; relations = x.relations; is = ap (λ t. comma ∷ t) (x.is ∙ sym (append_assoc (spelled_item x.item) (listed x.items) (semicolon ∷ (spelled_relations x.relations ++ ending)))) }
+item_first ls x = record {
+  items = x.item ∷ x.items;
+  relations = x.relations;
+  is =
+      ap (λ t. comma ∷ t) (x.is ∙ sym (append_assoc (spelled_item x.item) (listed x.items)
+      (semicolon ∷ (spelled_relations x.relations ++ ending))));
+}
 
 list_end : (ls : List Lexeme) → LeftAfterList ls → LeftAfterWeight (semicolon ∷ ls)
 list_end ls x = record { items = []; relations = x.relations; is = ap (λ t. semicolon ∷ t) x.is }
@@ -169,8 +208,10 @@ left (name b ∷ ls) places.AfterVars e = declared b ls (left ls places.AfterDec
 left (name b ∷ ls) places.AfterListComma e = declared b ls (left ls places.AfterDeclared e)
 left (comma ∷ ls) places.AfterDeclared e = no_weight (comma ∷ ls) (item_first ls (left ls places.AfterListComma e))
 left (semicolon ∷ ls) places.AfterDeclared e = no_weight (semicolon ∷ ls) (list_end ls (left ls places.AfterList e))
-left (colon ∷ ls) places.AfterDeclared e = let x = left ls places.AfterListColon e in record { weight = Some x.value; items = x.items; relations = x.relations; is = ap (λ t. colon ∷ t) x.is }
-left (number v ∷ ls) places.AfterListColon e = let x = left ls places.AfterWeight e in record { value = v; items = x.items; relations = x.relations; is = ap (λ t. number v ∷ t) x.is }
+left (colon ∷ ls) places.AfterDeclared e = let x = left ls places.AfterListColon e in
+    record { weight = Some x.value; items = x.items; relations = x.relations; is = ap (λ t. colon ∷ t) x.is }
+left (number v ∷ ls) places.AfterListColon e = let x = left ls places.AfterWeight e in
+    record { value = v; items = x.items; relations = x.relations; is = ap (λ t. number v ∷ t) x.is }
 left (comma ∷ ls) places.AfterWeight e = item_first ls (left ls places.AfterListComma e)
 left (semicolon ∷ ls) places.AfterWeight e = list_end ls (left ls places.AfterList e)
 left (semicolon ∷ ls) places.AfterList e = record { relations = []; is = ap (λ t. semicolon ∷ t) (left ls places.AfterLast e) }
@@ -184,13 +225,15 @@ left (name b ∷ ls) places.AfterComma e = plain_relation (name b ∷ ls) (name_
 left (number v ∷ ls) places.AfterComma e = plain_relation (number v ∷ ls) (number_first v ls (left ls places.AfterNumber e))
 left (name b ∷ ls) places.AfterOperator e = name_first b ls (left ls places.AfterName e)
 left (number v ∷ ls) places.AfterOperator e = number_first v ls (left ls places.AfterNumber e)
-left (caret ∷ ls) places.AfterName e = let x = left ls places.AfterCaret e in record { exponent = Some x.value; others = x.others; signed = x.signed; relations = x.relations; is = ap (λ t. caret ∷ t) x.is }
+left (caret ∷ ls) places.AfterName e = let x = left ls places.AfterCaret e in
+    record { exponent = Some x.value; others = x.others; signed = x.signed; relations = x.relations; is = ap (λ t. caret ∷ t) x.is }
 left (star ∷ ls) places.AfterName e = no_exponent (star ∷ ls) (star_first ls (left ls places.AfterOperator e))
 left (plus ∷ ls) places.AfterName e = no_exponent (plus ∷ ls) (sign_first positive ls (left ls places.AfterOperator e))
 left (minus ∷ ls) places.AfterName e = no_exponent (minus ∷ ls) (sign_first negative ls (left ls places.AfterOperator e))
 left (comma ∷ ls) places.AfterName e = no_exponent (comma ∷ ls) (comma_first ls (left ls places.AfterComma e))
 left (semicolon ∷ ls) places.AfterName e = no_exponent (semicolon ∷ ls) (semicolon_first ls (left ls places.AfterLast e))
-left (number v ∷ ls) places.AfterCaret e = let x = left ls places.AfterNumber e in record { value = v; others = x.others; signed = x.signed; relations = x.relations; is = ap (λ t. number v ∷ t) x.is }
+left (number v ∷ ls) places.AfterCaret e = let x = left ls places.AfterNumber e in
+    record { value = v; others = x.others; signed = x.signed; relations = x.relations; is = ap (λ t. number v ∷ t) x.is }
 left (star ∷ ls) places.AfterNumber e = star_first ls (left ls places.AfterOperator e)
 left (plus ∷ ls) places.AfterNumber e = sign_first positive ls (left ls places.AfterOperator e)
 left (minus ∷ ls) places.AfterNumber e = sign_first negative ls (left ls places.AfterOperator e)

@@ -1,5 +1,6 @@
 -- One more relation of a list: its element, or the first fault.
-use Rattle.std.proofs.Common.{ℕ, suc, ◌≡◌, ◌≢◌, ◌+◌, ◌<◌, ◌≤◌, List, [], ◌∷◌, ◌++◌, length, get_or, map, take, drop, drop-cons, None, sym, ap, ◌∙◌, arith, append-nil, subst, All}
+use Rattle.std.proofs.Common.{ℕ, suc, ◌≡◌, ◌≢◌, ◌+◌, ◌<◌, ◌≤◌, List, [], ◌∷◌, ◌++◌, length, get_or, map, take, drop, drop-cons, None, sym, ap, ◌∙◌}
+use Rattle.std.proofs.Common.{arith, append-nil, subst, All}
 use Rattle.std.proofs.lemmas.List.{get_or-map, length-append, length-map, length-take, take-append-drop, take_more}
 use Rattle.std.proofs.lemmas.List.Elements.{All-push}
 use Rattle.free_poly.specs.declared.term.Term.{Term}
@@ -34,14 +35,19 @@ module _ {X : Type 0} (terms_of : X → List Term) (all : List X) (n : ℕ) (x :
   whole : map terms_of all ≡ take n (map terms_of all) ++ terms_of x ∷ drop (suc n) (map terms_of all)
   whole =
       sym (take-append-drop n (map terms_of all))
-      ∙ ap (λ (ls : List (List Term)). take n (map terms_of all) ++ ls) (drop-cons (map terms_of all) n (terms_of x) inside ∙ ap (λ (t : List Term). t ∷ drop (suc n) (map terms_of all)) here)
+      ∙ ap (λ (ls : List (List Term)). take n (map terms_of all) ++ ls)
+      (drop-cons (map terms_of all) n (terms_of x) inside ∙ ap (λ (t : List Term). t ∷ drop (suc n) (map terms_of all)) here)
 
-  pub sound-turn : (p : ℕ) (weights : List ℕ) (found : List (List Term)) (f : List Term) → AreSound p weights (take n (map terms_of all)) found → IsElementOf p (terms_of x) f
-      → ((k : ℕ) → first_of (relation_faults weights k (f ∷ [])) ≡ None) → AreSound p weights (take (n + 1) (map terms_of all)) (found ++ others_than_zero (f ∷ []))
+  pub sound-turn : (p : ℕ) (weights : List ℕ) (found : List (List Term)) (f : List Term) →
+      AreSound p weights (take n (map terms_of all)) found → IsElementOf p (terms_of x) f
+      → ((k : ℕ) → first_of (relation_faults weights k (f ∷ [])) ≡ None) →
+      AreSound p weights (take (n + 1) (map terms_of all)) (found ++ others_than_zero (f ∷ []))
   sound-turn p weights found f h element none =
-      subst (λ (ls : List (List Term)). AreSound p weights ls (found ++ others_than_zero (f ∷ []))) (sym so_far) (AreSound-push p weights (take n (map terms_of all)) found (terms_of x) f h element none)
+      subst (λ (ls : List (List Term)). AreSound p weights ls (found ++ others_than_zero (f ∷ []))) (sym so_far)
+      (AreSound-push p weights (take n (map terms_of all)) found (terms_of x) f h element none)
 
-  pub error-turn : (p : ℕ) → 0 < p → (weights : List ℕ) (found : List (List Term)) (fault : ReaderFault) → AreSound p weights (take n (map terms_of all)) found → IsRelationError p weights (terms_of x) (n + 1) fault
+  pub error-turn : (p : ℕ) → 0 < p → (weights : List ℕ) (found : List (List Term)) (fault : ReaderFault) →
+      AreSound p weights (take n (map terms_of all)) found → IsRelationError p weights (terms_of x) (n + 1) fault
       → IsFirstError p weights (map terms_of all) fault
   error-turn p some weights found answers.NoMemory h error = tt
   error-turn p some weights found (answers.Text fault) h error =

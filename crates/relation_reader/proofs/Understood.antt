@@ -1,5 +1,6 @@
 -- A text without a fault that has a place: its tree, its letters, and the terms of its relations.
-use Rattle.std.proofs.Common.{ap₂, ℕ, ◌≡◌, ◌+◌, ◌<◌, ◌%◌, Bool, true, cond, bytes_eq, List, [], ◌∷◌, ◌++◌, length, map, drop, None, Some, codes, false, min, refl, sym, ap, ◌∙◌, subst}
+use Rattle.std.proofs.Common.{ap₂, ℕ, ◌≡◌, ◌+◌, ◌<◌, ◌%◌, Bool, true, cond, bytes_eq, List, [], ◌∷◌, ◌++◌, length, map, drop, None, Some, codes}
+use Rattle.std.proofs.Common.{false, min, refl, sym, ap, ◌∙◌, subst}
 use Rattle.std.proofs.Math.Nat.{add-mod, mod-lt, mod-mod}
 use Rattle.std.proofs.lemmas.List.{map-append}
 use Rattle.std.proofs.lemmas.List.Elements.{All-map}
@@ -29,7 +30,8 @@ gathered-end p names s (l ∷ ls) = gathered-end p names (gather p names s l) ls
 
 record EndsAlike (names : List (List ℕ)) (weights : List ℕ) (weight : ℕ) (ls : List Lexeme) : Type 0 where
   letters : (listed names weights weight (ls ++ the_end ∷ [])).letters ≡ (listed names weights weight ls).letters
-  rest : (p : ℕ) (ns : List (List ℕ)) (s : Gathering) → gathered p ns s (listed names weights weight (ls ++ the_end ∷ [])).rest ≡ gathered p ns s (listed names weights weight ls).rest
+  rest : (p : ℕ) (ns : List (List ℕ)) (s : Gathering) → gathered p ns s (listed names weights weight (ls ++ the_end ∷ [])).rest
+      ≡ gathered p ns s (listed names weights weight ls).rest
 
 ends-alike : (names : List (List ℕ)) (weights : List ℕ) (weight : ℕ) (ls : List Lexeme) → EndsAlike names weights weight ls
 ends-alike names weights weight [] = record { letters = refl; rest = λ p ns s. refl }
@@ -40,7 +42,8 @@ ends-alike names weights weight (comma ∷ ls) = let h = ends-alike names (weigh
 ends-alike names weights weight (l ∷ ls) = let h = ends-alike names weights weight ls in record { letters = h.letters; rest = h.rest }
 
 -- the lexemes of the pieces of a text are those of its tokens, and End
-pub pieces-are : (text : List ℕ) (tokens : List Token) → map (λ (piece : Piece). piece.lexeme) (pieces_of text tokens None) ≡ lexemes_of text tokens ++ the_end ∷ []
+pub pieces-are : (text : List ℕ) (tokens : List Token) → map (λ (piece : Piece). piece.lexeme) (pieces_of text tokens None)
+    ≡ lexemes_of text tokens ++ the_end ∷ []
 pieces-are text tokens =
     map-append (λ (piece : Piece). piece.lexeme) (map (piece_of text) tokens) (record { lexeme = the_end; at = length text } ∷ [])
     ∙ ap (λ (ls : List Lexeme). ls ++ the_end ∷ []) (map-map (λ (piece : Piece). piece.lexeme) (piece_of text) tokens)
@@ -53,7 +56,8 @@ pub record Understood (text : List ℕ) (tokens : List Token) : Type 0 where
   pub are_names : AreNames (letters_of tree).names
   pub are_weights : AreWeights (letters_of tree).weights
   pub count : length (letters_of tree).weights ≡ length (letters_of tree).names
-  pub terms : (p : ℕ) → gathered p (letters_of tree).names (fresh p [] [] false) (listed [] [] 1 (lexemes_of text (drop 1 tokens))).rest ≡ map (reduced_terms p (letters_of tree).names) tree.relations
+  pub terms : (p : ℕ) → gathered p (letters_of tree).names (fresh p [] [] false) (listed [] [] 1 (lexemes_of text (drop 1 tokens))).rest
+      ≡ map (reduced_terms p (letters_of tree).names) tree.relations
 
 -- a text begins with `vars`
 understood-from : (text : List ℕ) (tokens : List Token) (tree : Tree) → map (λ (piece : Piece). piece.lexeme) (pieces_of text tokens None) ≡ spelled tree
@@ -63,7 +67,8 @@ understood-from text (t ∷ ts) tree is h =
     let ls = lexemes_of text ts ++ the_end ∷ [] in
     let e : lexeme_of t.mark (span text t.start t.end) ∷ ls ≡ spelled tree = sym (pieces-are text (t ∷ ts)) ∙ is in
     let first : lexeme_of t.mark (span text t.start t.end) ≡ name (codes "vars") = cc e in
-    let begins : map (λ (piece : Piece). piece.lexeme) (pieces_of text (t ∷ ts) None) ≡ name (codes "vars") ∷ ls = pieces-are text (t ∷ ts) ∙ ap (λ (l : Lexeme). l ∷ ls) first in
+    let begins : map (λ (piece : Piece). piece.lexeme) (pieces_of text (t ∷ ts) None) ≡ name (codes "vars") ∷ ls = pieces-are text (t ∷ ts)
+    ∙ ap (λ (l : Lexeme). l ∷ ls) first in
     let d = declares-tree tree ls (sym begins ∙ is) (subst (λ (ls : List Lexeme). AreFit [] (Some places.Beginning) ls) begins h) in
     let same = ends-alike [] [] 1 (lexemes_of text ts) in
     record {
@@ -100,7 +105,8 @@ reduced-total p (t ∷ terms) w =
 pub reduced-residues : (p : ℕ) → 0 < p → (names : List (List ℕ)) (r : Relation) → HasResidues p (reduced_terms p names r)
 reduced-residues p some names r = All-map (λ (t : Term). t.coefficient < p) (reduced p) (terms_of_relation p names r) (λ k d within. mod-lt _ some)
 
-meanings-from : (p : ℕ) (names : List (List ℕ)) (rs : List Relation) (fs : List (List Term)) → AreElementsOf p (map (reduced_terms p names) rs) fs → AreMeanings p names rs fs
+meanings-from : (p : ℕ) (names : List (List ℕ)) (rs : List Relation) (fs : List (List Term)) →
+    AreElementsOf p (map (reduced_terms p names) rs) fs → AreMeanings p names rs fs
 meanings-from p names [] [] h = tt
 meanings-from p names [] (f ∷ fs) h = absurd h
 meanings-from p names (r ∷ rs) [] h = absurd h
@@ -109,8 +115,10 @@ meanings-from p names (r ∷ rs) (f ∷ fs) h = (
   meanings-from p names rs fs h.1,
 )
 
-pub means-from : (text : List ℕ) (p : ℕ) (tokens : List Token) (letters : Letters) (meanings : List (List Term)) → SplitsFrom text 0 tokens None → place_fault (pieces_of text tokens None) None ≡ None
-    → (u : Understood text tokens) → letters ≡ letters_of u.tree → AreElementsOf p (map (reduced_terms p (letters_of u.tree).names) u.tree.relations) meanings → Means text p letters meanings
+pub means-from : (text : List ℕ) (p : ℕ) (tokens : List Token) (letters : Letters) (meanings : List (List Term)) →
+    SplitsFrom text 0 tokens None → place_fault (pieces_of text tokens None) None ≡ None
+    → (u : Understood text tokens) → letters ≡ letters_of u.tree →
+    AreElementsOf p (map (reduced_terms p (letters_of u.tree).names) u.tree.relations) meanings → Means text p letters meanings
 means-from text p tokens letters meanings splits none u is h = record {
   tokens = tokens;
   splits = splits;
@@ -118,5 +126,6 @@ means-from text p tokens letters meanings splits none u is h = record {
   spelled_so = u.spelled_so;
   no_fault = none;
   letters_are = is;
-  meanings_are = subst (λ (ns : List (List ℕ)). AreMeanings p ns u.tree.relations meanings) (ap (λ (l : Letters). l.names) (sym is)) (meanings-from p (letters_of u.tree).names u.tree.relations meanings h);
+  meanings_are = subst (λ (ns : List (List ℕ)). AreMeanings p ns u.tree.relations meanings) (ap (λ (l : Letters). l.names) (sym is))
+      (meanings-from p (letters_of u.tree).names u.tree.relations meanings h);
 }

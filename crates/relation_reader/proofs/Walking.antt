@@ -1,5 +1,6 @@
 -- The first fault with a place, one token on.
-use Rattle.std.proofs.Common.{ℕ, zero, suc, ◌≡◌, ◌+◌, ◌-◌, ◌*◌, ◌<◌, ◌≤◌, Bool, true, false, List, [], ◌∷◌, ◌++◌, length, take, drop, get_or, nat_lt, Option, Some, None, is_none, is_some, inl, inr, refl, sym, ap, ◌∙◌, append_assoc, arith}
+use Rattle.std.proofs.Common.{ℕ, zero, suc, ◌≡◌, ◌+◌, ◌-◌, ◌*◌, ◌<◌, ◌≤◌, Bool, true, false, List, [], ◌∷◌, ◌++◌, length, take, drop, get_or, nat_lt}
+use Rattle.std.proofs.Common.{Option, Some, None, is_none, is_some, inl, inr, refl, sym, ap, ◌∙◌, append_assoc, arith}
 use Rattle.std.proofs.lemmas.Bool.{cases_lt}
 use Rattle.std.proofs.lemmas.List.{drop_more}
 use Rattle.relation_reader.specs.declared.fault.InputFault.{InputFault}
@@ -30,7 +31,8 @@ token-some text t token = elim (cases_lt t.start t.end) [
 ]
 
 -- the bytes of each token are some of the text
-pub token-within : (text : List ℕ) (from : ℕ) (ts : List Token) (stop : Option InputFault) (i : ℕ) (d : Token) → SplitsFrom text from ts stop → i < length ts → IsInside text (get_or ts i d)
+pub token-within : (text : List ℕ) (from : ℕ) (ts : List Token) (stop : Option InputFault) (i : ℕ) (d : Token) →
+    SplitsFrom text from ts stop → i < length ts → IsInside text (get_or ts i d)
 token-within text from [] stop i d splits below = absurd (omega arith)
 token-within text from (t ∷ ts) stop zero d splits below =
     let more = token-some text t splits.1 in
@@ -40,7 +42,8 @@ token-within text from (t ∷ ts) stop (suc i) d splits below =
     token-within text t.end ts stop i d splits.2 less
 
 -- there are no more tokens than bytes
-pub tokens-few : (text : List ℕ) (from : ℕ) (ts : List Token) (stop : Option InputFault) → from ≤ length text → SplitsFrom text from ts stop → from + length ts ≤ length text
+pub tokens-few : (text : List ℕ) (from : ℕ) (ts : List Token) (stop : Option InputFault) → from ≤ length text → SplitsFrom text from ts stop
+    → from + length ts ≤ length text
 tokens-few text from [] stop inside splits = omega arith
 tokens-few text from (t ∷ ts) stop inside splits =
     let more = token-some text t splits.1 in
@@ -57,7 +60,8 @@ first_of-none [] ys found e none = refl
 first_of-none (None ∷ xs) ys found e none = first_of-none xs ys found e none
 first_of-none (Some fault ∷ xs) ys found e none = absurd (let f : true ≡ false = ap is_some e ∙ none in cc)
 
-pieces_of-cons : (text : List ℕ) (t : Token) (ts : List Token) (stop : Option InputFault) → pieces_of text (t ∷ ts) stop ≡ piece_of text t ∷ pieces_of text ts stop
+pieces_of-cons : (text : List ℕ) (t : Token) (ts : List Token) (stop : Option InputFault) →
+    pieces_of text (t ∷ ts) stop ≡ piece_of text t ∷ pieces_of text ts stop
 pieces_of-cons text t ts None = refl
 pieces_of-cons text t ts (Some fault) = refl
 
@@ -73,16 +77,20 @@ behind text stop place t ts = placed_from (next_place place (lexeme_of t.mark (s
 abbrev pub first_from : List ℕ → Option InputFault → List Placed → Option Place → List Token → Option InputFault
 first_from text stop before place ts = first_of (faults_from before (placed_from place (pieces_of text ts stop)) ++ stop ∷ [])
 
-first_from-cons : (text : List ℕ) (stop : Option InputFault) (before : List Placed) (place : Place) (t : Token) (ts : List Token) → first_from text stop before (Some place) (t ∷ ts) ≡ first_of (faults_here before (placed_in text place t) (behind text stop place t ts) ++ (faults_from (before ++ placed_in text place t ∷ []) (behind text stop place t ts) ++ stop ∷ []))
+first_from-cons : (text : List ℕ) (stop : Option InputFault) (before : List Placed) (place : Place) (t : Token) (ts : List Token) →
+    first_from text stop before (Some place) (t ∷ ts) ≡ first_of (faults_here before (placed_in text place t) (behind text stop place t ts)
+    ++ (faults_from (before ++ placed_in text place t ∷ []) (behind text stop place t ts) ++ stop ∷ []))
 first_from-cons text stop before place t ts =
     ap (λ ps. first_of (faults_from before (placed_from (Some place) ps) ++ stop ∷ [])) (pieces_of-cons text t ts stop)
-    ∙ ap first_of (append_assoc (faults_here before (placed_in text place t) (behind text stop place t ts)) (faults_from (before ++ placed_in text place t ∷ []) (behind text stop place t ts)) (stop ∷ []))
+    ∙ ap first_of (append_assoc (faults_here before (placed_in text place t) (behind text stop place t ts))
+    (faults_from (before ++ placed_in text place t ∷ []) (behind text stop place t ts)) (stop ∷ []))
 
 token-next : (tokens : List Token) (at : ℕ) (t : Token) → at < length tokens → t ≡ get_or tokens at t → drop at tokens ≡ t ∷ drop (at + 1) tokens
 token-next tokens at t below is = drop_more tokens at t below ∙ ap (λ u. u ∷ drop (at + 1) tokens) (sym is)
 
 -- the walk has come to a place by some tokens without a fault
-pub record Walks (text : List ℕ) (tokens : List Token) (stop : Option InputFault) (at : ℕ) (place : Place) (names : List (List ℕ)) (begun letters : ℕ) : Type 0 where
+pub record Walks (text : List ℕ) (tokens : List Token) (stop : Option InputFault) (at : ℕ) (place : Place) (names : List (List ℕ))
+    (begun letters : ℕ) : Type 0 where
   pub before : List Placed
   pub passed : HasPassed names begun letters before
   pub few : begun ≤ at
@@ -90,22 +98,32 @@ pub record Walks (text : List ℕ) (tokens : List Token) (stop : Option InputFau
   pub first : place_fault (pieces_of text tokens stop) stop ≡ first_from text stop before (Some place) (drop at tokens)
 
 -- what is found at the next token, behind the tokens that it has come by
-pub record Finds (text : List ℕ) (tokens : List Token) (stop : Option InputFault) (at : ℕ) (place : Place) (t : Token) (before : List Placed) (found : Option InputFault) : Type 0 where
+pub record Finds (text : List ℕ) (tokens : List Token) (stop : Option InputFault) (at : ℕ) (place : Place) (t : Token)
+    (before : List Placed) (found : Option InputFault) : Type 0 where
   pub below : at < length tokens
   pub is : t ≡ get_or tokens at t
   pub here : found ≡ first_of (faults_here before (placed_in text place t) (behind text stop place t (drop (at + 1) tokens)))
 
 -- a fault at the next token is the first
-pub found-first : (text : List ℕ) (tokens : List Token) (stop : Option InputFault) (at : ℕ) (place : Place) (names : List (List ℕ)) (begun letters : ℕ) (t : Token) (found : Option InputFault) (known : Walks text tokens stop at place names begun letters) → Finds text tokens stop at place t known.before found → is_some found ≡ true → found ≡ place_fault (pieces_of text tokens stop) stop
+pub found-first : (text : List ℕ) (tokens : List Token) (stop : Option InputFault) (at : ℕ) (place : Place) (names : List (List ℕ))
+    (begun letters : ℕ) (t : Token) (found : Option InputFault) (known : Walks text tokens stop at place names begun letters) →
+    Finds text tokens stop at place t known.before found → is_some found ≡ true → found ≡ place_fault (pieces_of text tokens stop) stop
 found-first text tokens stop at place names begun letters t found known finds some =
     let ts = drop (at + 1) tokens in
     sym (known.first
     ∙ ap (first_from text stop known.before (Some place)) (token-next tokens at t finds.below finds.is)
     ∙ first_from-cons text stop known.before place t ts
-    ∙ first_of-some (faults_here known.before (placed_in text place t) (behind text stop place t ts)) (faults_from (known.before ++ placed_in text place t ∷ []) (behind text stop place t ts) ++ stop ∷ []) found (sym finds.here) some)
+    ∙ first_of-some (faults_here known.before (placed_in text place t) (behind text stop place t ts))
+    (faults_from (known.before ++ placed_in text place t ∷ []) (behind text stop place t ts) ++ stop ∷ []) found (sym finds.here) some)
 
 -- where none stands there, the walk goes on
-pub Walks-next : (text : List ℕ) (tokens : List Token) (stop : Option InputFault) (at : ℕ) (place : Place) (names : List (List ℕ)) (begun letters : ℕ) (t : Token) (found : Option InputFault) (known : Walks text tokens stop at place names begun letters) → Finds text tokens stop at place t known.before found → is_some found ≡ false → (next : Place) (names' : List (List ℕ)) (begun' letters' : ℕ) → next_place place (lexeme_of t.mark (span text t.start t.end)) ≡ Some next → HasPassed names' begun' letters' (known.before ++ placed_in text place t ∷ []) → begun' ≤ begun + 1 → letters' ≤ letters + 256 → Walks text tokens stop (at + 1) next names' begun' letters'
+pub Walks-next : (text : List ℕ) (tokens : List Token) (stop : Option InputFault) (at : ℕ) (place : Place) (names : List (List ℕ))
+    (begun letters : ℕ) (t : Token) (found : Option InputFault) (known : Walks text tokens stop at place names begun letters) →
+    Finds text tokens stop at place t known.before found → is_some found ≡ false →
+    (next : Place) (names' : List (List ℕ)) (begun' letters' : ℕ) →
+    next_place place (lexeme_of t.mark (span text t.start t.end)) ≡ Some next →
+    HasPassed names' begun' letters' (known.before ++ placed_in text place t ∷ []) → begun' ≤ begun + 1 → letters' ≤ letters + 256 →
+    Walks text tokens stop (at + 1) next names' begun' letters'
 Walks-next text tokens stop at place names begun letters t found known finds none next names' begun' letters' comes passed few short =
     let ts = drop (at + 1) tokens in
     record {
@@ -116,16 +134,20 @@ Walks-next text tokens stop at place names begun letters t found known finds non
       first = known.first
           ∙ ap (first_from text stop known.before (Some place)) (token-next tokens at t finds.below finds.is)
           ∙ first_from-cons text stop known.before place t ts
-          ∙ first_of-none (faults_here known.before (placed_in text place t) (behind text stop place t ts)) (faults_from (known.before ++ placed_in text place t ∷ []) (behind text stop place t ts) ++ stop ∷ []) found (sym finds.here) none
+          ∙ first_of-none (faults_here known.before (placed_in text place t) (behind text stop place t ts))
+          (faults_from (known.before ++ placed_in text place t ∷ []) (behind text stop place t ts) ++ stop ∷ []) found (sym finds.here)
+          none
           ∙ ap (λ p. first_from text stop (known.before ++ placed_in text place t ∷ []) p ts) comes;
     }
 
-none-first : (next : Option Place) (fault : InputFault) (others : List (Option InputFault)) (found : Option InputFault) → found ≡ first_of (when (is_none next) fault ∷ others) → is_some found ≡ false → is_some next ≡ true
+none-first : (next : Option Place) (fault : InputFault) (others : List (Option InputFault)) (found : Option InputFault) →
+    found ≡ first_of (when (is_none next) fault ∷ others) → is_some found ≡ false → is_some next ≡ true
 none-first None fault others found e none = absurd (let f : true ≡ false = sym (ap is_some e) ∙ none in cc)
 none-first (Some place) fault others found e none = refl
 
 -- a token without a fault may come
-pub none-comes : (before : List Placed) (t : Placed) (after : List Placed) (found : Option InputFault) → found ≡ first_of (faults_here before t after) → is_some found ≡ false → is_some (next_place t.place t.lexeme) ≡ true
+pub none-comes : (before : List Placed) (t : Placed) (after : List Placed) (found : Option InputFault) →
+    found ≡ first_of (faults_here before t after) → is_some found ≡ false → is_some (next_place t.place t.lexeme) ≡ true
 none-comes before t after found e none = none-first (next_place t.place t.lexeme) (refusal t.place t.lexeme t.at) _ found e none
 
 is_none-some : (found : Option InputFault) → is_some found ≡ false → found ≡ None
@@ -142,6 +164,8 @@ when-false true fault others none = absurd (let f : Some fault ≡ None = none i
 when-false false fault others none = refl
 
 -- a token without a fault is no exponent above 256
-pub none-small : (before : List Placed) (t : Placed) (after : List Placed) (found : Option InputFault) → found ≡ first_of (faults_here before t after) → is_some found ≡ false → is_exponent (nat_lt 256) t.place t.lexeme ≡ false
+pub none-small : (before : List Placed) (t : Placed) (after : List Placed) (found : Option InputFault) →
+    found ≡ first_of (faults_here before t after) → is_some found ≡ false → is_exponent (nat_lt 256) t.place t.lexeme ≡ false
 none-small before t after found e none =
-    when-false (is_exponent (nat_lt 256) t.place t.lexeme) (faults.ExponentTooLarge t.at) _ (first_of-drop 7 (faults_here before t after) (sym e ∙ is_none-some found none))
+    when-false (is_exponent (nat_lt 256) t.place t.lexeme) (faults.ExponentTooLarge t.at) _
+    (first_of-drop 7 (faults_here before t after) (sym e ∙ is_none-some found none))

@@ -36,7 +36,8 @@ AreElementsOf p ls fs = ⊥
 
 -- what an error says of the relation with number k
 abbrev pub IsRelationError : ℕ → List ℕ → List Term → ℕ → ReaderFault → Type 0
-IsRelationError p weights terms k (answers.Text fault) = (f : List Term) → IsElementOf p terms f → first_of (relation_faults weights k (f ∷ [])) ≡ Some fault
+IsRelationError p weights terms k (answers.Text fault) = (f : List Term) → IsElementOf p terms f →
+    first_of (relation_faults weights k (f ∷ [])) ≡ Some fault
 IsRelationError p weights terms k answers.NoMemory = Unit {0}
 
 -- these are the elements other than 0 of relations without a fault

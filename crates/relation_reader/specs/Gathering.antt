@@ -1,6 +1,7 @@
 -- What the lexemes of a text say, one after another: the letters of its declaration, and the terms of its relations.
 -- Numbers that are refused elsewhere are cut off, and a name that is not declared is taken for the first.
-use Rattle.std.specs.Prelude.{ℕ, ◌-◌, ◌*◌, ◌%◌, ◌≤◌, Bool, true, false, List, [], ◌∷◌, ◌++◌, if◌then◌else◌, length, map, min, replicate, Option, Some, None}
+use Rattle.std.specs.Prelude.{ℕ, ◌-◌, ◌*◌, ◌%◌, ◌≤◌, Bool, true, false, List, [], ◌∷◌, ◌++◌, if◌then◌else◌, length}
+use Rattle.std.specs.Prelude.{map, min, replicate, Option, Some, None}
 use Rattle.std.specs.Option.{option_to_list}
 use Rattle.words.specs.Names.{Letters}
 use Rattle.free_poly.specs.declared.term.Term.{Term}
@@ -35,10 +36,12 @@ listed names weights weight [] = record { letters = record { names = names; weig
 listed names weights weight (name bytes ∷ ls) = listed (names ++ bytes ∷ []) weights weight ls
 listed names weights weight (number value ∷ ls) = listed names weights (min value 8) ls
 listed names weights weight (comma ∷ ls) = listed names (weights ++ weight ∷ []) 1 ls
-listed names weights weight (semicolon ∷ ls) = record { letters = record { names = names; weights = weights ++ weight ∷ [] }; rest = ls }
+listed names weights weight (semicolon ∷ ls) = record
+    { letters = record { names = names; weights = weights ++ weight ∷ [] }; rest = ls }
 listed names weights weight (l ∷ ls) = listed names weights weight ls
 
--- the relations so far, the terms of the present one, and of the present term: its word, a name that may have an exponent, its number, its sign, and whether it has a factor
+-- the relations so far, the terms of the present one, and of the present term: its word, a name that may have an
+-- exponent, its number, its sign, and whether it has a factor
 pub record Gathering : Type 0 where
   pub relations : List (List Term)
   pub terms : List Term
@@ -50,7 +53,15 @@ pub record Gathering : Type 0 where
 
 -- before the first term of a relation, or before the next one
 abbrev pub fresh : ℕ → List (List Term) → List Term → Bool → Gathering
-fresh p relations terms negative = record { relations = relations; terms = terms; word = []; letter = None; value = 1 % p; negative = negative; begun = false }
+fresh p relations terms negative = record {
+  relations = relations;
+  terms = terms;
+  word = [];
+  letter = None;
+  value = 1 % p;
+  negative = negative;
+  begun = false;
+}
 
 -- the letter of a name
 abbrev pub known_letter : List (List ℕ) → List ℕ → ℕ
@@ -66,8 +77,24 @@ present p s = record { word = whole_word s; coefficient = if s.negative then (p 
 
 -- a number is a factor, or behind a name its exponent
 abbrev pub with_number : ℕ → Gathering → ℕ → Option ℕ → Gathering
-with_number p s value None = record { relations = s.relations; terms = s.terms; word = s.word; letter = None; value = (s.value * (value % p)) % p; negative = s.negative; begun = true }
-with_number p s value (Some letter) = record { relations = s.relations; terms = s.terms; word = s.word ++ replicate (min value 256) letter; letter = None; value = s.value; negative = s.negative; begun = true }
+with_number p s value None = record {
+  relations = s.relations;
+  terms = s.terms;
+  word = s.word;
+  letter = None;
+  value = (s.value * (value % p)) % p;
+  negative = s.negative;
+  begun = true;
+}
+with_number p s value (Some letter) = record {
+  relations = s.relations;
+  terms = s.terms;
+  word = s.word ++ replicate (min value 256) letter;
+  letter = None;
+  value = s.value;
+  negative = s.negative;
+  begun = true;
+}
 
 -- a sign ends a term, where there is one
 abbrev pub with_sign : ℕ → Gathering → Bool → Gathering
@@ -79,9 +106,25 @@ with_end p s = if s.begun then fresh p (s.relations ++ (s.terms ++ present p s �
 
 -- one more lexeme
 abbrev pub gather : ℕ → List (List ℕ) → Gathering → Lexeme → Gathering
-gather p names s (name bytes) = record { relations = s.relations; terms = s.terms; word = s.word; letter = Some (known_letter names bytes); value = s.value; negative = s.negative; begun = true }
+gather p names s (name bytes) = record {
+  relations = s.relations;
+  terms = s.terms;
+  word = s.word;
+  letter = Some (known_letter names bytes);
+  value = s.value;
+  negative = s.negative;
+  begun = true;
+}
 gather p names s (number value) = with_number p s value s.letter
-gather p names s star = record { relations = s.relations; terms = s.terms; word = whole_word s; letter = None; value = s.value; negative = s.negative; begun = s.begun }
+gather p names s star = record {
+  relations = s.relations;
+  terms = s.terms;
+  word = whole_word s;
+  letter = None;
+  value = s.value;
+  negative = s.negative;
+  begun = s.begun;
+}
 gather p names s plus = with_sign p s false
 gather p names s minus = with_sign p s true
 gather p names s comma = with_end p s

@@ -120,7 +120,8 @@ spelled_first_sign (Some sign) = spelled_sign sign
 
 -- relation = [ sign ] summand { sign summand }
 abbrev pub spelled_relation : Relation → List Lexeme
-spelled_relation r = spelled_first_sign r.sign ++ spelled_summand r.first ++ flat_map (λ (s : Signed). spelled_sign s.sign ++ spelled_summand s.summand) r.others
+spelled_relation r = spelled_first_sign r.sign ++ spelled_summand r.first
+    ++ flat_map (λ (s : Signed). spelled_sign s.sign ++ spelled_summand s.summand) r.others
 
 -- [ relation { "," relation } ]
 abbrev pub spelled_relations : List Relation → List Lexeme
@@ -209,11 +210,14 @@ reached (Some place) (l ∷ ls) = reached (next_place place l) ls
 
 -- the marks that the table lets through to the end are those of the texts of the grammar
 abbrev pub TableIsGrammar : Type 0
-TableIsGrammar = (ls : List Lexeme) → (reached (Some places.Beginning) ls ≡ Some places.AfterEnd) ↔ ((tree : Tree) × (ls ≡ spelled tree))
+TableIsGrammar = (ls : List Lexeme) → (reached (Some places.Beginning) ls ≡ Some places.AfterEnd)
+    ↔ ((tree : Tree) × (ls ≡ spelled tree))
 
--- each place is on the way to a whole text, so that the table refuses a mark only where no text of the grammar goes on with it
+-- each place is on the way to a whole text, so that the table refuses a mark only where no text of the grammar goes
+-- on with it
 abbrev pub TableIsTight : Type 0
-TableIsTight = (ls : List Lexeme) (place : Place) → reached (Some places.Beginning) ls ≡ Some place → (rest : List Lexeme) × (reached (Some place) rest ≡ Some places.AfterEnd)
+TableIsTight = (ls : List Lexeme) (place : Place) → reached (Some places.Beginning) ls ≡ Some place →
+    (rest : List Lexeme) × (reached (Some place) rest ≡ Some places.AfterEnd)
 
 -- a text of the grammar is spelled by one tree
 abbrev pub SpellsOnce : Type 0

@@ -1,5 +1,7 @@
 -- What a text means, and where its faults stand.
-use Rattle.std.specs.Prelude.{ℕ, suc, ◌≡◌, ◌+◌, ◌-◌, ◌*◌, ◌%◌, ◌<◌, ◌==◌, ◌&&◌, ◌||◌, ◌⊎◌, Bool, true, false, not, List, [], ◌∷◌, ◌++◌, if◌then◌else◌, nat_le, nat_lt, length, bytes_eq, map, replicate, Option, Some, None, is_none, unwrap_or}
+use Rattle.std.specs.Prelude.{ℕ, suc, ◌≡◌, ◌+◌, ◌-◌, ◌*◌, ◌%◌, ◌<◌, ◌==◌, ◌&&◌, ◌||◌, ◌⊎◌, Bool, true, false, not}
+use Rattle.std.specs.Prelude.{List, [], ◌∷◌, ◌++◌, if◌then◌else◌}
+use Rattle.std.specs.Prelude.{nat_le, nat_lt, length, bytes_eq, map, replicate, Option, Some, None, is_none, unwrap_or}
 use Rattle.std.specs.List.{flat_map}
 use Rattle.words.specs.Names.{Letters}
 use Rattle.words.specs.Words.{degree_of}
@@ -13,7 +15,10 @@ use Rattle.relation_reader.specs.declared.fault.InputFault.TheVariants as faults
 use Rattle.relation_reader.specs.Tokens.{SplitsFrom}
 use Rattle.relation_reader.specs.declared.place.Place.{Place}
 use Rattle.relation_reader.specs.declared.place.Place.TheVariants as places
-use Rattle.relation_reader.specs.Grammar.{Lexeme, name, number, star, caret, semicolon, the_end, Piece, piece_of, Factor, constant, power, Summand, Sign, positive, negative, Signed, Relation, Tree, spelled, next_place, refusal}
+use Rattle.relation_reader.specs.Grammar.{Lexeme, name, number, star, caret, semicolon, the_end, Piece, piece_of}
+use Rattle.relation_reader.specs.Grammar.{Factor, constant, power, Summand}
+use Rattle.relation_reader.specs.Grammar.{Sign, positive, negative, Signed, Relation, Tree, spelled, next_place}
+use Rattle.relation_reader.specs.Grammar.{refusal}
 
 -- The faults with a place.
 
@@ -27,7 +32,8 @@ pub record Placed : Type 0 where
 abbrev pub placed_from : Option Place → List Piece → List Placed
 placed_from None ts = []
 placed_from (Some place) [] = []
-placed_from (Some place) (t ∷ ts) = record { place = place; lexeme = t.lexeme; at = t.at } ∷ placed_from (next_place place t.lexeme) ts
+placed_from (Some place) (t ∷ ts) = record { place = place; lexeme = t.lexeme; at = t.at }
+    ∷ placed_from (next_place place t.lexeme) ts
 
 -- this name stands among these
 abbrev pub is_among : List ℕ → List (List ℕ) → Bool
@@ -117,12 +123,16 @@ faults_here before t after =
     when (is_none (next_place t.place t.lexeme)) (refusal t.place t.lexeme t.at)
     ∷ when (is_declared (λ bytes. nat_lt 32 (length bytes)) t.place t.lexeme) (faults.NameTooLong t.at)
     ∷ when (is_declared (λ bytes. length (declared_names before) == 64) t.place t.lexeme) (faults.TooManyVariables t.at)
-    ∷ when (is_declared (λ bytes. is_among bytes (declared_names before)) t.place t.lexeme) (faults.RepeatedVariable t.at)
+    ∷ when (is_declared (λ bytes. is_among bytes (declared_names before)) t.place t.lexeme)
+    (faults.RepeatedVariable t.at)
     ∷ when (is_weight (λ value. value == 0 || nat_lt 8 value) t.place t.lexeme) (faults.WeightOutOfRange t.at)
     ∷ when (begins_relation t.place t.lexeme && relations_begun before == 4096) (faults.TooManyRelations t.at)
-    ∷ when (is_used (λ bytes. not (is_among bytes (declared_names before))) t.place t.lexeme) (faults.UnknownVariable t.at)
+    ∷ when (is_used (λ bytes. not (is_among bytes (declared_names before))) t.place t.lexeme)
+    (faults.UnknownVariable t.at)
     ∷ when (is_exponent (λ value. nat_lt 256 value) t.place t.lexeme) (faults.ExponentTooLarge t.at)
-    ∷ when (is_exponent (passes (letters_from 0 before)) t.place t.lexeme || (is_used (λ bytes. passes (letters_from 0 before) 1) t.place t.lexeme && not (takes_exponent after))) (faults.WordTooLong t.at)
+    ∷ when (is_exponent (passes (letters_from 0 before)) t.place t.lexeme ||
+    (is_used (λ bytes. passes (letters_from 0 before) 1) t.place t.lexeme && not (takes_exponent after)))
+    (faults.WordTooLong t.at)
     ∷ []
 
 -- those of all tokens, from the left
@@ -186,7 +196,8 @@ term_of p names sign s = record { word = word_of names s; coefficient = signed p
 
 -- the terms of a relation as they stand
 abbrev pub terms_of_relation : ℕ → List (List ℕ) → Relation → List Term
-terms_of_relation p names r = term_of p names (unwrap_or r.sign positive) r.first ∷ map (λ (s : Signed). term_of p names s.sign s.summand) r.others
+terms_of_relation p names r = term_of p names (unwrap_or r.sign positive) r.first
+    ∷ map (λ (s : Signed). term_of p names s.sign s.summand) r.others
 
 -- the element that a relation means
 pub record IsMeaning (p : ℕ) (names : List (List ℕ)) (r : Relation) (f : List Term) : Type 0 where
@@ -202,7 +213,10 @@ AreMeanings p names rs fs = ⊥
 
 -- the declared names, and the weight of each, which is 1 where none is written
 abbrev pub letters_of : Tree → Letters
-letters_of tree = record { names = map (λ item. item.name) (tree.first ∷ tree.others); weights = map (λ item. unwrap_or item.weight 1) (tree.first ∷ tree.others) }
+letters_of tree = record {
+  names = map (λ item. item.name) (tree.first ∷ tree.others);
+  weights = map (λ item. unwrap_or item.weight 1) (tree.first ∷ tree.others);
+}
 
 -- the elements that are not 0
 abbrev pub others_than_zero : List (List Term) → List (List Term)
@@ -226,7 +240,9 @@ is_constant f = false
 -- the faults of these elements, the first of which has the number k
 abbrev pub relation_faults : List ℕ → ℕ → List (List Term) → List (Option InputFault)
 relation_faults weights k [] = []
-relation_faults weights k (f ∷ fs) = when (differs weights f) (faults.NotHomogeneous k) ∷ when (is_constant f) (faults.Constant k) ∷ relation_faults weights (k + 1) fs
+relation_faults weights k (f ∷ fs) = when (differs weights f) (faults.NotHomogeneous k)
+    ∷ when (is_constant f) (faults.Constant k)
+    ∷ relation_faults weights (k + 1) fs
 
 -- a text in the grammar without a fault that has a place, and what its relations mean
 pub record Means (text : List ℕ) (p : ℕ) (letters : Letters) (meanings : List (List Term)) : Type 0 where

@@ -1,10 +1,12 @@
 -- What stands at one place of a text.
-use Rattle.std.specs.Prelude.{ℕ, ◌≡◌, ◌^◌, ◌<◌, ◌≤◌, Bool, true, false, if◌then◌else◌, List, [], ◌∷◌, Option, Some, None}
+use Rattle.std.specs.Prelude.{ℕ, ◌≡◌, ◌^◌, ◌<◌, ◌≤◌, Bool, true, false, if◌then◌else◌, List, [], ◌∷◌, Option, Some}
+use Rattle.std.specs.Prelude.{None}
 use Rattle.relation_reader.specs.declared.token.Mark.{Mark}
 use Rattle.relation_reader.specs.declared.token.Token.{Token}
 use Rattle.relation_reader.specs.declared.fault.InputFault.{InputFault}
 use Rattle.relation_reader.specs.declared.fault.InputFault.TheVariants as faults
-use Rattle.relation_reader.specs.Tokens.{Gap, between, comment, IsBadByte, IsNarrow, IsToken, IsWideNumber, goes_on, is_text}
+use Rattle.relation_reader.specs.Tokens.{Gap, between, comment, IsBadByte, IsNarrow, IsToken, IsWideNumber, goes_on}
+use Rattle.relation_reader.specs.Tokens.{is_text}
 
 -- a token from this place on
 pub record IsTokenAt (text : List ℕ) (at : ℕ) (t : Token) : Type 0 where

@@ -1,5 +1,7 @@
 -- The tokens of a text: gaps, the bytes of each mark, and where the tokens end.
-use Rattle.std.specs.Prelude.{ℕ, ◌≡◌, ◌≢◌, ◌+◌, ◌-◌, ◌*◌, ◌^◌, ◌<◌, ◌≤◌, ◌==◌, ◌&&◌, ◌||◌, Bool, true, false, List, [], ◌∷◌, ◌++◌, if◌then◌else◌, nat_le, length, take, drop, codes, bytes_eq, slice_index_or, Option, Some, None}
+use Rattle.std.specs.Prelude.{ℕ, ◌≡◌, ◌≢◌, ◌+◌, ◌-◌, ◌*◌, ◌^◌, ◌<◌, ◌≤◌, ◌==◌, ◌&&◌, ◌||◌, Bool, true, false, List}
+use Rattle.std.specs.Prelude.{[], ◌∷◌, ◌++◌, if◌then◌else◌}
+use Rattle.std.specs.Prelude.{nat_le, length, take, drop, codes, bytes_eq, slice_index_or, Option, Some, None}
 use Rattle.relation_reader.specs.declared.token.Mark.{Mark}
 use Rattle.relation_reader.specs.declared.token.Mark.TheVariants as marks
 use Rattle.relation_reader.specs.declared.token.Token.{Token}
@@ -109,7 +111,8 @@ is_mark_byte b = b == 43 || b == 45 || b == 42 || b == 94 || b == 44 || b == 59 
 pub record IsBadByte (text : List ℕ) (at : ℕ) : Type 0 where
   pub within : at < length text
   pub no_gap : after_byte between (slice_index_or text at 0) ≡ broken
-  pub no_token : (is_letter (slice_index_or text at 0) || is_digit (slice_index_or text at 0) || is_mark_byte (slice_index_or text at 0)) ≡ false
+  pub no_token : (is_letter (slice_index_or text at 0) || is_digit (slice_index_or text at 0) || is_mark_byte
+      (slice_index_or text at 0)) ≡ false
 
 -- at this place begins a number of 2^128 or more
 pub record IsWideNumber (text : List ℕ) (at : ℕ) : Type 0 where
@@ -137,7 +140,8 @@ end_token at = record { mark = marks.End; start = at; end = at }
 
 -- the tokens of a whole text, with End last
 abbrev pub AreTokens : List ℕ → List Token → Type 0
-AreTokens text tokens = (front : List Token) × (tokens ≡ front ++ end_token (length text) ∷ []) × SplitsFrom text 0 front None
+AreTokens text tokens = (front : List Token) × (tokens ≡ front ++ end_token (length text) ∷ [])
+    × SplitsFrom text 0 front None
 
 -- the earliest fault of tokens
 abbrev pub IsTokenFault : List ℕ → InputFault → Type 0

@@ -6,7 +6,9 @@ use Rattle.relation_reader.specs.declared.fault.InputFault.TheVariants as faults
 use Rattle.relation_reader.specs.declared.place.Place.{Place}
 use Rattle.relation_reader.specs.declared.place.Place.TheVariants as places
 use Rattle.relation_reader.specs.Grammar.{Lexeme, Piece, lexeme_of, next_place}
-use Rattle.relation_reader.specs.Meaning.{Placed, begins_relation, declared_names, faults_here, first_of, is_among, is_caret, is_exponent, is_used, letters_from, passes, placed_from, relations_begun, when}
+use Rattle.relation_reader.specs.Meaning.{Placed, begins_relation, declared_names, faults_here, first_of, is_among}
+use Rattle.relation_reader.specs.Meaning.{is_caret, is_exponent, is_used}
+use Rattle.relation_reader.specs.Meaning.{letters_from, passes, placed_from, relations_begun, when}
 
 -- a token with these bytes at its place
 abbrev pub placed : Place → Token → List ℕ → Placed
@@ -25,7 +27,8 @@ leads_caret (t ∷ ts) = is_caret t.lexeme
 
 -- the first fault at a token, behind all tokens that leave this, and before `^` or not
 abbrev pub IsFirstHere : List (List ℕ) → ℕ → ℕ → Placed → Bool → Option InputFault → Type 0
-IsFirstHere names begun letters t caret fault = (before : List Placed) (rest : List Piece) → HasPassed names begun letters before → leads_caret rest ≡ caret
+IsFirstHere names begun letters t caret fault = (before : List Placed) (rest : List Piece) →
+    HasPassed names begun letters before → leads_caret rest ≡ caret
     → fault ≡ first_of (faults_here before t (placed_from (next_place t.place t.lexeme) rest))
 
 -- the faults of a name that is declared

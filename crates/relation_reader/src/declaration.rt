@@ -1,4 +1,5 @@
-ghost use Rattle.std.specs.Prelude.{◌≡◌, ◌≤◌, ◌++◌, [], ◌∷◌, List, All, OnOk, drop, IfOk, if◌then◌else◌, length, map, min};
+ghost use Rattle.std.specs.Prelude.{◌≡◌, ◌≤◌, ◌++◌, [], ◌∷◌, List, All, OnOk, drop, IfOk, if◌then◌else◌, length};
+ghost use Rattle.std.specs.Prelude.{map, min};
 ghost use Rattle.relation_reader.specs.Tokens.{span};
 ghost use Rattle.relation_reader.specs.Grammar.{Lexeme, lexeme_of};
 ghost use Rattle.relation_reader.specs.Gathering.{IsInside, lexemes_of, listed};
@@ -22,7 +23,11 @@ impl Model for Listing {
 
     ghost Value = { Listing };
 
-    ghost view = { λ l. record { names = map (λ name. name.items) l.names.items; weights = l.weights.items; weight = l.weight } };
+    ghost view = { λ l. record {
+      names = map (λ name. name.items) l.names.items;
+      weights = l.weights.items;
+      weight = l.weight;
+    } };
 }
 
 impl Listing {
@@ -39,7 +44,9 @@ impl Listing {
     /// Takes one more token, and answers whether it ends the declaration.
     fn take(&mut self, alloc: Global, text: &[u8], token: Token) -> Result<bool, NoMemory>
         requires { IsInside text.now token }
-        ensures { IfOk result (λ over. (ls : List Lexeme) → listed self.old.names self.old.weights self.old.weight (lexeme_of token.mark (span text.now token.start token.end) ∷ ls)
+        ensures { IfOk result (λ over. (ls : List Lexeme) →
+            listed self.old.names self.old.weights self.old.weight
+            (lexeme_of token.mark (span text.now token.start token.end) ∷ ls)
             ≡ (if over then record { letters = record { names = self.new.names; weights = self.new.weights }; rest = ls } else listed self.new.names self.new.weights self.new.weight ls)) }
     {
         match token.mark {
@@ -66,7 +73,11 @@ impl Listing {
     }
 
     fn take_name(&mut self, alloc: Global, name: &[u8]) -> Result<(), NoMemory>
-        ensures { OnOk result (self.new ≡ record { names = self.old.names ++ name.now ∷ []; weights = self.old.weights; weight = self.old.weight }) }
+        ensures { OnOk result (self.new ≡ record {
+          names = self.old.names ++ name.now ∷ [];
+          weights = self.old.weights;
+          weight = self.old.weight;
+        }) }
     {
         let name = Vec::from_slice(alloc, name)?;
         self.names.push(name)?;
@@ -81,7 +92,11 @@ impl Listing {
     }
 
     fn end_item(&mut self) -> Result<(), NoMemory>
-        ensures { OnOk result (self.new ≡ record { names = self.old.names; weights = self.old.weights ++ self.old.weight ∷ []; weight = 1 }) }
+        ensures { OnOk result (self.new ≡ record {
+          names = self.old.names;
+          weights = self.old.weights ++ self.old.weight ∷ [];
+          weight = 1;
+        }) }
     {
         self.weights.push(self.weight)?;
         self.weight = 1;

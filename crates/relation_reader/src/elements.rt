@@ -1,7 +1,9 @@
-ghost use Rattle.std.specs.Prelude.{ℕ, ◌≡◌, ◌≢◌, ◌<◌, ◌++◌, ◌^◌, [], ◌∷◌, None, All, IfOk, MatchResult, OnOk, length, map};
+ghost use Rattle.std.specs.Prelude.{ℕ, ◌≡◌, ◌≢◌, ◌<◌, ◌++◌, ◌^◌, [], ◌∷◌, None, All, IfOk, MatchResult, OnOk};
+ghost use Rattle.std.specs.Prelude.{length, map};
 ghost use Rattle.words.specs.Names.{IsAlphabet};
 ghost use Rattle.relation_reader.specs.Meaning.{first_of, is_constant, others_than_zero, relation_faults};
-ghost use Rattle.relation_reader.specs.Elements.{AreSound, AreSummable, IsElementOf, IsFirstError, IsFitting, IsRelationError};
+ghost use Rattle.relation_reader.specs.Elements.{AreSound, AreSummable, IsElementOf, IsFirstError, IsFitting};
+ghost use Rattle.relation_reader.specs.Elements.{IsRelationError};
 
 use crate::fault::{InputFault, ReaderFault};
 use field_table::Field;
@@ -26,7 +28,8 @@ fn element_of(
 ) -> Result<Poly, ReaderFault>
     requires alphabet { IsAlphabet alphabet.now }
     requires terms { AreSummable field.now alphabet.now.weights terms.items }
-    ensures element { MatchResult result (IsElementOf field.now terms.items) (IsRelationError field.now alphabet.now.weights terms.items relation) }
+    ensures element { MatchResult result (IsElementOf field.now terms.items)
+        (IsRelationError field.now alphabet.now.weights terms.items relation) }
     ensures sound { IfOk result (λ f. (k : ℕ) → first_of (relation_faults alphabet.now.weights k (f ∷ [])) ≡ None) }
     ensures fitting { IfOk result (IsFitting field.now alphabet.now.weights) }
 {
@@ -66,7 +69,9 @@ pub fn elements_of(
     requires few { length relations.items < 2 ^ 32 }
     requires terms { All (λ terms. AreSummable field.now alphabet.now.weights terms.items) relations.items }
 
-    ensures elements { MatchResult result (λ v. AreSound field.now alphabet.now.weights (map (λ terms. terms.items) relations.items) v.items) (IsFirstError field.now alphabet.now.weights (map (λ terms. terms.items) relations.items)) }
+    ensures elements { MatchResult result (λ v. AreSound field.now alphabet.now.weights
+        (map (λ terms. terms.items) relations.items) v.items)
+        (IsFirstError field.now alphabet.now.weights (map (λ terms. terms.items) relations.items)) }
     ensures fitting { IfOk result (λ v. All (IsFitting field.now alphabet.now.weights) v.items) }
     ensures others { IfOk result (λ v. All (λ f. f ≢ []) v.items) }
     ensures few { IfOk result (λ v. length v.items < 2 ^ 32) }

@@ -1,8 +1,10 @@
-ghost use Rattle.std.specs.Prelude.{◌≡◌, ◌-◌, ◌*◌, ◌%◌, ◌++◌, [], ◌∷◌, All, OnOk, None, Some, true, IfOk, if◌then◌else◌, map, replicate, false};
+ghost use Rattle.std.specs.Prelude.{◌≡◌, ◌-◌, ◌*◌, ◌%◌, ◌++◌, [], ◌∷◌, All, OnOk, None, Some, true, IfOk};
+ghost use Rattle.std.specs.Prelude.{if◌then◌else◌, map, replicate, false};
 ghost use Rattle.words.specs.Names.{IsAlphabet};
 ghost use Rattle.relation_reader.specs.Tokens.{span};
 ghost use Rattle.relation_reader.specs.Grammar.{lexeme_of};
-ghost use Rattle.relation_reader.specs.Gathering.{IsInside, fresh, gather, gathered, known_letter, lexemes_of, present, whole_word, with_end, with_number, with_sign};
+ghost use Rattle.relation_reader.specs.Gathering.{IsInside, fresh, gather, gathered, known_letter, lexemes_of};
+ghost use Rattle.relation_reader.specs.Gathering.{present, whole_word, with_end, with_number, with_sign};
 
 use crate::token::{Mark, Token};
 use field_table::Field;
@@ -31,7 +33,15 @@ impl Model for Gatherer {
 
     ghost Value = { Gathering };
 
-    ghost view = { λ g. record { relations = map (λ terms. terms.items) g.relations.items; terms = g.terms.items; word = g.word.items; letter = g.letter; value = g.value; negative = g.negative; begun = g.begun } };
+    ghost view = { λ g. record {
+      relations = map (λ terms. terms.items) g.relations.items;
+      terms = g.terms.items;
+      word = g.word.items;
+      letter = g.letter;
+      value = g.value;
+      negative = g.negative;
+      begun = g.begun;
+    } };
 }
 
 impl Gatherer {
@@ -60,7 +70,8 @@ impl Gatherer {
     ) -> Result<(), NoMemory>
         requires inside { IsInside text.now token }
         requires alphabet { IsAlphabet alphabet.now }
-        ensures { OnOk result (self.new ≡ gather field.now alphabet.now.names self.old (lexeme_of token.mark (span text.now token.start token.end))) }
+        ensures { OnOk result (self.new ≡ gather field.now alphabet.now.names self.old
+            (lexeme_of token.mark (span text.now token.start token.end))) }
     {
         match token.mark {
             Mark::Name => {
@@ -225,7 +236,8 @@ pub fn relations_of(
 ) -> Result<Vec<Vec<Term>>, NoMemory>
     requires inside { All (IsInside text.now) tokens.now }
     requires alphabet { IsAlphabet alphabet.now }
-    ensures { IfOk result (λ v. map (λ terms. terms.items) v.items ≡ gathered field.now alphabet.now.names (fresh field.now [] [] false) (lexemes_of text.now tokens.now)) }
+    ensures { IfOk result (λ v. map (λ terms. terms.items) v.items
+        ≡ gathered field.now alphabet.now.names (fresh field.now [] [] false) (lexemes_of text.now tokens.now)) }
 {
     let mut gatherer = Gatherer::new(alloc, field);
     for token in tokens {

@@ -2,7 +2,8 @@ ghost use Rattle.std.specs.Prelude.{◌≡◌, ◌≤◌, ◌++◌, ◌∷◌, [
 ghost use Rattle.relation_reader.specs.declared.fault.InputFault.{InputFault};
 ghost use Rattle.relation_reader.specs.Tokens.{SplitsFrom};
 ghost use Rattle.relation_reader.specs.Grammar.{lexeme_of};
-ghost use Rattle.relation_reader.specs.Meaning.{Placed, faults_from, first_of, is_caret, place_fault, placed_from, pieces_of};
+ghost use Rattle.relation_reader.specs.Meaning.{Placed, faults_from, first_of, is_caret, place_fault, placed_from};
+ghost use Rattle.relation_reader.specs.Meaning.{pieces_of};
 ghost use Rattle.relation_reader.specs.Walk.{HasPassed, leads_caret};
 
 use crate::fault::InputFault;
@@ -45,7 +46,8 @@ pub fn first_placed(
 }
 
 fn is_caret_at(tokens: &[Token], at: usize) -> bool
-    ensures { (text : List ℕ) (stop : Option InputFault) → result ≡ leads_caret (pieces_of text (drop at tokens.now) stop) }
+    ensures { (text : List ℕ) (stop : Option InputFault) →
+        result ≡ leads_caret (pieces_of text (drop at tokens.now) stop) }
 {
     at < tokens.len() && is_caret(tokens[at].mark)
 }
@@ -61,7 +63,9 @@ fn is_caret(mark: Mark) -> bool
 
 fn fault_at_end(walk: &Walk, text: &[u8]) -> Option<InputFault>
     requires { length text.now ≤ 1048576 }
-    ensures { (before : List Placed) → HasPassed (map (λ name. name.items) walk.now.names.items) walk.now.begun walk.now.letters before → result ≡ first_of (faults_from before (placed_from (Some walk.now.place) (pieces_of text.now [] None)) ++ None ∷ []) }
+    ensures { (before : List Placed) → HasPassed (map (λ name. name.items) walk.now.names.items) walk.now.begun
+        walk.now.letters before → result ≡ first_of (faults_from before
+        (placed_from (Some walk.now.place) (pieces_of text.now [] None)) ++ None ∷ []) }
 {
     let end = text.len() as u32;
     let last = Token {

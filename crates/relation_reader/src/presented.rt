@@ -42,7 +42,8 @@ pub fn presentation_of(
     requires modulus { 0 < field.now }
     requires splits { SplitsFrom text.now 0 tokens.now None }
     requires no_fault { place_fault (pieces_of text.now tokens.now None) None ≡ None }
-    ensures reads { MatchResult result (λ found. Reads text.now field.now found.alphabet found.relations) (IsReadError text.now field.now) }
+    ensures reads { MatchResult result (λ found. Reads text.now field.now found.alphabet found.relations)
+        (IsReadError text.now field.now) }
     ensures residues { IfOk result (λ found. All (HasResidues field.now) found.relations) }
 {
     let Declaration {

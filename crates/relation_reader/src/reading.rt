@@ -44,7 +44,8 @@ fn with_end(mut tokens: Vec<Token>, text: &[u8]) -> Result<Vec<Token>, NoMemory>
 /// place, and where none has a place, that of the first relation with one.
 pub fn read(alloc: Global, field: &Field, text: &[u8]) -> Result<Presentation, ReaderFault>
     requires { length text.now ≤ 1048576 }
-    ensures reads { MatchResult result (λ found. Reads text.now field.now found.alphabet found.relations) (IsReadError text.now field.now) }
+    ensures reads { MatchResult result (λ found. Reads text.now field.now found.alphabet found.relations)
+        (IsReadError text.now field.now) }
     ensures residues { IfOk result (λ found. All (HasResidues field.now) found.relations) }
 {
     let Split { tokens, stop } = split_of(alloc, text)?;

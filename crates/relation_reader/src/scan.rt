@@ -1,5 +1,8 @@
-ghost use Rattle.std.specs.Prelude.{◌≡◌, ℕ, ◌+◌, ◌-◌, ◌*◌, ◌<◌, ◌≤◌, true, false, length, drop, slice_index_or, IfOk, IfSome, MatchResult, MatchOption, None, IsTrue, ◌≢◌};
-ghost use Rattle.relation_reader.specs.Tokens.{IsGap, SplitsFrom, StopsAt, after_byte, begins, between, broken, is_digit, is_letter, is_mark_byte, is_name, is_name_byte, is_number, is_separator, span, with_digits};
+ghost use Rattle.std.specs.Prelude.{◌≡◌, ℕ, ◌+◌, ◌-◌, ◌*◌, ◌<◌, ◌≤◌, true, false, length, drop, slice_index_or};
+ghost use Rattle.std.specs.Prelude.{IfOk, IfSome, MatchResult, MatchOption, None, IsTrue, ◌≢◌};
+ghost use Rattle.relation_reader.specs.Tokens.{IsGap, SplitsFrom, StopsAt, after_byte, begins, between, broken};
+ghost use Rattle.relation_reader.specs.Tokens.{is_digit, is_letter, is_mark_byte, is_name, is_name_byte, is_number};
+ghost use Rattle.relation_reader.specs.Tokens.{is_separator, span, with_digits};
 ghost use Rattle.relation_reader.specs.Scan.{IsFaultAt, IsMarkOf, IsNarrowed, IsTokenAt, gap_of};
 
 use crate::fault::InputFault;

@@ -1,8 +1,11 @@
-ghost use Rattle.std.specs.Prelude.{◌≡◌, ◌≤◌, ◌<◌, ◌+◌, ◌^◌, ◌++◌, ◌∷◌, ◌||◌, ◌==◌, [], ℕ, List, Some, false, if◌then◌else◌, not, nat_lt, map, IfOk, IsSome};
+ghost use Rattle.std.specs.Prelude.{◌≡◌, ◌≤◌, ◌<◌, ◌+◌, ◌^◌, ◌++◌, ◌∷◌, ◌||◌, ◌==◌, [], ℕ, List, Some, false};
+ghost use Rattle.std.specs.Prelude.{if◌then◌else◌, not, nat_lt, map, IfOk, IsSome};
 ghost use Rattle.relation_reader.specs.declared.fault.InputFault.TheVariants as faults;
 ghost use Rattle.relation_reader.specs.Grammar.{lexeme_of, next_place, number};
-ghost use Rattle.relation_reader.specs.Meaning.{Placed, begins_relation, declares, first_of, is_among, is_exponent, is_weight, letters_after, passes, when};
-ghost use Rattle.relation_reader.specs.Walk.{HasPassed, IsFirstHere, begin_faults, declared_faults, exponent_faults, placed, used_faults};
+ghost use Rattle.relation_reader.specs.Meaning.{Placed, begins_relation, declares, first_of, is_among, is_exponent};
+ghost use Rattle.relation_reader.specs.Meaning.{is_weight, letters_after, passes, when};
+ghost use Rattle.relation_reader.specs.Walk.{HasPassed, IsFirstHere, begin_faults, declared_faults};
+ghost use Rattle.relation_reader.specs.Walk.{exponent_faults, placed, used_faults};
 
 use crate::fault::InputFault;
 use crate::place::{Place, next_place, refusal};
@@ -22,7 +25,8 @@ pub struct Walk {
 
 /// The first fault that stands at a token with these bytes. `caret` is whether `^` comes next.
 pub fn fault_at(walk: &Walk, token: Token, bytes: &[u8], caret: bool) -> Option<InputFault>
-    ensures { IsFirstHere (map (λ name. name.items) walk.now.names.items) walk.now.begun walk.now.letters (placed walk.now.place token bytes.now) caret result }
+    ensures { IsFirstHere (map (λ name. name.items) walk.now.names.items) walk.now.begun walk.now.letters
+        (placed walk.now.place token bytes.now) caret result }
 {
     let at = token.start;
     if next_place(walk.place, token.mark, bytes).is_none() {
@@ -54,7 +58,8 @@ fn declared_fault(names: &[Vec<u8>], bytes: &[u8], at: u32) -> Option<InputFault
 }
 
 fn weight_fault(mark: Mark, at: u32) -> Option<InputFault>
-    ensures { (bytes : List ℕ) → result ≡ when (is_weight (λ value. value == 0 || nat_lt 8 value) Place.AfterListColon (lexeme_of mark bytes)) (faults.WeightOutOfRange at) }
+    ensures { (bytes : List ℕ) → result ≡ when (is_weight (λ value. value == 0 || nat_lt 8 value)
+        Place.AfterListColon (lexeme_of mark bytes)) (faults.WeightOutOfRange at) }
 {
     match mark {
         Mark::Number { value } => {
@@ -68,7 +73,8 @@ fn weight_fault(mark: Mark, at: u32) -> Option<InputFault>
 }
 
 fn begin_fault(walk: &Walk, token: Token, bytes: &[u8], caret: bool) -> Option<InputFault>
-    ensures { result ≡ first_of (begin_faults (map (λ name. name.items) walk.now.names.items) walk.now.begun walk.now.letters caret walk.now.place (lexeme_of token.mark bytes.now) token.start) }
+    ensures { result ≡ first_of (begin_faults (map (λ name. name.items) walk.now.names.items) walk.now.begun
+        walk.now.letters caret walk.now.place (lexeme_of token.mark bytes.now) token.start) }
 {
     if walk.begun == 4096 && begins_relation(walk.place, token.mark) {
         return Some(InputFault::TooManyRelations { at: token.start });
@@ -77,7 +83,8 @@ fn begin_fault(walk: &Walk, token: Token, bytes: &[u8], caret: bool) -> Option<I
 }
 
 fn used_fault(walk: &Walk, mark: Mark, bytes: &[u8], at: u32, caret: bool) -> Option<InputFault>
-    ensures { result ≡ first_of (used_faults (map (λ name. name.items) walk.now.names.items) walk.now.letters caret (lexeme_of mark bytes.now) at) }
+    ensures { result ≡ first_of (used_faults (map (λ name. name.items) walk.now.names.items) walk.now.letters caret
+        (lexeme_of mark bytes.now) at) }
 {
     match mark {
         Mark::Name => {
@@ -154,7 +161,10 @@ pub fn passed(alloc: Global, walk: Walk, token: Token, bytes: &[u8]) -> Result<W
     requires short { walk.letters < 2 ^ 31 }
     requires small { is_exponent (nat_lt 256) walk.place (lexeme_of token.mark bytes.now) ≡ false }
     ensures place { IfOk result (λ next. next_place walk.place (lexeme_of token.mark bytes.now) ≡ Some next.place) }
-    ensures passed { IfOk result (λ next. (before : List Placed) → HasPassed (map (λ name. name.items) walk.names.items) walk.begun walk.letters before → HasPassed (map (λ name. name.items) next.names.items) next.begun next.letters (before ++ placed walk.place token bytes.now ∷ [])) }
+    ensures passed { IfOk result (λ next. (before : List Placed) →
+        HasPassed (map (λ name. name.items) walk.names.items) walk.begun walk.letters before →
+        HasPassed (map (λ name. name.items) next.names.items) next.begun next.letters
+        (before ++ placed walk.place token bytes.now ∷ [])) }
     ensures few { IfOk result (λ next. next.begun ≤ walk.begun + 1) }
     ensures short { IfOk result (λ next. next.letters ≤ walk.letters + 256) }
 {
@@ -221,7 +231,8 @@ fn with_declared(
     mark: Mark,
     bytes: &[u8],
 ) -> Result<Vec<Vec<u8>>, NoMemory>
-    ensures { IfOk result (λ v. map (λ name. name.items) v.items ≡ map (λ name. name.items) names.items ++ declares place (lexeme_of mark bytes.now)) }
+    ensures { IfOk result (λ v. map (λ name. name.items) v.items ≡ map (λ name. name.items) names.items
+        ++ declares place (lexeme_of mark bytes.now)) }
 {
     match place {
         Place::AfterVars | Place::AfterListComma => with_name(alloc, names, mark, bytes),
@@ -235,7 +246,8 @@ fn with_name(
     mark: Mark,
     bytes: &[u8],
 ) -> Result<Vec<Vec<u8>>, NoMemory>
-    ensures { IfOk result (λ v. map (λ name. name.items) v.items ≡ map (λ name. name.items) names.items ++ declares Place.AfterVars (lexeme_of mark bytes.now)) }
+    ensures { IfOk result (λ v. map (λ name. name.items) v.items ≡ map (λ name. name.items) names.items
+        ++ declares Place.AfterVars (lexeme_of mark bytes.now)) }
 {
     match mark {
         Mark::Name => {

@@ -1,5 +1,6 @@
 -- The numbers of normal module words, degree after degree, and the degrees that are held.
-use Rattle.std.proofs.Common.{◌≡◌, ◌+◌, ◌++◌, ◌<◌, ◌≤◌, ◌∙◌, ℕ, zero, suc, List, [], ◌∷◌, All, arith, get_or, inl, inr, length, length-append, refl, subst, sym, take}
+use Rattle.std.proofs.Common.{◌≡◌, ◌+◌, ◌++◌, ◌<◌, ◌≤◌, ◌∙◌, ℕ, zero, suc, List, [], ◌∷◌, All, arith, get_or, inl, inr, length, length-append, refl}
+use Rattle.std.proofs.Common.{subst, sym, take}
 use Rattle.std.proofs.lemmas.Bool.{cases_lt}
 use Rattle.std.proofs.lemmas.List.{get_or_append_left, get_or_push, get_or-take, length-take}
 use Rattle.std.proofs.lemmas.List.Elements.{All-append, All-cons, All-nil}
@@ -77,7 +78,8 @@ module _ (p : ℕ) (given : Presentation) (gens bound : ℕ) (leads : List Lead)
     size = h.size;
     each = λ d le.
         let r = h.each d (omega (arith, le)) in
-        (counts_module p given.alphabet.weights (free_letters given gens) given.relations tells.setting d r.0 (outside_from_normal d r.0 le r.1) (get_or numbers d 0)).1 r.2;
+        (counts_module p given.alphabet.weights (free_letters given gens) given.relations tells.setting d r.0
+        (outside_from_normal d r.0 le r.1) (get_or numbers d 0)).1 r.2;
   }
 
   -- and the first degree with too many is the first large one

@@ -39,7 +39,8 @@ module _ (weights : List ℕ) (aw : AreWeights weights) (free : ℕ) where
         let at = letter_at (length weights) n lt in
         let more = take_more letters n n (omega (arith, lt, length-range_with_len 0 (length weights))) ∙ ap (λ (k : ℕ). take n letters ++ k ∷ []) (sym at) in
         grown ∙ ap (λ (us : List (List ℕ)). us ++ f n) so_far
-        ∙ sym (ap (flat_map f) more ∙ flat_map-append f (take n letters) (n ∷ []) ∙ ap (λ (us : List (List ℕ)). flat_map f (take n letters) ++ us) (append-nil (f n)))
+        ∙ sym (ap (flat_map f) more ∙ flat_map-append f (take n letters) (n ∷ [])
+        ∙ ap (λ (us : List (List ℕ)). flat_map f (take n letters) ++ us) (append-nil (f n)))
 
     -- all of them are no fewer
     pub endings-longer : (most : ℕ) (words : List (List ℕ)) (n : ℕ) → n < length weights

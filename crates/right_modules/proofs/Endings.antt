@@ -1,5 +1,6 @@
 -- The words of all last letters are the normal module words of the degree.
-use Rattle.std.proofs.Common.{◌≡◌, ◌≢◌, ◌+◌, ◌-◌, ◌==◌, ◌++◌, ◌<◌, ◌≤◌, ◌∙◌, ℕ, Bool, true, false, cond, ltb, List, [], ◌∷◌, AllPairs, ap, arith, eq-eqb, get_or, inl, inr, length, refl, subst, sym}
+use Rattle.std.proofs.Common.{◌≡◌, ◌≢◌, ◌+◌, ◌-◌, ◌==◌, ◌++◌, ◌<◌, ◌≤◌, ◌∙◌, ℕ, Bool, true, false, cond, ltb, List, [], ◌∷◌, AllPairs, ap, arith}
+use Rattle.std.proofs.Common.{eq-eqb, get_or, inl, inr, length, refl, subst, sym}
 use Rattle.std.specs.List.{Contains, flat_map, range_with_len}
 use Rattle.std.proofs.lemmas.Bool.{cases_lt, eqb-true, le-ltb, lt-ltb, ltb-false, ltb-true}
 use Rattle.std.proofs.lemmas.List.{get_or_past}
@@ -59,8 +60,11 @@ module _ (weights : List ℕ) (aw : AreWeights weights) (free : ℕ) where
         let b = module_words-says weights aw free (d - weight_of weights x) s.front a.0 in
         let over = All-append (λ y. y < length weights) s.front (x ∷ []) b.1.0
         (All-cons (λ y. y < length weights) x [] within (All-nil (λ y. y < length weights))) in
-        let degree : degree_of weights (s.front ++ x ∷ []) ≡ d = omega (arith, degree_of-append weights s.front (x ∷ []), b.1.1, l.degree) in
-        (subst (Contains (module_words weights free d)) s.is (module_words-has weights aw free d (s.front ++ x ∷ []) (IsModuleWord-push free s.front x b.0 lt) over degree), s.free)
+        let degree : degree_of weights (s.front ++ x ∷ []) ≡ d = omega (arith, degree_of-append weights s.front (x ∷ []), b.1.1, l.degree) in (
+          subst (Contains (module_words weights free d)) s.is (module_words-has weights aw free d (s.front ++ x ∷ [])
+              (IsModuleWord-push free s.front x b.0 lt) over degree),
+          s.free,
+        )
 
     -- a word that ends with a generator
     generator_says : (x : ℕ) (w : List ℕ) → free ≤ x → x < length weights → weight_of weights x ≡ d → Contains (unless_stands leads (x ∷ [])) w
@@ -91,7 +95,8 @@ module _ (weights : List ℕ) (aw : AreWeights weights) (free : ℕ) where
         let no : ltb x free ≡ false = le-ltb x free le in
         subst (λ (b : Bool). Contains (cond b (extended leads x (fronts x)) (cond (weight_of weights x == d) (unless_stands leads (x ∷ [])) [])) (x ∷ []))
         (sym no)
-        (subst (λ (b : Bool). Contains (cond b (unless_stands leads (x ∷ [])) []) (x ∷ [])) (sym (eq-eqb (weight_of weights x) d e)) (unless_stands-has leads (x ∷ []) f))
+        (subst (λ (b : Bool). Contains (cond b (unless_stands leads (x ∷ [])) []) (x ∷ [])) (sym (eq-eqb (weight_of weights x) d e))
+        (unless_stands-has leads (x ∷ []) f))
 
     ending-free : (x : ℕ) (u : List ℕ) → x < free → Contains (fronts x) u → IsFree leads (u ++ x ∷ [])
         → Contains (ending weights free leads d held x) (u ++ x ∷ [])
@@ -123,7 +128,11 @@ module _ (weights : List ℕ) (aw : AreWeights weights) (free : ℕ) where
         let w = weight_of-bounds weights aw x in
         let l = left x (omega (arith, h.count, e, sum, some, w.0, w.1)) in
         let front : Contains (fronts x) (g ∷ v) =
-        (l.normal.exactly (g ∷ v)).1 (module_words-has weights aw free (d - weight_of weights x) (g ∷ v) (mw.0, All-front (λ y. y < free) v (x ∷ []) mw.1) over_u (omega (arith, sum, e, l.degree)), IsFree-front leads (g ∷ v) (x ∷ []) f) in
+        (l.normal.exactly (g ∷ v)).1 (
+          module_words-has weights aw free (d - weight_of weights x) (g ∷ v)
+              (mw.0, All-front (λ y. y < free) v (x ∷ []) mw.1) over_u (omega (arith, sum, e, l.degree)),
+          IsFree-front leads (g ∷ v) (x ∷ []) f,
+        ) in
         in_endings x (g ∷ (v ++ x ∷ [])) over_x (ending-free x (g ∷ v) lt front f)
 
     has : (w : List ℕ) → IsModuleWord free w → IsOver (length weights) w → degree_of weights w ≡ d → IsFree leads w
@@ -135,7 +144,8 @@ module _ (weights : List ℕ) (aw : AreWeights weights) (free : ℕ) where
         let r = ended (y ∷ v) (λ n. cc n) in
         let is : g ∷ y ∷ v ≡ g ∷ (r.front ++ r.last ∷ []) = ap (λ (u : List ℕ). g ∷ u) r.is in
         subst (Contains (endings weights free leads d held)) (sym is)
-        (has_longer g r.front r.last (subst (IsModuleWord free) is mw) (subst (IsOver (length weights)) is over) (ap (degree_of weights) (sym is) ∙ e) (subst (IsFree leads) is f))
+        (has_longer g r.front r.last (subst (IsModuleWord free) is mw) (subst (IsOver (length weights)) is over)
+        (ap (degree_of weights) (sym is) ∙ e) (subst (IsFree leads) is f))
 
     one_apart : (b : Bool) (v : List ℕ) → AllPairs Apart (cond b [] (v ∷ []))
     one_apart true v = AllPairs-nil Apart

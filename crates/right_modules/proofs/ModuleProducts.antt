@@ -81,9 +81,11 @@ module _ (p : ℕ) (weights : List ℕ) (free : ℕ) (relations : List (List Ter
       let s = filter-says (has_module_words free) (products weights relations d) g m in
       let q = listed_product weights st.are_weights p positive relations d g s.0 in
       let r = relation_of q.multiple q.is_multiple in
-      elim (module_sorted p weights free relations d q.multiple q.is_multiple r (All-contains (IsShaped free) relations q.multiple.relation ms.shaped q.is_multiple.among)) [
+      elim (module_sorted p weights free relations d q.multiple q.is_multiple r
+      (All-contains (IsShaped free) relations q.multiple.relation ms.shaped q.is_multiple.among)) [
         | inl k ↦ record { multiple = q.multiple; is_multiple = k.1; is = q.is }
-        | inr none ↦ absurd (first_passes free _ (some_product q.multiple.left q.multiple.relation q.multiple.right r.other) (sym (ap (has_module_words free) q.is) ∙ s.1) none)
+        | inr none ↦ absurd (first_passes free _ (some_product q.multiple.left q.multiple.relation q.multiple.right r.other)
+            (sym (ap (has_module_words free) q.is) ∙ s.1) none)
       ]
 
   -- and each of the module is listed

@@ -1,5 +1,6 @@
 -- Whether a word of an index stands in a word, and the words in which none does.
-use Rattle.std.proofs.Common.{◌≡◌, ◌+◌, ◌++◌, ◌<◌, ◌∙◌, ℕ, zero, suc, Bool, true, false, cond, List, [], ◌∷◌, ap, append_assoc, arith, get_or, inl, inr, length, length-append, refl, subst, sym, take}
+use Rattle.std.proofs.Common.{◌≡◌, ◌+◌, ◌++◌, ◌<◌, ◌∙◌, ℕ, zero, suc, Bool, true, false, cond, List, [], ◌∷◌, ap, append_assoc, arith, get_or, inl}
+use Rattle.std.proofs.Common.{inr, length, length-append, refl, subst, sym, take}
 use Rattle.std.specs.List.{Contains}
 use Rattle.std.proofs.lemmas.Bool.{cases_Bool}
 use Rattle.std.proofs.lemmas.Grind.{flat_map-append}
@@ -90,7 +91,8 @@ module _ (leads : List Lead) (x : ℕ) where
       → words ≡ old ++ extended leads x (take i fronts) → new ≡ words ++ unless_stands leads w → new ≡ old ++ extended leads x (take (i + 1) fronts)
   extended-step old words new fronts i v w lt e is so_far grown =
       grown ∙ ap (λ (us : List (List ℕ)). us ++ unless_stands leads w) so_far ∙ append_assoc old (extended leads x (take i fronts)) (unless_stands leads w)
-      ∙ ap (λ (us : List (List ℕ)). old ++ us) (ap (λ (u : List ℕ). extended leads x (take i fronts) ++ unless_stands leads u) is ∙ sym (extended-more fronts i v lt e))
+      ∙ ap (λ (us : List (List ℕ)). old ++ us) (ap (λ (u : List ℕ). extended leads x (take i fronts) ++ unless_stands leads u) is
+      ∙ sym (extended-more fronts i v lt e))
 
   -- all extended words are no fewer than those so far with one more
   pub extended-longer : (old words fronts : List (List ℕ)) (i most : ℕ) (v w : List ℕ) → i < length fronts → v ≡ get_or fronts i v → w ≡ v ++ x ∷ []

@@ -1,5 +1,6 @@
 -- What a call tells of a right module up to a degree.
-use Rattle.std.specs.Prelude.{ℕ, ◌≡◌, ◌+◌, ◌-◌, ◌<◌, ◌≤◌, List, [], All, filter, length, slice_index, slice_index_or, take}
+use Rattle.std.specs.Prelude.{ℕ, ◌≡◌, ◌+◌, ◌-◌, ◌<◌, ◌≤◌, List, [], All, filter, length, slice_index, slice_index_or}
+use Rattle.std.specs.Prelude.{take}
 use Rattle.free_poly.specs.declared.term.Term.{Term}
 use Rattle.ideal_laws.specs.declared.engine.EngineFault.{EngineFault}
 use Rattle.ideal_laws.specs.declared.engine.EngineFault.TheVariants as engine
@@ -28,7 +29,8 @@ AreShaped given gens = All (IsShaped (free_letters given gens)) given.relations
 
 -- the reduced module basis of a degree
 abbrev pub IsModuleBasisOf : ℕ → Presentation → ℕ → ℕ → List (List Term) → Type 0
-IsModuleBasisOf p given gens d basis = IsModuleBasis p given.alphabet.weights (free_letters given gens) given.relations d basis
+IsModuleBasisOf p given gens d basis = IsModuleBasis p given.alphabet.weights (free_letters given gens)
+    given.relations d basis
 
 -- degrees 1 to the bound, in order, each with its reduced module basis
 pub record AreModuleDegrees (p : ℕ) (given : Presentation) (gens bound : ℕ) (degrees : List ModuleDegree) : Type 0 where
@@ -42,7 +44,8 @@ pub record ArePartsUpto (free : ℕ) (basis : Elements) (bound : ℕ) (degrees :
   pub size : length degrees ≡ bound
   pub numbered : (k : ℕ) (m : ModuleDegree) → k < bound → (slice_index_or degrees k m).degree ≡ k + 1
   pub each : (k : ℕ) (m : ModuleDegree) → k < bound
-      → (slice_index_or degrees k m).elements ≡ filter (leads_module free) (of_degree basis.weights (k + 1) basis.elements)
+      → (slice_index_or degrees k m).elements ≡ filter (leads_module free)
+      (of_degree basis.weights (k + 1) basis.elements)
 
 -- the coefficients of degrees 0 to the bound
 pub record AreModuleNumbers (p : ℕ) (given : Presentation) (gens bound : ℕ) (numbers : List ℕ) : Type 0 where

@@ -1,5 +1,7 @@
 -- The normal module words of a degree, by those of the degrees before and their last letter.
-use Rattle.std.specs.Prelude.{ℕ, ◌≡◌, ◌≢◌, ◌+◌, ◌-◌, ◌==◌, ◌<◌, ◌≤◌, ◌↔◌, Bool, true, cond, ltb, min, List, [], ◌∷◌, ◌++◌, AllPairs, Contains, length, slice_index_or}
+use Rattle.std.specs.Prelude.{ℕ, ◌≡◌, ◌≢◌, ◌+◌, ◌-◌, ◌==◌, ◌<◌, ◌≤◌, ◌↔◌, Bool, true, cond, ltb, min, List, [], ◌∷◌}
+use Rattle.std.specs.Prelude.{◌++◌, AllPairs, Contains, length}
+use Rattle.std.specs.Prelude.{slice_index_or}
 use Rattle.std.specs.List.{flat_map}
 use Rattle.words.specs.Words.{weight_of}
 use Rattle.ideal_laws.specs.declared.presentation.Presentation.{Presentation}
@@ -17,14 +19,17 @@ pub record AreNormal (weights : List ℕ) (free : ℕ) (leads : List Lead) (d : 
   pub apart : AllPairs (λ v w. v ≢ w) words
 
 -- those of the degrees before d, at most 8 of them, the last one first
-pub record AreHeld (weights : List ℕ) (free : ℕ) (leads : List Lead) (d : ℕ) (held : List (List (List ℕ))) : Type 0 where
-  pub count : length held ≡ min d 8
-  pub each : (k e : ℕ) → k < length held → e + k + 1 ≡ d → AreNormal weights free leads e (slice_index_or held k [])
+pub record AreHeld (weights : List ℕ) (free : ℕ) (leads : List Lead) (d : ℕ) (held : List (List (List ℕ))) : Type 0
+  where
+    pub count : length held ≡ min d 8
+    pub each : (k e : ℕ) → k < length held → e + k + 1 ≡ d → AreNormal weights free leads e (slice_index_or held k [])
 
--- up to the bound the module words that are no leading words of the module are those in which no word of the index stands
+-- up to the bound the module words that are no leading words of the module are those in which no word of the index
+-- stands
 pub record TellsOutside (p : ℕ) (given : Presentation) (gens bound : ℕ) (leads : List Lead) : Type 0 where
   pub setting : IsModuleSetting p given.alphabet.weights (free_letters given gens) given.relations
-  pub says : (d : ℕ) (w : List ℕ) → d ≤ bound → Contains (module_words given.alphabet.weights (free_letters given gens) d) w
+  pub says : (d : ℕ) (w : List ℕ) → d ≤ bound → Contains
+      (module_words given.alphabet.weights (free_letters given gens) d) w
       → (IsModuleLead p given.alphabet.weights (free_letters given gens) given.relations d w → ⊥) ↔ IsFree leads w
 
 -- whether a word of the index stands in the word
@@ -42,5 +47,6 @@ extended leads x words = flat_map (λ w. unless_stands leads (w ++ x ∷ [])) wo
 
 -- the words of degree d that end with the letter: a generator alone, or a word before it with a free letter
 abbrev pub ending : List ℕ → ℕ → List Lead → ℕ → List (List (List ℕ)) → ℕ → List (List ℕ)
-ending weights free leads d held x = cond (ltb x free) (extended leads x (slice_index_or held (weight_of weights x - 1) []))
+ending weights free leads d held x = cond (ltb x free)
+    (extended leads x (slice_index_or held (weight_of weights x - 1) []))
     (cond (weight_of weights x == d) (unless_stands leads (x ∷ [])) [])

@@ -31,7 +31,8 @@ pub(crate) fn module_degrees(
 
 /// The elements of a degree that lead with a module word.
 fn module_elements(alloc: Global, basis: &Basis, free: u32, d: u32) -> Result<Items<Poly>, NoMemory>
-    ensures { IfOk result (λ elements. elements ≡ filter (leads_module free) (of_degree basis.now.weights d basis.now.elements)) }
+    ensures { IfOk result (λ elements. elements ≡ filter (leads_module free)
+        (of_degree basis.now.weights d basis.now.elements)) }
 {
     let (first, end) = basis.of_degree(d);
     let mut elements = Vec::new(alloc);

@@ -1,4 +1,5 @@
-ghost use Rattle.std.specs.Prelude.{◌≡◌, ◌-◌, ◌++◌, ◌<◌, ◌≤◌, ◌∷◌, List, [], ℕ, All, IfOk, IsErrOf, OnOk, length, slice_index_or};
+ghost use Rattle.std.specs.Prelude.{◌≡◌, ◌-◌, ◌++◌, ◌<◌, ◌≤◌, ◌∷◌, List, [], ℕ, All, IfOk, IsErrOf, OnOk, length};
+ghost use Rattle.std.specs.Prelude.{slice_index_or};
 ghost use Rattle.right_modules.specs.Extended.{AreHeld, AreNormal, ending, extended, unless_stands};
 
 use lead_index::LeadIndex;
@@ -25,7 +26,8 @@ pub(crate) fn words_of(
     ensures words { IfOk result (λ words. AreNormal alphabet.now.weights free index.now d words.items) }
     ensures within { IfOk result (λ words. length words.items ≤ most) }
 
-    ensures many { IsErrOf result NormalFault.TooMany → (words : List (List ℕ)) × AreNormal alphabet.now.weights free index.now d words × (most < length words) }
+    ensures many { IsErrOf result NormalFault.TooMany →
+        (words : List (List ℕ)) × AreNormal alphabet.now.weights free index.now d words × (most < length words) }
 {
     let letters = alphabet.len();
     let mut words = Vec::new(alloc);
@@ -61,9 +63,11 @@ fn push_ending(
     requires room { All (All (λ v. length v < 64)) held.now }
     requires few { length words.old.items ≤ most }
 
-    ensures words { OnOk result (words.new.items ≡ words.old.items ++ ending alphabet.now.weights free index.now d held.now letter) }
+    ensures words { OnOk result (words.new.items ≡ words.old.items
+        ++ ending alphabet.now.weights free index.now d held.now letter) }
     ensures within { OnOk result (length words.new.items ≤ most) }
-    ensures many { IsErrOf result NormalFault.TooMany → most < length (words.old.items ++ ending alphabet.now.weights free index.now d held.now letter) }
+    ensures many { IsErrOf result NormalFault.TooMany →
+        most < length (words.old.items ++ ending alphabet.now.weights free index.now d held.now letter) }
 {
     let weight = alphabet.weight(letter);
     if u32::from(letter) < free {
@@ -100,7 +104,8 @@ fn push_extended(
 
     ensures block { OnOk result (words.new.items ≡ words.old.items ++ extended index.now letter fronts.now) }
     ensures within { OnOk result (length words.new.items ≤ most) }
-    ensures many { IsErrOf result NormalFault.TooMany → most < length (words.old.items ++ extended index.now letter fronts.now) }
+    ensures many { IsErrOf result NormalFault.TooMany →
+        most < length (words.old.items ++ extended index.now letter fronts.now) }
 {
     let mut letters = Vec::new(alloc);
     for front in fronts {
@@ -133,7 +138,8 @@ fn push_word(
 
     ensures word { OnOk result (words.new.items ≡ words.old.items ++ unless_stands index.now letters.now) }
     ensures within { OnOk result (length words.new.items ≤ most) }
-    ensures many { IsErrOf result NormalFault.TooMany → most < length (words.old.items ++ unless_stands index.now letters.now) }
+    ensures many { IsErrOf result NormalFault.TooMany →
+        most < length (words.old.items ++ unless_stands index.now letters.now) }
 {
     match index.first_reducer(letters) {
         Some(_) => Ok(()),

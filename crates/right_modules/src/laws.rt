@@ -1,4 +1,5 @@
-ghost use Rattle.right_modules.specs.Laws.{CountsModule, HasModuleLeads, HasOneModuleBasis, IsIdealPart, IsOutsideWhereNormal};
+ghost use Rattle.right_modules.specs.Laws.{CountsModule, HasModuleLeads, HasOneModuleBasis, IsIdealPart};
+ghost use Rattle.right_modules.specs.Laws.{IsOutsideWhereNormal};
 
 /// The laws of a right module whose relations have a generator in front alone: its leading words and its reduced
 /// elements are those of the ideal of all relations that lead with a module word; each degree has one reduced module

@@ -6,7 +6,8 @@ ghost use Rattle.ideal_laws.specs.declared.limits.LimitKind.TheVariants.{NormalW
 ghost use Rattle.ideal_laws.specs.declared.presentation.Presentation.{Presentation};
 ghost use Rattle.ideal_laws.specs.Engine.{Elements};
 ghost use Rattle.ideal_laws.specs.Quantities.{IsFirstRefused, NonePassesUpto};
-ghost use Rattle.right_modules.specs.Answered.{AreModuleDegrees, AreModuleNumbers, AreShaped, IsFirstLarge, IsFirstOther, fault_of, free_letters};
+ghost use Rattle.right_modules.specs.Answered.{AreModuleDegrees, AreModuleNumbers, AreShaped, IsFirstLarge};
+ghost use Rattle.right_modules.specs.Answered.{IsFirstOther, fault_of, free_letters};
 
 use crate::elements::module_degrees;
 use crate::numbers::numbers_upto;
@@ -102,19 +103,24 @@ pub fn module_basis<R: Threads + Sync, E: DegreeEngine>(
     ensures numbers { IfOk result (λ m. AreModuleNumbers field.now presentation.now gens bound m.numbers) }
     ensures few { IfOk result (λ m. All (λ n. n ≤ limits.now.normal_words) m.numbers) }
     ensures shaped { OnOk result (AreShaped presentation.now gens) }
-    ensures within { OnOk result (NonePassesUpto field.now presentation.now.alphabet.weights presentation.now.relations (E.kinds engine.old) bound) }
+    ensures within { OnOk result (NonePassesUpto field.now presentation.now.alphabet.weights
+        presentation.now.relations (E.kinds engine.old) bound) }
 
-    ensures shape { (relation : ℕ) → IsErrOf result (ModuleFault.Shape relation) → IsFirstOther (free_letters presentation.now gens) presentation.now.relations relation }
+    ensures shape { (relation : ℕ) → IsErrOf result (ModuleFault.Shape relation) →
+        IsFirstOther (free_letters presentation.now gens) presentation.now.relations relation }
 
     // The shapes are asked first, then the engine's limits, and then the numbers of normal module words.
     ensures limit { (kind : LimitKind) (degree value : ℕ) → IsErrOf result (ModuleFault.Limit kind degree value)
         → AreShaped presentation.now gens
-        × (IsFirstRefused field.now presentation.now.alphabet.weights presentation.now.relations (E.kinds engine.old) bound kind degree value
-        ⊎ (NonePassesUpto field.now presentation.now.alphabet.weights presentation.now.relations (E.kinds engine.old) bound × (kind ≡ NormalWords)
+        × (IsFirstRefused field.now presentation.now.alphabet.weights presentation.now.relations
+        (E.kinds engine.old) bound kind degree value
+        ⊎ (NonePassesUpto field.now presentation.now.alphabet.weights presentation.now.relations
+        (E.kinds engine.old) bound × (kind ≡ NormalWords)
         × IsFirstLarge field.now presentation.now gens limits.now.normal_words bound degree value)) }
 
     ensures kinds { E.kinds engine.new ≡ E.kinds engine.old }
-    ensures accounts { (p : ℕ) (rs : Presentation) (b : Elements) (e : ℕ) (a : Account) → E.may_account engine.new p rs b e a ↔ E.may_account engine.old p rs b e a }
+    ensures accounts { (p : ℕ) (rs : Presentation) (b : Elements) (e : ℕ) (a : Account) →
+        E.may_account engine.new p rs b e a ↔ E.may_account engine.old p rs b e a }
 {
     setting_law(field, presentation);
     lower_law();

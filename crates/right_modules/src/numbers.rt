@@ -25,11 +25,13 @@ pub(crate) fn numbers_upto(
     requires bound { bound ≤ 64 }
     requires names { gens ≤ length presentation.now.alphabet.weights }
 
-    ensures numbers { IfOk result (λ numbers. (p : ℕ) → TellsOutside p presentation.now gens bound index.now → AreModuleNumbers p presentation.now gens bound numbers.items) }
+    ensures numbers { IfOk result (λ numbers. (p : ℕ) → TellsOutside p presentation.now gens bound index.now →
+        AreModuleNumbers p presentation.now gens bound numbers.items) }
     ensures few { IfOk result (λ numbers. All (λ n. n ≤ most) numbers.items) }
 
     ensures limit { (kind : LimitKind) (degree value : ℕ) → IsErrOf result (ModuleFault.Limit kind degree value)
-        → (kind ≡ NormalWords) × ((p : ℕ) → TellsOutside p presentation.now gens bound index.now → IsFirstLarge p presentation.now gens most bound degree value) }
+        → (kind ≡ NormalWords) × ((p : ℕ) → TellsOutside p presentation.now gens bound index.now →
+        IsFirstLarge p presentation.now gens most bound degree value) }
     ensures shaped { (relation : ℕ) → IsErrOf result (ModuleFault.Shape relation) → ⊥ }
 {
     let alphabet = &presentation.alphabet;

@@ -8,7 +8,8 @@ use free_poly::{Poly, Term};
 /// The first relation, counted from 1, that is neither an ideal relation nor a module relation.
 pub(crate) fn first_other(relations: &[Poly], free: u32) -> Option<u32>
     requires { length relations.now < 2 ^ 32 }
-    ensures { MatchOption result (All (IsShaped free) relations.now) (λ relation. IsFirstOther free relations.now relation) }
+    ensures { MatchOption result (All (IsShaped free) relations.now)
+        (λ relation. IsFirstOther free relations.now relation) }
 {
     for (place, relation) in relations.iter().enumerate() {
         if !is_shaped(relation.terms(), free) {

@@ -1,5 +1,6 @@
 -- Reducers clear a vector from the greatest column on: what is left stands at the contested columns.
-use Rattle.std.proofs.Common.{ap₂, ◌≡◌, ℕ, zero, suc, Bool, true, false, cond, List, [], ◌∷◌, length, refl, sym, ap, ◌∙◌, inl, inr, AllPairs, Option, None, Some, subst, bytes_eq}
+use Rattle.std.proofs.Common.{ap₂, ◌≡◌, ℕ, zero, suc, Bool, true, false, cond, List, [], ◌∷◌, length, refl, sym, ap, ◌∙◌, inl, inr, AllPairs, Option}
+use Rattle.std.proofs.Common.{None, Some, subst, bytes_eq}
 use Rattle.std.specs.List.{AllZip, Contains}
 use Rattle.std.proofs.lemmas.Bool.{cases_Bool}
 use Rattle.std.proofs.lemmas.List.Elements.{All-contains, All-weaker}
@@ -25,7 +26,8 @@ use Rattle.row_laws.proofs.Parts as parts
 use Rattle.row_laws.proofs.Reducers.{reducer_above, reducer_there}
 use Rattle.row_laws.proofs.Spread.{spread}
 
-module _ (p : ℕ) (weights : List ℕ) (relations : List (List Term)) (st : IsSetting p weights relations) (d : ℕ) (G : List (List Term)) (lower : AreLower p weights relations d G) where
+module _ (p : ℕ) (weights : List ℕ) (relations : List (List Term)) (st : IsSetting p weights relations) (d : ℕ) (G : List (List Term))
+    (lower : AreLower p weights relations d G) where
   abbrev K : Field
   K = vectors.K p st.modulus
 
@@ -59,7 +61,8 @@ module _ (p : ℕ) (weights : List ℕ) (relations : List (List Term)) (st : IsS
       | inl there ↦ elim (Contains-cases x xs z there) [
         | inr later ↦ absurd (off later)
         | inl is ↦ reducer_above p weights relations st d G lower y g (h.over y (Contains-more x xs y m)) (h.degree y (Contains-more x xs y m)) r z
-            (subst (λ (u : List ℕ). IsLetterwiseGreater u y) is (All-contains (IsLetterwiseGreater x) xs y (AllPairs-first IsLetterwiseGreater x xs h.falling) m))
+            (subst (λ (u : List ℕ). IsLetterwiseGreater u y) is (All-contains (IsLetterwiseGreater x) xs y
+            (AllPairs-first IsLetterwiseGreater x xs h.falling) m))
       ]
     ];
   }
@@ -78,22 +81,27 @@ module _ (p : ℕ) (weights : List ℕ) (relations : List (List Term)) (st : IsS
   with_first a u zero = a
   with_first a u (suc k) = u k
 
-  spread-first : (x : List ℕ) (ws : List (List ℕ)) (a : Residue p) (u : N) (y : List ℕ) → spread p st.modulus (x ∷ ws) (with_first a u) y ≡ K.add (cond (bytes_eq x y) a K.zero) (spread p st.modulus ws u y)
+  spread-first : (x : List ℕ) (ws : List (List ℕ)) (a : Residue p) (u : N) (y : List ℕ) →
+      spread p st.modulus (x ∷ ws) (with_first a u) y ≡ K.add (cond (bytes_eq x y) a K.zero) (spread p st.modulus ws u y)
   unfolding with_first
   spread-first x ws a u y = refl
 
-  more_listed : (g : List Term) (rs : List (Option (List Term))) (v : V) → IsInSpan K (List ℕ) (IsListedReducer rs) v → IsInSpan K (List ℕ) (IsListedReducer (Some g ∷ rs)) v
+  more_listed : (g : List Term) (rs : List (Option (List Term))) (v : V) → IsInSpan K (List ℕ) (IsListedReducer rs) v →
+      IsInSpan K (List ℕ) (IsListedReducer (Some g ∷ rs)) v
   more_listed g rs v s = record {
     parts = s.parts;
-    each = All-weaker (λ c. IsListedReducer rs c.1) (λ c. IsListedReducer (Some g ∷ rs) c.1) (λ c h. (h.0, Contains-more g (reducers_in rs) h.0 h.1, h.2)) s.parts s.each;
+    each = All-weaker (λ c. IsListedReducer rs c.1) (λ c. IsListedReducer (Some g ∷ rs) c.1)
+        (λ c h. (h.0, Contains-more g (reducers_in rs) h.0 h.1, h.2)) s.parts s.each;
     sum = s.sum;
   }
 
   -- v is its entry at x times q and what is left
   regained : (x : List ℕ) (q v : V) (y : List ℕ) → K.add (K.mul (v x) (q y)) (cleared K (List ℕ) x q v y) ≡ v y
   regained x q v y =
-      let negative : K.mul (K.neg (v x)) (q y) ≡ K.neg (K.mul (v x) (q y)) = K.mul_comm (K.neg (v x)) (q y) ∙ mul_neg K (q y) (v x) ∙ ap K.neg (K.mul_comm (q y) (v x)) in
-      add_left_comm K (K.mul (v x) (q y)) (v y) (K.mul (K.neg (v x)) (q y)) ∙ ap (K.add (v y)) (ap (K.add (K.mul (v x) (q y))) negative ∙ K.add_neg (K.mul (v x) (q y))) ∙ K.add_zero (v y)
+      let negative : K.mul (K.neg (v x)) (q y) ≡ K.neg (K.mul (v x) (q y)) = K.mul_comm (K.neg (v x)) (q y) ∙ mul_neg K (q y) (v x)
+      ∙ ap K.neg (K.mul_comm (q y) (v x)) in
+      add_left_comm K (K.mul (v x) (q y)) (v y) (K.mul (K.neg (v x)) (q y))
+      ∙ ap (K.add (v y)) (ap (K.add (K.mul (v x) (q y))) negative ∙ K.add_neg (K.mul (v x) (q y))) ∙ K.add_zero (v y)
 
   -- v at other words than x
   abbrev elsewhere : List ℕ → V → V
@@ -130,26 +138,32 @@ module _ (p : ℕ) (weights : List ℕ) (relations : List (List Term)) (st : IsS
   }
 
   -- the reducer of a column clears its entry
-  cleared-on : (x : List ℕ) (xs : List (List ℕ)) (g : List Term) → IsReducer G x g → AreClosedWords (x ∷ xs) → (v : V) → IsOn (x ∷ xs) v → IsOn xs (cleared K (List ℕ) x (vec g) v)
+  cleared-on : (x : List ℕ) (xs : List (List ℕ)) (g : List Term) → IsReducer G x g → AreClosedWords (x ∷ xs) → (v : V) → IsOn (x ∷ xs) v →
+      IsOn xs (cleared K (List ℕ) x (vec g) v)
   cleared-on x xs g r h v on y off = elim (listed (x ∷ xs) y) [
-    | inr none ↦ ap₂ (λ (m n : Residue p). K.add m (K.mul (K.neg (v x)) n)) (on y none) (h.reducers_on x g first r y none) ∙ zero_add K (K.mul (K.neg (v x)) K.zero) ∙ mul_zero K (K.neg (v x))
+    | inr none ↦ ap₂ (λ (m n : Residue p). K.add m (K.mul (K.neg (v x)) n)) (on y none) (h.reducers_on x g first r y none)
+        ∙ zero_add K (K.mul (K.neg (v x)) K.zero) ∙ mul_zero K (K.neg (v x))
     | inl there ↦ elim (Contains-cases x xs y there) [
       | inr later ↦ absurd (off later)
-      | inl is ↦ ap (cleared K (List ℕ) x (vec g) v) (sym is) ∙ cleared_here K (List ℕ) (v x) (vec g x) (reducer_there p weights relations st d G lower x g (h.over x first) (h.degree x first) r)
+      | inl is ↦ ap (cleared K (List ℕ) x (vec g) v) (sym is) ∙ cleared_here K (List ℕ) (v x) (vec g x)
+          (reducer_there p weights relations st d G lower x g (h.over x first) (h.degree x first) r)
     ]
   ]
     where
       first : Contains (x ∷ xs) x
       first = Contains-first x xs
 
-  cleared_entry : (x : List ℕ) (xs : List (List ℕ)) (rs : List (Option (List Term))) (g : List Term) (v : V) → IsLeft xs rs (cleared K (List ℕ) x (vec g) v) → IsLeft (x ∷ xs) (Some g ∷ rs) v
+  cleared_entry : (x : List ℕ) (xs : List (List ℕ)) (rs : List (Option (List Term))) (g : List Term) (v : V) →
+      IsLeft xs rs (cleared K (List ℕ) x (vec g) v) → IsLeft (x ∷ xs) (Some g ∷ rs) v
   cleared_entry x xs rs g v r = record {
     entries = r.entries;
     rest = λ y. K.add (K.mul (v x) (vec g y)) (r.rest y);
     spanned = IsInSpan-add K (List ℕ) (IsListedReducer (Some g ∷ rs)) (λ y. K.mul (v x) (vec g y)) r.rest
-        (IsInSpan-scaled K (List ℕ) (IsListedReducer (Some g ∷ rs)) (v x) (vec g) (IsInSpan-one K (List ℕ) (IsListedReducer (Some g ∷ rs)) (vec g) (g, Contains-first g (reducers_in rs), refl)))
+        (IsInSpan-scaled K (List ℕ) (IsListedReducer (Some g ∷ rs)) (v x) (vec g)
+        (IsInSpan-one K (List ℕ) (IsListedReducer (Some g ∷ rs)) (vec g) (g, Contains-first g (reducers_in rs), refl)))
         (more_listed g rs r.rest r.spanned);
-    sum = λ y. sym (regained x (vec g) v y) ∙ ap (K.add (K.mul (v x) (vec g y))) (r.sum y) ∙ add_left_comm K (K.mul (v x) (vec g y)) (spread p st.modulus (contested_words xs rs) r.entries y) (r.rest y);
+    sum = λ y. sym (regained x (vec g) v y) ∙ ap (K.add (K.mul (v x) (vec g y))) (r.sum y)
+        ∙ add_left_comm K (K.mul (v x) (vec g y)) (spread p st.modulus (contested_words xs rs) r.entries y) (r.rest y);
   }
 
   pub left_of : (xs : List (List ℕ)) (rs : List (Option (List Term))) → AllZip (HasReducer G) xs rs → AreClosedWords xs → (v : V) → IsOn xs v → IsLeft xs rs v
@@ -162,4 +176,5 @@ module _ (p : ℕ) (weights : List ℕ) (relations : List (List Term)) (st : IsS
   left_of [] (r ∷ rs) z h v on = absurd z
   left_of (x ∷ xs) [] z h v on = absurd z
   left_of (x ∷ xs) (None ∷ rs) z h v on = kept_entry x xs rs v (left_of xs rs z.1 (rest_closed x xs h) (elsewhere x v) (elsewhere-on x xs v on))
-  left_of (x ∷ xs) (Some g ∷ rs) z h v on = cleared_entry x xs rs g v (left_of xs rs z.1 (rest_closed x xs h) (cleared K (List ℕ) x (vec g) v) (cleared-on x xs g z.0 h v on))
+  left_of (x ∷ xs) (Some g ∷ rs) z h v on = cleared_entry x xs rs g v
+      (left_of xs rs z.1 (rest_closed x xs h) (cleared K (List ℕ) x (vec g) v) (cleared-on x xs g z.0 h v on))

@@ -1,4 +1,5 @@
--- What a row leaves at the contested columns: beside it the row is a sum of multiples of reducers, so it is one list of residues.
+-- What a row leaves at the contested columns: beside it the row is a sum of multiples of reducers, so it is one list
+-- of residues.
 use Rattle.std.proofs.Common.{ap₂, ◌≡◌, ◌-◌, ◌%◌, ◌<◌, ℕ, List, [], ◌++◌, length, get_or, map, refl, sym, ap, ◌∙◌, inl, arith, Option}
 use Rattle.std.specs.List.{Contains}
 use Rattle.std.proofs.Math.Nat.{mod-eq_of_lt}
@@ -41,15 +42,20 @@ module _ (K : Field) where
 
 -- the vector of f - h
 pub vector_of-less : (p : ℕ) (fm : IsFieldModulus p) (f h : List Term) (y : List ℕ)
-    → vectors.vector_of p fm (f ++ scaled (p - 1) h) y ≡ (vectors.K p fm).add (vectors.vector_of p fm f y) ((vectors.K p fm).mul ((vectors.K p fm).neg (vectors.K p fm).one) (vectors.vector_of p fm h y))
+    → vectors.vector_of p fm (f ++ scaled (p - 1) h) y ≡ (vectors.K p fm).add (vectors.vector_of p fm f y)
+    ((vectors.K p fm).mul ((vectors.K p fm).neg (vectors.K p fm).one) (vectors.vector_of p fm h y))
 vector_of-less p fm f h y =
     let one : 1 % p ≡ 1 = mod-eq_of_lt {n = 1} {m = p} (omega (arith, fm.two_or_more)) in
-    let neg : vectors.of p fm (p - 1) ≡ (vectors.K p fm).neg (vectors.K p fm).one = same_residue p (vectors.of p fm (p - 1)) ((vectors.K p fm).neg (vectors.K p fm).one) (ap (λ (n : ℕ). (p - n) % p) (sym one)) in
+    let neg : vectors.of p fm (p - 1) ≡ (vectors.K p fm).neg (vectors.K p fm).one =
+    same_residue p (vectors.of p fm (p - 1)) ((vectors.K p fm).neg (vectors.K p fm).one) (ap (λ (n : ℕ). (p - n) % p) (sym one)) in
     vector_of-append p fm f (scaled (p - 1) h) y
-    ∙ ap ((vectors.K p fm).add (vectors.vector_of p fm f y)) (vector_of-scaled p fm (p - 1) h y ∙ ap (λ (n : Residue p). (vectors.K p fm).mul n (vectors.vector_of p fm h y)) neg)
+    ∙ ap ((vectors.K p fm).add (vectors.vector_of p fm f y)) (vector_of-scaled p fm (p - 1) h y
+    ∙ ap (λ (n : Residue p). (vectors.K p fm).mul n (vectors.vector_of p fm h y)) neg)
 
-module _ (p : ℕ) (weights : List ℕ) (relations : List (List Term)) (st : IsSetting p weights relations) (d : ℕ) (G : List (List Term)) (lower : AreLower p weights relations d G)
-    (rows : List (List Term)) (columns : List (List ℕ)) (reducers : List (Option (List Term))) (closed : AreClosed p weights relations G d rows columns reducers) where
+module _ (p : ℕ) (weights : List ℕ) (relations : List (List Term)) (st : IsSetting p weights relations) (d : ℕ) (G : List (List Term))
+    (lower : AreLower p weights relations d G)
+    (rows : List (List Term)) (columns : List (List ℕ)) (reducers : List (Option (List Term)))
+    (closed : AreClosed p weights relations G d rows columns reducers) where
   abbrev K : Field
   K = vectors.K p st.modulus
 
@@ -96,7 +102,8 @@ module _ (p : ℕ) (weights : List ℕ) (relations : List (List Term)) (st : IsS
         let rest = vector_of-less p st.modulus f element y in
         sym (ap₂ K.add (sym (spread-element p st.modulus contested c y)) rest ∙ less_back K (vec element y) (vec f y))
 
-  -- two lists that one row leaves: what the row has beside them differs by a sum of reducers that is 0 at reducible words, so at all
+  -- two lists that one row leaves: what the row has beside them differs by a sum of reducers that is 0 at reducible
+  -- words, so at all
   module _ (f : List Term) (a b : List ℕ) (ha : IsContestedRow p columns reducers f a) (hb : IsContestedRow p columns reducers f b) where
     abbrev onto : List ℕ → V
     onto r = spread p st.modulus contested (vector p st.modulus r)
@@ -109,10 +116,12 @@ module _ (p : ℕ) (weights : List ℕ) (relations : List (List Term)) (st : IsS
         (IsInSpan-scaled K (List ℕ) IsOwnReducer (K.neg K.one) (vec (left f b hb)) (left_spanned f b hb))
 
     alone : (c : List ℕ) (h : IsContestedRow p columns reducers f c) (x : List ℕ) (g : List Term) → IsReducer G x g → vec (left f c h) x ≡ vec f x
-    alone c h x g r = sym (row_sum f c h x ∙ ap (λ (n : Residue p). K.add n (vec (left f c h) x)) (zero_at_reducible (vector p st.modulus c) x g r) ∙ zero_add K (vec (left f c h) x))
+    alone c h x g r = sym (row_sum f c h x ∙ ap (λ (n : Residue p). K.add n (vec (left f c h) x))
+        (zero_at_reducible (vector p st.modulus c) x g r) ∙ zero_add K (vec (left f c h) x))
 
     none_at_reducible : (x : List ℕ) (g : List Term) → IsReducer G x g → gap x ≡ K.zero
-    none_at_reducible x g r = ap₂ (λ (m n : Residue p). K.add m (K.mul (K.neg K.one) n)) (alone a ha x g r) (alone b hb x g r) ∙ ap (K.add (vec f x)) (minus K (vec f x)) ∙ K.add_neg (vec f x)
+    none_at_reducible x g r = ap₂ (λ (m n : Residue p). K.add m (K.mul (K.neg K.one) n)) (alone a ha x g r) (alone b hb x g r)
+        ∙ ap (K.add (vec f x)) (minus K (vec f x)) ∙ K.add_neg (vec f x)
 
     same_at : (k : ℕ) → k < length contested → vector p st.modulus a k ≡ vector p st.modulus b k
     same_at k lt =
@@ -120,14 +129,19 @@ module _ (p : ℕ) (weights : List ℕ) (relations : List (List Term)) (st : IsS
         let falling = contested_falling columns reducers closed.are_columns.falling in
         let says = contested_says G columns reducers closed.are_reducers w (Contains-get_or contested k [] lt) in
         let there = closure_word p weights relations st d G lower rows closed.are_rows w ((closed.are_columns.exactly w).0 says.0) in
-        let none : gap w ≡ K.zero = zero_from_normal p weights relations st d G lower (words_of_degree weights d) (words_of_degree-falling weights st.are_weights d) gap gap_spanned w there says.1
+        let none : gap w ≡ K.zero = zero_from_normal p weights relations st d G lower (words_of_degree weights d)
+        (words_of_degree-falling weights st.are_weights d) gap gap_spanned w there says.1
         (λ x g r greater. none_at_reducible x g r) w (inl refl) in
-        let rests : vec (left f a ha) w ≡ vec (left f b hb) w = sym (less_back K (vec (left f b hb) w) (vec (left f a ha) w)) ∙ ap (K.add (vec (left f b hb) w)) none ∙ K.add_zero (vec (left f b hb) w) in
+        let rests : vec (left f a ha) w ≡ vec (left f b hb) w = sym (less_back K (vec (left f b hb) w) (vec (left f a ha) w))
+        ∙ ap (K.add (vec (left f b hb) w)) none ∙ K.add_zero (vec (left f b hb) w) in
         let both : onto a w ≡ onto b w =
-        sym (back_less K (onto a w) (vec (left f a ha) w)) ∙ ap₂ (λ (n r : Residue p). K.add n (K.mul (K.neg K.one) r)) (sym (row_sum f a ha w) ∙ row_sum f b hb w) rests ∙ back_less K (onto b w) (vec (left f b hb) w) in
-        sym (spread-at p st.modulus contested (vector p st.modulus a) k falling lt) ∙ both ∙ spread-at p st.modulus contested (vector p st.modulus b) k falling lt
+        sym (back_less K (onto a w) (vec (left f a ha) w)) ∙ ap₂ (λ (n r : Residue p). K.add n (K.mul (K.neg K.one) r))
+        (sym (row_sum f a ha w) ∙ row_sum f b hb w) rests ∙ back_less K (onto b w) (vec (left f b hb) w) in
+        sym (spread-at p st.modulus contested (vector p st.modulus a) k falling lt) ∙ both
+        ∙ spread-at p st.modulus contested (vector p st.modulus b) k falling lt
 
     pub one_row : a ≡ b
     one_row = ext_get_or 0 a b (ha.is_row.size ∙ sym hb.is_row.size) (λ k within.
         let lt : k < length contested = omega (arith, within, ha.is_row.size) in
-        sym (mod-eq_of_lt (ha.is_row.residues k 0 within)) ∙ ap (λ (x : Residue p). x.0) (same_at k lt) ∙ mod-eq_of_lt (hb.is_row.residues k 0 (omega (arith, lt, hb.is_row.size))))
+        sym (mod-eq_of_lt (ha.is_row.residues k 0 within)) ∙ ap (λ (x : Residue p). x.0) (same_at k lt)
+        ∙ mod-eq_of_lt (hb.is_row.residues k 0 (omega (arith, lt, hb.is_row.size))))

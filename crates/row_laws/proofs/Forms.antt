@@ -1,4 +1,5 @@
--- Reduced rows over columns in a strict order: their entries at leading columns and before them, and the first entry of a member of their span.
+-- Reduced rows over columns in a strict order: their entries at leading columns and before them, and the first entry
+-- of a member of their span.
 use Rattle.std.proofs.Common.{◌≡◌, ◌≢◌, List, [], ◌∷◌, sym, ap, ◌∙◌, inl, inr, AllPairs, subst}
 use Rattle.std.specs.List.{Contains}
 use Rattle.std.proofs.lemmas.List.Elements.{All-contains}
@@ -79,7 +80,8 @@ module _ (K : Field) (X : Type 0) where
         (leads_ordered ys es' r (AllPairs-rest R x ys h))
 
     -- a row is 0 at the columns before its leading one
-    pub row_before : (xs : List X) (es : List Led) → IsReduced K X xs es → AllPairs R xs → (e : Led) → Contains es e → (y : X) → Contains xs y → R y e.0 → e.1 y ≡ K.zero
+    pub row_before : (xs : List X) (es : List Led) → IsReduced K X xs es → AllPairs R xs → (e : Led) → Contains es e → (y : X) →
+        Contains xs y → R y e.0 → e.1 y ≡ K.zero
     row_before xs es done h e m y n before = absurd (Contains-none e m)
     row_before xs es (skip x ys es' z r) h e m y n before = elim (Contains-cases x ys y n) [
       | inl is ↦ ap e.1 (sym is) ∙ zero_at_member x es e z m
@@ -111,6 +113,7 @@ module _ (K : Field) (X : Type 0) where
           let without : (q : X) → sum_of K X (from_leads K X ((y, g) ∷ es') v) q ≡ sum_of K X (from_leads K X es' v) q =
           λ q. ap (λ (a : K.F). K.add (K.mul a (g q)) (sum_of K X (from_leads K X es' v) q)) zero
           ∙ ap (λ (a : K.F). K.add a (sum_of K X (from_leads K X es' v) q)) (K.mul_comm K.zero (g q) ∙ mul_zero K (g q)) ∙ zero_add K _ in
-          let l = first_led ys es' r (AllPairs-rest R y ys h) v (same_after ys v _ _ s.1 without) x n some (λ q k before. none q (Contains-more y ys q k) before) in
+          let l = first_led ys es' r (AllPairs-rest R y ys h) v (same_after ys v _ _ s.1 without) x n some
+          (λ q k before. none q (Contains-more y ys q k) before) in
           (l.0, Contains-more (y, g) es' l.0 l.1, l.2)
     ]

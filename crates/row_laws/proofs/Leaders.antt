@@ -82,16 +82,20 @@ module _ (p m : ℕ) (fm : IsFieldModulus p) (cells echelon : List (List ℕ)) (
     pub one_there : get_or r l 0 ≡ 1
     one_there =
         let at : row_vector r l ≡ Kn.one = row_one Kn ℕ (range_with_len 0 m) led_rows basis.reduced (l, row_vector r) n in
-        sym (mod-eq_of_lt (entry l (lead_within (l, row_vector r) n))) ∙ ap (λ (x : Residue p). x.0) at ∙ mod-eq_of_lt {n = 1} {m = p} (omega (arith, fm.two_or_more))
+        sym (mod-eq_of_lt (entry l (lead_within (l, row_vector r) n))) ∙ ap (λ (x : Residue p). x.0) at
+        ∙ mod-eq_of_lt {n = 1} {m = p} (omega (arith, fm.two_or_more))
 
     pub none_before : (k : ℕ) → k < l → get_or r k 0 ≡ 0
     none_before k lt =
         let within : k < m = omega (arith, lt, lead_within (l, row_vector r) n) in
-        let at : row_vector r k ≡ Kn.zero = row_before Kn ℕ (λ i j. i < j) before_itself before_trans (range_with_len 0 m) led_rows basis.reduced (range-rising 0 m) (l, row_vector r) n k
+        let at : row_vector r k ≡ Kn.zero = row_before Kn ℕ (λ i j. i < j) before_itself before_trans (range_with_len 0 m) led_rows
+        basis.reduced (range-rising 0 m) (l, row_vector r) n k
         (Contains-range 0 m k (omega arith) (omega (arith, within))) lt in
         sym (mod-eq_of_lt (entry k within)) ∙ ap (λ (x : Residue p). x.0) at ∙ zero-mod p
 
   -- the first column at which a combination of the rows is not 0 is a leading one
-  pub first_leads : (v : N) → IsInRowSpan p fm cells v → (k : ℕ) → k < m → (v k ≡ Kn.zero → ⊥) → ((j : ℕ) → j < k → v j ≡ Kn.zero) → (e : ℕ × N) × Contains led_rows e × (e.0 ≡ k)
-  first_leads v s k lt some none = first_led Kn ℕ (λ i j. i < j) before_itself before_trans (range_with_len 0 m) led_rows basis.reduced (range-rising 0 m) v (basis.coordinates v s) k
+  pub first_leads : (v : N) → IsInRowSpan p fm cells v → (k : ℕ) → k < m → (v k ≡ Kn.zero → ⊥) → ((j : ℕ) → j < k → v j ≡ Kn.zero) →
+      (e : ℕ × N) × Contains led_rows e × (e.0 ≡ k)
+  first_leads v s k lt some none = first_led Kn ℕ (λ i j. i < j) before_itself before_trans (range_with_len 0 m) led_rows basis.reduced
+      (range-rising 0 m) v (basis.coordinates v s) k
       (Contains-range 0 m k (omega arith) (omega (arith, lt))) some (λ j n before. none j before)

@@ -29,8 +29,10 @@ use Rattle.row_laws.proofs.Reducers.{reducer_inside}
 use Rattle.row_laws.proofs.Spread.{spread, spread-linear, spread-member, spread-zero}
 use Rattle.row_laws.proofs.Triangle.{IsReducerOf}
 
-module _ (p : ℕ) (weights : List ℕ) (relations : List (List Term)) (st : IsSetting p weights relations) (d : ℕ) (G : List (List Term)) (lower : AreLower p weights relations d G)
-    (rows : List (List Term)) (columns : List (List ℕ)) (reducers : List (Option (List Term))) (closed : AreClosed p weights relations G d rows columns reducers)
+module _ (p : ℕ) (weights : List ℕ) (relations : List (List Term)) (st : IsSetting p weights relations) (d : ℕ) (G : List (List Term))
+    (lower : AreLower p weights relations d G)
+    (rows : List (List Term)) (columns : List (List ℕ)) (reducers : List (Option (List Term)))
+    (closed : AreClosed p weights relations G d rows columns reducers)
     (cells : List (List ℕ)) (are_cells : AreContestedRows p columns reducers rows cells) where
   abbrev K : Field
   K = vectors.K p st.modulus
@@ -119,7 +121,15 @@ module _ (p : ℕ) (weights : List ℕ) (relations : List (List Term)) (st : IsS
     entries = λ k. K.zero;
     combined = IsInSpan-zero K ℕ (IsOneOf K ℕ (map (vector p st.modulus) cells));
     rest = vec g;
-    spanned = IsInSpan-one K (List ℕ) IsOwnReducer (vec g) (record { word = w; within = in_degree p weights relations st d G lower w over deg; over = over; degree = deg; reducer = g; is_reducer = r; is = refl });
+    spanned = IsInSpan-one K (List ℕ) IsOwnReducer (vec g) (record {
+      word = w;
+      within = in_degree p weights relations st d G lower w over deg;
+      over = over;
+      degree = deg;
+      reducer = g;
+      is_reducer = r;
+      is = refl;
+    });
     sum = λ y. sym (ap (λ (n : Residue p). K.add n (vec g y)) (spread-zero p st.modulus contested (λ k. K.zero) (λ k. refl) y) ∙ zero_add K (vec g y));
   }
   generator_mixed g (of_relation r among h) = row_mixed r (relation_row p weights relations st d G lower rows closed.are_rows r among h)
@@ -127,19 +137,23 @@ module _ (p : ℕ) (weights : List ℕ) (relations : List (List Term)) (st : IsS
       let q = obstruction_has p weights relations st d G lower rows closed.are_rows i j a c b o in
       same_mixed (vec q.0) (vec _) q.2 (row_mixed q.0 q.1)
 
-  parts_mixed : (parts : List Part) → All (λ c. (c.factor < p) × IsGenerator p weights relations G d c.element) parts → IsMixed (vec (flat_map part_terms parts))
+  parts_mixed : (parts : List Part) → All (λ c. (c.factor < p) × IsGenerator p weights relations G d c.element) parts →
+      IsMixed (vec (flat_map part_terms parts))
   parts_mixed [] each = same_mixed (λ y. K.zero) (vec []) (λ y. same_residue p _ _ refl) nothing_mixed
   parts_mixed (c ∷ parts) each =
       let h = All-head (λ (c : Part). (c.factor < p) × IsGenerator p weights relations G d c.element) c parts each in
       let rest = parts_mixed parts (All-tail (λ (c : Part). (c.factor < p) × IsGenerator p weights relations G d c.element) c parts each) in
-      same_mixed (λ y. K.add (K.mul (vectors.of p st.modulus c.factor) (vec c.element y)) (vec (flat_map part_terms parts) y)) (vec (flat_map part_terms (c ∷ parts)))
-      (λ y. sym (vector_of-append p st.modulus (part_terms c) (flat_map part_terms parts) y ∙ ap (λ (n : Residue p). K.add n (vec (flat_map part_terms parts) y)) (vector_of-scaled p st.modulus c.factor c.element y)))
+      same_mixed (λ y. K.add (K.mul (vectors.of p st.modulus c.factor) (vec c.element y)) (vec (flat_map part_terms parts) y))
+      (vec (flat_map part_terms (c ∷ parts)))
+      (λ y. sym (vector_of-append p st.modulus (part_terms c) (flat_map part_terms parts) y
+      ∙ ap (λ (n : Residue p). K.add n (vec (flat_map part_terms parts) y)) (vector_of-scaled p st.modulus c.factor c.element y)))
       (more_mixed (vectors.of p st.modulus c.factor) (vec c.element) (vec (flat_map part_terms parts)) (generator_mixed c.element h.1) rest)
 
   pub ideal_mixed : (f : List Term) → IsInIdeal p weights relations d f → IsMixed (vec f)
   ideal_mixed f i =
       let s = (overlaps_suffice p weights relations st d G lower f i.element).0 i in
-      same_mixed (vec (flat_map part_terms s.parts)) (vec f) (λ y. sym (same_vectors p st.modulus f (flat_map part_terms s.parts) s.sum y)) (parts_mixed s.parts s.each)
+      same_mixed (vec (flat_map part_terms s.parts)) (vec f) (λ y. sym (same_vectors p st.modulus f (flat_map part_terms s.parts) s.sum y))
+      (parts_mixed s.parts s.each)
 
   -- combinations of contested rows are members
   cell_member : (c : List ℕ) → Contains cells c → IsInSpan K (List ℕ) IsProductV (onto (vector p st.modulus c))
@@ -149,10 +163,14 @@ module _ (p : ℕ) (weights : List ℕ) (relations : List (List Term)) (st : IsS
       let rest = vec (left p weights relations st d G lower rows columns reducers closed f c b.1.related) in
       let rest_member : IsInSpan K (List ℕ) IsProductV rest =
       IsInSpan-trans K (List ℕ) IsOwnReducer IsProductV (λ g h. subst (IsInSpan K (List ℕ) IsProductV) (sym h.is)
-      (span_from_ideal p st.modulus weights relations d h.reducer (reducer_inside p weights relations st d G lower h.word h.reducer h.over h.degree h.is_reducer))) rest (left_spanned p weights relations st d G lower rows columns reducers closed f c b.1.related) in
+      (span_from_ideal p st.modulus weights relations d h.reducer (reducer_inside p weights relations st d G lower h.word h.reducer h.over
+      h.degree h.is_reducer))) rest (left_spanned p weights relations st d G lower rows columns reducers closed f c b.1.related) in
       same_span K (List ℕ) IsProductV (λ y. K.add (vec f y) (K.mul (K.neg K.one) (rest y))) (onto (vector p st.modulus c))
-      (λ y. ap (λ (n : Residue p). K.add n (K.mul (K.neg K.one) (rest y))) (row_sum p weights relations st d G lower rows columns reducers closed f c b.1.related y) ∙ back_less K (onto (vector p st.modulus c) y) (rest y))
-      (IsInSpan-add K (List ℕ) IsProductV (vec f) (λ y. K.mul (K.neg K.one) (rest y)) (row_member p weights relations st d G lower rows closed.are_rows f b.1.left).member
+      (λ y. ap (λ (n : Residue p). K.add n (K.mul (K.neg K.one) (rest y)))
+      (row_sum p weights relations st d G lower rows columns reducers closed f c b.1.related y)
+      ∙ back_less K (onto (vector p st.modulus c) y) (rest y))
+      (IsInSpan-add K (List ℕ) IsProductV (vec f) (λ y. K.mul (K.neg K.one) (rest y))
+      (row_member p weights relations st d G lower rows closed.are_rows f b.1.left).member
       (IsInSpan-scaled K (List ℕ) IsProductV (K.neg K.one) rest rest_member))
 
   pub combined_member : (e : N) → IsInRowSpan p st.modulus cells e → IsMember p weights relations st d (onto e)

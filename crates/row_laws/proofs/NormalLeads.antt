@@ -31,9 +31,12 @@ use Rattle.row_laws.proofs.Reducers.{above_lead}
 use Rattle.row_laws.proofs.Spread.{spread, spread-absent, spread-at}
 use Rattle.row_laws.proofs.Triangle.{zero_from_normal}
 
-module _ (p : ℕ) (weights : List ℕ) (relations : List (List Term)) (st : IsSetting p weights relations) (d : ℕ) (G : List (List Term)) (lower : AreLower p weights relations d G)
-    (rows : List (List Term)) (columns : List (List ℕ)) (reducers : List (Option (List Term))) (closed : AreClosed p weights relations G d rows columns reducers)
-    (cells : List (List ℕ)) (are_cells : AreContestedRows p columns reducers rows cells) (echelon : List (List ℕ)) (rref : IsRref p (length (contested_words columns reducers)) cells echelon) where
+module _ (p : ℕ) (weights : List ℕ) (relations : List (List Term)) (st : IsSetting p weights relations) (d : ℕ) (G : List (List Term))
+    (lower : AreLower p weights relations d G)
+    (rows : List (List Term)) (columns : List (List ℕ)) (reducers : List (Option (List Term)))
+    (closed : AreClosed p weights relations G d rows columns reducers)
+    (cells : List (List ℕ)) (are_cells : AreContestedRows p columns reducers rows cells) (echelon : List (List ℕ))
+    (rref : IsRref p (length (contested_words columns reducers)) cells echelon) where
   abbrev K : Field
   K = vectors.K p st.modulus
 
@@ -61,7 +64,8 @@ module _ (p : ℕ) (weights : List ℕ) (relations : List (List Term)) (st : IsS
   same_word : (i k : ℕ) (w : List ℕ) → i ≡ k → get_or contested k [] ≡ w → get_or contested i [] ≡ w
   same_word i k w e word = ap (λ (n : ℕ). get_or contested n []) e ∙ word
 
-  -- by the member that it leads: above the word the member is 0, so its sum of reducers is, and the rest leads at the word
+  -- by the member that it leads: above the word the member is 0, so its sum of reducers is, and the rest leads at the
+  -- word
   pub normal_led : (w : List ℕ) → IsLeadingWord p weights relations d w → IsNormal G w → IsLedBy w
   normal_led w l normal = by_first l.member l.inside l.lead
     where
@@ -72,11 +76,16 @@ module _ (p : ℕ) (weights : List ℕ) (relations : List (List Term)) (st : IsS
           let v = vectors.vector_of p st.modulus (t ∷ f) in
           let h = ideal_mixed p weights relations st d G lower rows columns reducers closed cells are_cells (t ∷ f) i in
           let there : Contains (words_of_degree weights d) w = subst (Contains (words_of_degree weights d)) is
-          (in_degree p weights relations st d G lower t.word (All-head (λ (s : Term). IsOver (length weights) s.word) t f i.element.letters) (All-head (λ (s : Term). degree_of weights s.word ≡ d) t f i.element.degree)) in
-          let above : (y : List ℕ) → IsLetterwiseGreater y w → v y ≡ K.zero = λ y g. same_residue p _ _ (ap (λ (n : ℕ). n % p) (above_lead (t ∷ f) w y i.element.form e g)) in
+          (in_degree p weights relations st d G lower t.word (All-head (λ (s : Term). IsOver (length weights) s.word) t f i.element.letters)
+          (All-head (λ (s : Term). degree_of weights s.word ≡ d) t f i.element.degree)) in
+          let above : (y : List ℕ) → IsLetterwiseGreater y w → v y ≡ K.zero =
+          λ y g. same_residue p _ _ (ap (λ (n : ℕ). n % p) (above_lead (t ∷ f) w y i.element.form e g)) in
           let rest_zero : (y : List ℕ) → ((y ≡ w) ⊎ IsLetterwiseGreater y w) → h.rest y ≡ K.zero =
-          zero_from_normal p weights relations st d G lower (words_of_degree weights d) (words_of_degree-falling weights st.are_weights d) h.rest h.spanned w there normal
-          (λ x g r greater. sym (h.sum x ∙ ap (λ (n : Residue p). K.add n (h.rest x)) (zero_at_reducible p weights relations st d G lower rows columns reducers closed h.entries x g r) ∙ zero_add K (h.rest x)) ∙ above x greater) in
+          zero_from_normal p weights relations st d G lower (words_of_degree weights d) (words_of_degree-falling weights st.are_weights d)
+          h.rest h.spanned w there normal
+          (λ x g r greater. sym (h.sum x ∙ ap (λ (n : Residue p). K.add n (h.rest x))
+          (zero_at_reducible p weights relations st d G lower rows columns reducers closed h.entries x g r) ∙ zero_add K (h.rest x))
+          ∙ above x greater) in
           let same : (y : List ℕ) → ((y ≡ w) ⊎ IsLetterwiseGreater y w) → onto h.entries y ≡ v y = λ y from.
           sym (h.sum y ∙ ap (K.add (onto h.entries y)) (rest_zero y from) ∙ K.add_zero (onto h.entries y)) in
           let some : onto h.entries w ≡ K.zero → ⊥ = λ none.
@@ -89,7 +98,9 @@ module _ (p : ℕ) (weights : List ℕ) (relations : List (List Term)) (st : IsS
                 let q = first_leads p (length contested) st.modulus cells echelon rref h.entries h.combined k m.1
                 (λ none. some (sym (entry_at h.entries k w m.1 word) ∙ none))
                 (λ j lt.
-                let greater : IsLetterwiseGreater (get_or contested j []) w = subst (IsLetterwiseGreater (get_or contested j [])) word (falling j k [] lt m.1) in
-                entry_at h.entries j (get_or contested j []) (omega (arith, lt, m.1)) refl ∙ same (get_or contested j []) (inr greater) ∙ above (get_or contested j []) greater) in
+                let greater : IsLetterwiseGreater (get_or contested j []) w =
+                subst (IsLetterwiseGreater (get_or contested j [])) word (falling j k [] lt m.1) in
+                entry_at h.entries j (get_or contested j []) (omega (arith, lt, m.1)) refl ∙ same (get_or contested j []) (inr greater)
+                ∙ above (get_or contested j []) greater) in
                 record { row = q.0; among = q.1; word = same_word q.0.0 k w q.2 word }
           ]

@@ -1,5 +1,6 @@
 -- The element with given residues at the columns of a falling list of words.
-use Rattle.std.proofs.Common.{◌≡◌, ◌≢◌, ◌<◌, ◌==◌, ℕ, zero, suc, false, true, List, [], ◌∷◌, All, ◌++◌, AllPairs, length, get_or, refl, ap, arith, inl, inr, subst, sym, Some}
+use Rattle.std.proofs.Common.{◌≡◌, ◌≢◌, ◌<◌, ◌==◌, ℕ, zero, suc, false, true, List, [], ◌∷◌, All, ◌++◌, AllPairs, length, get_or, refl, ap, arith}
+use Rattle.std.proofs.Common.{inl, inr, subst, sym, Some}
 use Rattle.std.proofs.lemmas.Bool.{cases_Bool}
 use Rattle.std.proofs.lemmas.List.Elements.{All-cons, All-nil}
 use Rattle.std.proofs.lemmas.List.Kept.{AllPairs-cons}
@@ -11,7 +12,8 @@ use Rattle.free_poly.specs.Poly.{IsMonic, IsPolynomial, lead_of, element_on}
 
 -- what holds of each term that can be there
 pub element_on-all : (P : Term → Type 0) (xs : List (List ℕ)) (row : List ℕ)
-    → ((k : ℕ) → k < length xs → k < length row → get_or row k 0 ≢ 0 → P (record { word = get_or xs k []; coefficient = get_or row k 0 })) → All P (element_on xs row)
+    → ((k : ℕ) → k < length xs → k < length row → get_or row k 0 ≢ 0 → P (record { word = get_or xs k []; coefficient = get_or row k 0 })) →
+    All P (element_on xs row)
 element_on-all P [] row h = All-nil P
 element_on-all P (x ∷ xs) [] h = All-nil P
 element_on-all P (x ∷ xs) (a ∷ row) h =
@@ -24,7 +26,8 @@ element_on-all P (x ∷ xs) (a ∷ row) h =
     other : (n : ℕ) → (n == 0) ≡ false → n ≢ 0
     other n f e = let t : (n == 0) ≡ true = ap (λ (m : ℕ). m == 0) e in cc
 
-element_on-falling : (xs : List (List ℕ)) (row : List ℕ) → AllPairs IsLetterwiseGreater xs → AllPairs (λ s t. IsLetterwiseGreater s.word t.word) (element_on xs row)
+element_on-falling : (xs : List (List ℕ)) (row : List ℕ) → AllPairs IsLetterwiseGreater xs →
+    AllPairs (λ s t. IsLetterwiseGreater s.word t.word) (element_on xs row)
 element_on-falling [] row h = AllPairs-nil (λ s t. IsLetterwiseGreater s.word t.word)
 element_on-falling (x ∷ xs) [] h = AllPairs-nil (λ s t. IsLetterwiseGreater s.word t.word)
 element_on-falling (x ∷ xs) (a ∷ row) h =
@@ -36,7 +39,10 @@ element_on-falling (x ∷ xs) (a ∷ row) h =
     ]
 
 pub element_on-polynomial : (xs : List (List ℕ)) (row : List ℕ) → AllPairs IsLetterwiseGreater xs → IsPolynomial (element_on xs row)
-element_on-polynomial xs row h = record { falling = element_on-falling xs row h; nonzero = element_on-all (λ t. t.coefficient ≢ 0) xs row (λ k lt within ne. ne) }
+element_on-polynomial xs row h = record {
+  falling = element_on-falling xs row h;
+  nonzero = element_on-all (λ t. t.coefficient ≢ 0) xs row (λ k lt within ne. ne);
+}
 
 pub element_on-residues : (p : ℕ) (xs : List (List ℕ)) (row : List ℕ) → All (λ a. a < p) row → All (λ t. t.coefficient < p) (element_on xs row)
 element_on-residues p xs row h = element_on-all (λ t. t.coefficient < p) xs row (λ k lt within ne. h k 0 within)
@@ -53,5 +59,6 @@ element_on-first (x ∷ xs) [] c lt none one = absurd (empty c one)
 element_on-first (x ∷ xs) (a ∷ row) zero lt none one =
     subst (λ (n : ℕ). (lead_of (term_at x n ++ element_on xs row) ≡ Some x) × IsMonic (term_at x n ++ element_on xs row)) (sym one) (refl, refl)
 element_on-first (x ∷ xs) (a ∷ row) (suc c) lt none one =
-    subst (λ (n : ℕ). (lead_of (term_at x n ++ element_on xs row) ≡ Some (get_or xs c [])) × IsMonic (term_at x n ++ element_on xs row)) (sym (none zero (omega arith)))
+    subst (λ (n : ℕ). (lead_of (term_at x n ++ element_on xs row) ≡ Some (get_or xs c [])) × IsMonic (term_at x n ++ element_on xs row))
+    (sym (none zero (omega arith)))
     (element_on-first xs row c (omega (arith, lt)) (λ k before. none (suc k) (omega (arith, before))) one)

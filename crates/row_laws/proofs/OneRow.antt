@@ -24,8 +24,10 @@ use Rattle.row_laws.proofs.ContestedRows.{back_less, one_row, vector_of-less}
 use Rattle.row_laws.proofs.Parts.{has_parts}
 use Rattle.row_laws.proofs.Spread.{residues_of, residues_of-row, spread, spread-element, spread-residues}
 
-module _ (p : ℕ) (weights : List ℕ) (relations : List (List Term)) (st : IsSetting p weights relations) (d : ℕ) (G : List (List Term)) (lower : AreLower p weights relations d G)
-    (rows : List (List Term)) (columns : List (List ℕ)) (reducers : List (Option (List Term))) (closed : AreClosed p weights relations G d rows columns reducers) where
+module _ (p : ℕ) (weights : List ℕ) (relations : List (List Term)) (st : IsSetting p weights relations) (d : ℕ) (G : List (List Term))
+    (lower : AreLower p weights relations d G)
+    (rows : List (List Term)) (columns : List (List ℕ)) (reducers : List (Option (List Term)))
+    (closed : AreClosed p weights relations G d rows columns reducers) where
   abbrev K : Field
   K = vectors.K p st.modulus
 
@@ -40,21 +42,25 @@ module _ (p : ℕ) (weights : List ℕ) (relations : List (List Term)) (st : IsS
 
   -- a sum of terms with words of columns
   words_on : (f : List Term) → ((t : Term) → Contains f t → Contains columns t.word) → OnColumns (vec f)
-  words_on f h y off = same_residue p _ _ (ap (λ (n : ℕ). n % p) (total_at-absent f y (All-from_members (λ t. t.word ≢ y) f (λ t m e. off (subst (Contains columns) e (h t m))))))
+  words_on f h y off = same_residue p _ _ (ap (λ (n : ℕ). n % p) (total_at-absent f y
+      (All-from_members (λ t. t.word ≢ y) f (λ t m e. off (subst (Contains columns) e (h t m))))))
 
   column_says : (x : List ℕ) → Contains columns x → IsOver (length weights) x × (degree_of weights x ≡ d)
-  column_says x m = words_of_degree-says weights st.are_weights d x (closure_word p weights relations st d G lower rows closed.are_rows x ((closed.are_columns.exactly x).0 m))
+  column_says x m = words_of_degree-says weights st.are_weights d x
+      (closure_word p weights relations st d G lower rows closed.are_rows x ((closed.are_columns.exactly x).0 m))
 
   closed_words : AreClosedWords p weights relations st d G lower columns
   closed_words = record {
     falling = closed.are_columns.falling;
     over = λ x m. (column_says x m).0;
     degree = λ x m. (column_says x m).1;
-    reducers_on = λ x g m r. words_on g (λ t n. (closed.are_columns.exactly t.word).1 (brought x t.word g ((closed.are_columns.exactly x).0 m) r (Contains-map (λ (s : Term). s.word) g t n)));
+    reducers_on = λ x g m r. words_on g (λ t n. (closed.are_columns.exactly t.word).1
+        (brought x t.word g ((closed.are_columns.exactly x).0 m) r (Contains-map (λ (s : Term). s.word) g t n)));
   }
 
   row_on : (f : List Term) → Contains rows f → OnColumns (vec f)
-  row_on f m = words_on f (λ t n. (closed.are_columns.exactly t.word).1 (given t.word (Contains-map (λ (s : Term). s.word) (flat_map (λ g. g) rows) t (Contains-flat_map (λ g. g) rows f t m n))))
+  row_on f m = words_on f (λ t n. (closed.are_columns.exactly t.word).1
+      (given t.word (Contains-map (λ (s : Term). s.word) (flat_map (λ g. g) rows) t (Contains-flat_map (λ g. g) rows f t m n))))
 
   -- what the reducers leave of it
   left_row : (f : List Term) → Contains rows f → (r : List ℕ) × IsContestedRow p columns reducers f r
@@ -63,12 +69,18 @@ module _ (p : ℕ) (weights : List ℕ) (relations : List (List Term)) (st : IsS
       let q = has_parts p st.modulus reducers h.rest h.spanned in
       let r = residues_of p st.modulus contested h.entries in
       let element = element_on contested r in
-      let at : (w : List ℕ) → vec element w ≡ spread p st.modulus contested h.entries w = λ w. spread-element p st.modulus contested r w ∙ spread-residues p st.modulus contested h.entries w in
+      let at : (w : List ℕ) → vec element w ≡ spread p st.modulus contested h.entries w = λ w. spread-element p st.modulus contested r w
+      ∙ spread-residues p st.modulus contested h.entries w in
       let same : (w : List ℕ) → vec (f ++ scaled (p - 1) element) w ≡ vec (flat_map part_terms q.parts) w = λ w.
       vector_of-less p st.modulus f element w
       ∙ ap₂ (λ (a b : Residue p). K.add a (K.mul (K.neg K.one) b)) (h.sum w ∙ K.add_comm (spread p st.modulus contested h.entries w) (h.rest w)) (at w)
-      ∙ back_less K (h.rest w) (spread p st.modulus contested h.entries w) ∙ q.sum w in
-      (r, record { is_row = residues_of-row p st.modulus contested h.entries; rest = record { parts = q.parts; each = q.each; sum = λ w. ap (λ (n : Residue p). n.0) (same w) } })
+      ∙ back_less K (h.rest w) (spread p st.modulus contested h.entries w) ∙ q.sum w in (
+        r,
+        record {
+          is_row = residues_of-row p st.modulus contested h.entries;
+          rest = record { parts = q.parts; each = q.each; sum = λ w. ap (λ (n : Residue p). n.0) (same w) };
+        },
+      )
 
 pub leaves_one_row : LeavesOneRow
 leaves_one_row p weights relations st d G lower rows columns reducers closed f m =

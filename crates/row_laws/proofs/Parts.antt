@@ -35,7 +35,11 @@ module _ (p : ℕ) (fm : IsFieldModulus p) where
     pub sum : (w : List ℕ) → v w ≡ vec (flat_map part_terms parts) w
 
   parts_from : (rs : List (Option (List Term))) (cs : List (Residue p × V)) → All (λ c. IsListedReducer rs c.1) cs → HasParts rs (sum_of K (List ℕ) cs)
-  parts_from rs [] each = record { parts = []; each = All-nil (λ (c : Part). (c.factor < p) × Contains (reducers_in rs) c.element); sum = λ w. same_residue p _ _ refl }
+  parts_from rs [] each = record {
+    parts = [];
+    each = All-nil (λ (c : Part). (c.factor < p) × Contains (reducers_in rs) c.element);
+    sum = λ w. same_residue p _ _ refl;
+  }
   parts_from rs (c ∷ cs) each =
       let h = All-head (λ (e : Residue p × V). IsListedReducer rs e.1) c cs each in
       let r = parts_from rs cs (All-tail (λ (e : Residue p × V). IsListedReducer rs e.1) c cs each) in
@@ -44,7 +48,8 @@ module _ (p : ℕ) (fm : IsFieldModulus p) where
         parts = part ∷ r.parts;
         each = All-cons (λ (c : Part). (c.factor < p) × Contains (reducers_in rs) c.element) part r.parts (c.0.1, h.1) r.each;
         sum = λ w. ap₂ K.add (ap₂ K.mul (same_residue p c.0 (vectors.of p fm c.0.0) (sym (mod-eq_of_lt c.0.1))) (ap (λ (v : V). v w) h.2)) (r.sum w)
-            ∙ sym (vector_of-append p fm (part_terms part) (flat_map part_terms r.parts) w ∙ ap (λ (n : Residue p). K.add n (vec (flat_map part_terms r.parts) w)) (vector_of-scaled p fm c.0.0 h.0 w));
+            ∙ sym (vector_of-append p fm (part_terms part) (flat_map part_terms r.parts) w
+            ∙ ap (λ (n : Residue p). K.add n (vec (flat_map part_terms r.parts) w)) (vector_of-scaled p fm c.0.0 h.0 w));
       }
 
   pub has_parts : (rs : List (Option (List Term))) (v : V) → IsInSpan K (List ℕ) (IsListedReducer rs) v → HasParts rs v

@@ -20,7 +20,9 @@ drop_twice (suc k) n (x ∷ w) = drop_twice k n w ∙ ap (λ (i : ℕ). drop i (
 -- the letters before, the factor, and the letters behind
 pub joined_at : (u w : List ℕ) (k : ℕ) → OccursAt u w k → w ≡ take k w ++ u ++ drop (k + length u) w
 joined_at u w k o =
-    sym (append_assoc (take k w) u (drop (k + length u) w) ∙ ap (λ (r : List ℕ). take k w ++ r) (ap₂ (λ (x z : List ℕ). x ++ z) (sym o.same) (sym (drop_twice k (length u) w)) ∙ take-append-drop (length u) (drop k w)) ∙ take-append-drop k w)
+    sym (append_assoc (take k w) u (drop (k + length u) w) ∙ ap (λ (r : List ℕ). take k w ++ r)
+    (ap₂ (λ (x z : List ℕ). x ++ z) (sym o.same) (sym (drop_twice k (length u) w)) ∙ take-append-drop (length u) (drop k w))
+    ∙ take-append-drop k w)
 
 pub factor_from_occurs : (u w : List ℕ) (k : ℕ) → OccursAt u w k → IsFactor u w
 factor_from_occurs u w k o = record { before = take k w; after = drop (k + length u) w; joined = joined_at u w k o }
@@ -30,5 +32,6 @@ pub first_of : (v w r : List ℕ) → take (length v) r ≡ v → take (length w
 first_of v w r e f le = record {
   before = [];
   after = drop (length v) w;
-  joined = sym (ap (λ (x : List ℕ). x ++ drop (length v) w) (sym (ap (take (length v)) (sym f) ∙ take-take (length v) (length w) r le ∙ e)) ∙ take-append-drop (length v) w);
+  joined = sym (ap (λ (x : List ℕ). x ++ drop (length v) w) (sym (ap (take (length v)) (sym f) ∙ take-take (length v) (length w) r le ∙ e))
+      ∙ take-append-drop (length v) w);
 }

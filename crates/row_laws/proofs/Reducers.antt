@@ -1,5 +1,7 @@
--- Reducers over the reduced elements of lower degrees: one at most for each word, monic, in the ideal, and with that word as leading word.
-use Rattle.std.proofs.Common.{◌≡◌, ◌≢◌, ◌+◌, ◌%◌, ◌<◌, ℕ, true, false, List, [], ◌∷◌, length, take, drop, refl, sym, ap, ◌∙◌, inl, inr, arith, AllPairs, subst, Some, bytes_eq}
+-- Reducers over the reduced elements of lower degrees: one at most for each word, monic, in the ideal, and with that
+-- word as leading word.
+use Rattle.std.proofs.Common.{◌≡◌, ◌≢◌, ◌+◌, ◌%◌, ◌<◌, ℕ, true, false, List, [], ◌∷◌, length, take, drop, refl, sym, ap, ◌∙◌, inl, inr, arith}
+use Rattle.std.proofs.Common.{AllPairs, subst, Some, bytes_eq}
 use Rattle.std.specs.List.{Contains}
 use Rattle.std.proofs.lemmas.Bool.{cases_Bool, cases_lt}
 use Rattle.std.proofs.lemmas.List.Elements.{All-contains, All-drop, All-head, All-take}
@@ -26,7 +28,8 @@ use Rattle.ideal_laws.proofs.Vectors as vectors
 use Rattle.row_laws.proofs.Places.{first_of, joined_at}
 
 -- of two elements with one leading word in a falling list both are one
-one_in_falling : (fs : List (List Term)) → AllPairs HasGreaterLead fs → (f g : List Term) (w : List ℕ) → Contains fs f → Contains fs g → lead_of f ≡ Some w → lead_of g ≡ Some w → f ≡ g
+one_in_falling : (fs : List (List Term)) → AllPairs HasGreaterLead fs → (f g : List Term) (w : List ℕ) → Contains fs f → Contains fs g →
+    lead_of f ≡ Some w → lead_of g ≡ Some w → f ≡ g
 one_in_falling [] h f g w m n lf lg = absurd (Contains-none f m)
 one_in_falling (e ∷ fs) h f g w m n lf lg = elim (Contains-cases e fs f m) [
   | inl is ↦ elim (Contains-cases e fs g n) [
@@ -54,10 +57,12 @@ above_lead (t ∷ f) w y h e g = let is : t.word ≡ w = cc e in above_all y t f
 module _ (p : ℕ) (weights : List ℕ) (relations : List (List Term)) (st : IsSetting p weights relations) where
   pub lead_degree : (n : ℕ) (f : List Term) (w : List ℕ) → IsReduced p weights relations n f → lead_of f ≡ Some w → degree_of weights w ≡ n
   lead_degree n [] w r e = cc e
-  lead_degree n (t ∷ f) w r e = let is : t.word ≡ w = cc e in ap (degree_of weights) (sym is) ∙ All-head (λ s. degree_of weights s.word ≡ n) t f r.inside.element.degree
+  lead_degree n (t ∷ f) w r e = let is : t.word ≡ w = cc e in ap (degree_of weights) (sym is)
+      ∙ All-head (λ s. degree_of weights s.word ≡ n) t f r.inside.element.degree
 
   -- reduced elements with one leading word are one
-  pub reduced_one : (e : ℕ) (f g : List Term) (w : List ℕ) → IsReduced p weights relations e f → IsReduced p weights relations e g → lead_of f ≡ Some w → lead_of g ≡ Some w → f ≡ g
+  pub reduced_one : (e : ℕ) (f g : List Term) (w : List ℕ) → IsReduced p weights relations e f → IsReduced p weights relations e g →
+      lead_of f ≡ Some w → lead_of g ≡ Some w → f ≡ g
   reduced_one e f g w hf hg lf lg =
       let b = has_one_basis p weights relations st e in
       one_in_falling b.value b.holds.falling f g w ((b.holds.exactly f).1 hf) ((b.holds.exactly g).1 hg) lf lg
@@ -74,7 +79,8 @@ module _ (p : ℕ) (weights : List ℕ) (relations : List (List Term)) (st : IsS
 
   module _ (d : ℕ) (G : List (List Term)) (lower : AreLower p weights relations d G) where
     -- elements whose leading words stand at one place are one
-    element_one : (g h : List Term) (v w r : List ℕ) → Contains G g → Contains G h → lead_of g ≡ Some v → lead_of h ≡ Some w → take (length v) r ≡ v → take (length w) r ≡ w → g ≡ h
+    element_one : (g h : List Term) (v w r : List ℕ) → Contains G g → Contains G h → lead_of g ≡ Some v → lead_of h ≡ Some w →
+        take (length v) r ≡ v → take (length w) r ≡ w → g ≡ h
     element_one g h v w r m n lg lh ev ew =
         let a = (lower g).0 m in
         let b = (lower h).0 n in
@@ -90,7 +96,8 @@ module _ (p : ℕ) (weights : List ℕ) (relations : List (List Term)) (st : IsS
     reducer_one w f g a b =
         let at : a.at ≡ b.at = omega (arith, a.least b.element b.lead b.at b.among b.is_lead b.here, b.least a.element a.lead a.at a.among a.is_lead a.here) in
         let moved : take (length b.lead) (drop a.at w) ≡ b.lead = ap (λ (n : ℕ). take (length b.lead) (drop n w)) at ∙ b.here.same in
-        let element : a.element ≡ b.element = element_one a.element b.element a.lead b.lead (drop a.at w) a.among b.among a.is_lead b.is_lead a.here.same moved in
+        let element : a.element ≡ b.element = element_one a.element b.element a.lead b.lead (drop a.at w) a.among b.among a.is_lead
+        b.is_lead a.here.same moved in
         let lead : a.lead ≡ b.lead = some_same a.lead b.lead (sym a.is_lead ∙ ap lead_of element ∙ b.is_lead) in
         a.is ∙ (λ i. product (take (at i) w) (element i) (drop (at i + length (lead i)) w)) ∙ sym b.is
 
@@ -102,17 +109,20 @@ module _ (p : ℕ) (weights : List ℕ) (relations : List (List Term)) (st : IsS
     pub reducer_monic : (w : List ℕ) (f : List Term) → IsReducer G w f → IsMonic f
     reducer_monic w f r = subst IsMonic (sym r.is) (product-monic (take r.at w) r.element (drop (r.at + length r.lead) w) ((lower r.element).0 r.among).2.monic)
 
-    pub reducer_inside : (w : List ℕ) (f : List Term) → IsOver (length weights) w → degree_of weights w ≡ d → IsReducer G w f → IsInIdeal p weights relations d f
+    pub reducer_inside : (w : List ℕ) (f : List Term) → IsOver (length weights) w → degree_of weights w ≡ d → IsReducer G w f →
+        IsInIdeal p weights relations d f
     reducer_inside w f over deg r =
         let u = take r.at w in
         let v = drop (r.at + length r.lead) w in
         let h = (lower r.element).0 r.among in
         let whole : degree_of weights u + h.0 + degree_of weights v ≡ d =
-        ap (λ (n : ℕ). degree_of weights u + n + degree_of weights v) (sym (lead_degree h.0 r.element r.lead h.2 r.is_lead)) ∙ sym (degree_of-round weights u r.lead v)
+        ap (λ (n : ℕ). degree_of weights u + n + degree_of weights v) (sym (lead_degree h.0 r.element r.lead h.2 r.is_lead))
+        ∙ sym (degree_of-round weights u r.lead v)
         ∙ ap (degree_of weights) (sym (joined_at r.lead w r.at r.here)) ∙ deg in
         subst (IsInIdeal p weights relations d) (sym r.is)
         (subst (λ (n : ℕ). IsInIdeal p weights relations n (product u r.element v)) whole
-        (inside_product p weights st.are_weights relations h.0 u r.element v (All-take (λ n. n < length weights) r.at w over) (All-drop (λ n. n < length weights) (r.at + length r.lead) w over) h.2.inside))
+        (inside_product p weights st.are_weights relations h.0 u r.element v (All-take (λ n. n < length weights) r.at w over)
+        (All-drop (λ n. n < length weights) (r.at + length r.lead) w over) h.2.inside))
 
     abbrev K : Field
     K = vectors.K p st.modulus
@@ -120,7 +130,8 @@ module _ (p : ℕ) (weights : List ℕ) (relations : List (List Term)) (st : IsS
     -- the reducer of a word of the degree is 1 there and 0 at greater words
     module _ (w : List ℕ) (f : List Term) (over : IsOver (length weights) w) (deg : degree_of weights w ≡ d) (r : IsReducer G w f) where
       pub reducer_there : vectors.vector_of p st.modulus f w ≡ K.one
-      reducer_there = same_residue p _ _ (ap (λ (n : ℕ). n % p) (monic_total f w (reducer_lead w f r) (reducer_inside w f over deg r).element.form (reducer_monic w f r)))
+      reducer_there = same_residue p _ _ (ap (λ (n : ℕ). n % p) (monic_total f w (reducer_lead w f r)
+          (reducer_inside w f over deg r).element.form (reducer_monic w f r)))
 
       pub reducer_above : (y : List ℕ) → IsLetterwiseGreater y w → vectors.vector_of p st.modulus f y ≡ K.zero
       reducer_above y g = same_residue p _ _ (ap (λ (n : ℕ). n % p) (above_lead f w y (reducer_inside w f over deg r).element.form (reducer_lead w f r) g))

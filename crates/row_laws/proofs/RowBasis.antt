@@ -1,5 +1,6 @@
 -- The elements of the echelon form of the contested rows are the reduced basis of the degree.
-use Rattle.std.proofs.Common.{◌≡◌, ◌≢◌, ◌%◌, ◌<◌, ◌≤◌, ℕ, List, [], ◌∷◌, ◌++◌, length, get_or, map, zip, sym, ap, ◌∙◌, arith, All, AllPairs, Option, Some, subst, length-append}
+use Rattle.std.proofs.Common.{◌≡◌, ◌≢◌, ◌%◌, ◌<◌, ◌≤◌, ℕ, List, [], ◌∷◌, ◌++◌, length, get_or, map, zip, sym, ap, ◌∙◌, arith, All, AllPairs, Option}
+use Rattle.std.proofs.Common.{Some, subst, length-append}
 use Rattle.std.specs.List.{Contains}
 use Rattle.std.proofs.Math.Nat.{mod-mod}
 use Rattle.std.proofs.lemmas.List.Elements.{All-contains, All-head, Contains-get_or}
@@ -40,25 +41,41 @@ use Rattle.row_laws.proofs.Reducers.{lead_degree, reduced_one}
 use Rattle.row_laws.proofs.Spread.{spread, spread-at, spread-element}
 
 -- what holds of each term but the first
-below_all : (P : Term → Type 0) (f : List Term) (w : List ℕ) → lead_of f ≡ Some w → IsPolynomial f → ((t : Term) → Contains f t → t.word ≢ w → P t) → All P (below_lead f)
+below_all : (P : Term → Type 0) (f : List Term) (w : List ℕ) → lead_of f ≡ Some w → IsPolynomial f →
+    ((t : Term) → Contains f t → t.word ≢ w → P t) → All P (below_lead f)
 below_all P [] w e h q = cc e
 below_all P (t ∷ f) w e h q =
     let is : t.word ≡ w = cc e in
     All-from_members P f (λ s m. q s (Contains-more t f s m) (λ same.
-    letterwise-apart t.word s.word (All-contains (λ s. IsLetterwiseGreater t.word s.word) f s (AllPairs-first (λ s t. IsLetterwiseGreater s.word t.word) t f h.falling) m) (is ∙ sym same)))
+    letterwise-apart t.word s.word (All-contains (λ s. IsLetterwiseGreater t.word s.word) f s
+    (AllPairs-first (λ s t. IsLetterwiseGreater s.word t.word) t f h.falling) m) (is ∙ sym same)))
 
-module _ (p : ℕ) (weights : List ℕ) (relations : List (List Term)) (st : IsSetting p weights relations) (d : ℕ) (G : List (List Term)) (lower : AreLower p weights relations d G) where
+module _ (p : ℕ) (weights : List ℕ) (relations : List (List Term)) (st : IsSetting p weights relations) (d : ℕ) (G : List (List Term))
+    (lower : AreLower p weights relations d G) where
   -- a normal word of the degree has no proper factor that is a leading word
-  normal_none_inside : (w : List ℕ) → IsOver (length weights) w → degree_of weights w ≡ d → IsNormal G w → (v : List ℕ) → IsProperFactor v w → IsLeadingWord p weights relations (degree_of weights v) v → ⊥
+  normal_none_inside : (w : List ℕ) → IsOver (length weights) w → degree_of weights w ≡ d → IsNormal G w → (v : List ℕ) → IsProperFactor v w
+      → IsLeadingWord p weights relations (degree_of weights v) v → ⊥
   normal_none_inside w over deg normal v proper l =
       let i = proper.inside in
       let whole = subst (IsOver (length weights)) i.joined over in
       let over_v = All-back (λ x. x < length weights) i.before v (All-front (λ x. x < length weights) (i.before ++ v) i.after whole) in
-      let less : degree_of weights v < d = omega (arith, deg, ap (degree_of weights) i.joined, degree_of-round weights i.before v i.after, ap length i.joined, length-append (i.before ++ v) i.after, length-append i.before v, shorter v w proper, length-le-degree_of weights st.are_weights i.before, length-le-degree_of weights st.are_weights i.after) in
+      let less : degree_of weights v < d = omega (
+        arith,
+        deg,
+        ap (degree_of weights) i.joined,
+        degree_of-round weights i.before v i.after,
+        ap length i.joined,
+        length-append (i.before ++ v) i.after,
+        length-append i.before v,
+        shorter v w proper,
+        length-le-degree_of weights st.are_weights i.before,
+        length-le-degree_of weights st.are_weights i.after,
+      ) in
       let u = (factor_law p weights relations st v over_v).0 l in
       let g = minimal_led p weights relations st u.0 u.2 in
       let j = u.1 in
-      let within_v : degree_of weights u.0 ≤ degree_of weights v = omega (arith, ap (degree_of weights) j.joined, degree_of-round weights j.before u.0 j.after) in
+      let within_v : degree_of weights u.0 ≤ degree_of weights v = omega
+      (arith, ap (degree_of weights) j.joined, degree_of-round weights j.before u.0 j.after) in
       let there = (lower g.0).1 (degree_of weights u.0, omega (arith, within_v, less), g.1) in
       let k = factor_trans u.0 v w j i in
       normal g.0 u.0 (length k.before) there g.2 (occurs_from_factor u.0 w k)
@@ -68,11 +85,17 @@ module _ (p : ℕ) (weights : List ℕ) (relations : List (List Term)) (st : IsS
   reduced_normal f w h e g v k m lead o =
       let low = (lower g).0 m in
       let deg_v : degree_of weights v ≡ low.0 = lead_degree p weights relations st low.0 g v low.2 lead in
-      (h.minimal w e).none_inside v (record { inside = factor_from_occurs v w k o; other = λ is. omega (arith, ap (degree_of weights) is, deg_v, lead_degree p weights relations st d f w h e, low.1) })
+      (h.minimal w e).none_inside v (record {
+        inside = factor_from_occurs v w k o;
+        other =
+            λ is. omega (arith, ap (degree_of weights) is, deg_v, lead_degree p weights relations st d f w h e, low.1);
+      })
       (record { member = g; inside = subst (λ (n : ℕ). IsInIdeal p weights relations n g) (sym deg_v) low.2.inside; lead = lead })
 
-  module _ (rows : List (List Term)) (columns : List (List ℕ)) (reducers : List (Option (List Term))) (closed : AreClosed p weights relations G d rows columns reducers)
-      (cells : List (List ℕ)) (are_cells : AreContestedRows p columns reducers rows cells) (echelon : List (List ℕ)) (rref : IsRref p (length (contested_words columns reducers)) cells echelon) where
+  module _ (rows : List (List Term)) (columns : List (List ℕ)) (reducers : List (Option (List Term)))
+      (closed : AreClosed p weights relations G d rows columns reducers)
+      (cells : List (List ℕ)) (are_cells : AreContestedRows p columns reducers rows cells) (echelon : List (List ℕ))
+      (rref : IsRref p (length (contested_words columns reducers)) cells echelon) where
     abbrev contested : List (List ℕ)
     contested = contested_words columns reducers
 
@@ -91,7 +114,8 @@ module _ (p : ℕ) (weights : List ℕ) (relations : List (List Term)) (st : IsS
     falling : AllPairs IsLetterwiseGreater contested
     falling = contested_falling columns reducers closed.are_columns.falling
 
-    led_by : (w : List ℕ) → IsLeadingWord p weights relations d w → IsNormal G w → IsLedBy p weights relations st d G lower rows columns reducers closed cells are_cells echelon rref w
+    led_by : (w : List ℕ) → IsLeadingWord p weights relations d w → IsNormal G w →
+        IsLedBy p weights relations st d G lower rows columns reducers closed cells are_cells echelon rref w
     led_by = normal_led p weights relations st d G lower rows columns reducers closed cells are_cells echelon rref
 
     -- the element of a row
@@ -106,7 +130,8 @@ module _ (p : ℕ) (weights : List ℕ) (relations : List (List Term)) (st : IsS
       within = lead_within p m st.modulus cells echelon rref (l, vec r) n
 
       firsts : (lead_of f ≡ Some w) × IsMonic f
-      firsts = element_on-first contested r l within (none_before p m st.modulus cells echelon rref l r n is_row) (one_there p m st.modulus cells echelon rref l r n is_row)
+      firsts = element_on-first contested r l within (none_before p m st.modulus cells echelon rref l r n is_row)
+          (one_there p m st.modulus cells echelon rref l r n is_row)
 
       pub row_lead : lead_of f ≡ Some w
       row_lead = firsts.0
@@ -122,13 +147,15 @@ module _ (p : ℕ) (weights : List ℕ) (relations : List (List Term)) (st : IsS
 
       member : IsMember p weights relations st d (vectors.vector_of p st.modulus f)
       member = same_span _ (List ℕ) _ (spread p st.modulus contested (vec r)) (vectors.vector_of p st.modulus f) (λ y. sym (vector_is y))
-          (combined_member p weights relations st d G lower rows columns reducers closed cells are_cells (vec r) (row_combined p m st.modulus cells echelon rref (l, vec r) n))
+          (combined_member p weights relations st d G lower rows columns reducers closed cells are_cells (vec r)
+          (row_combined p m st.modulus cells echelon rref (l, vec r) n))
 
       inside : IsInIdeal p weights relations d f
       inside =
           let v = vectors.vector_of p st.modulus f in
           let e = element_form p st.modulus weights relations st d v in
-          let is : f ≡ element_from p st.modulus weights relations st d v = same_polynomials p f (element_from p st.modulus weights relations st d v) form e.form residues e.residues
+          let is : f ≡ element_from p st.modulus weights relations st d v =
+          same_polynomials p f (element_from p st.modulus weights relations st d v) form e.form residues e.residues
           (λ y. sym (ap (λ (k : ℕ). k % p) (total_of_element p st.modulus weights relations st d v member y) ∙ mod-mod _ p)) in
           subst (IsInIdeal p weights relations d) (sym is) (element_inside p st.modulus weights relations st d v member)
 
@@ -141,13 +168,17 @@ module _ (p : ℕ) (weights : List ℕ) (relations : List (List Term)) (st : IsS
           by_first : (g : List Term) → lead_of g ≡ Some w → IsInIdeal p weights relations d g → IsOver (length weights) w × (degree_of weights w ≡ d)
           by_first [] e i = cc e
           by_first (t ∷ g) e i =
-              let is : t.word ≡ w = cc e in
-              (subst (IsOver (length weights)) is (All-head (λ (s : Term). IsOver (length weights) s.word) t g i.element.letters), ap (degree_of weights) (sym is) ∙ All-head (λ (s : Term). degree_of weights s.word ≡ d) t g i.element.degree)
+              let is : t.word ≡ w = cc e in (
+                subst (IsOver (length weights)) is (All-head (λ (s : Term). IsOver (length weights) s.word) t g i.element.letters),
+                ap (degree_of weights) (sym is) ∙ All-head (λ (s : Term). degree_of weights s.word ≡ d) t g i.element.degree,
+              )
 
       -- a word of it that is another leading word is that of another row, where this one is 0
       others : All (λ t. IsLeadingWord p weights relations d t.word → ⊥) (below_lead f)
       others = below_all (λ t. IsLeadingWord p weights relations d t.word → ⊥) f w firsts.0 form (λ t k ne lt.
-          let there = All-contains (λ (s : Term). Contains contested s.word) f t (element_on-all (λ (s : Term). Contains contested s.word) contested r (λ i low high some. Contains-get_or contested i [] low)) k in
+          let there = All-contains (λ (s : Term). Contains contested s.word) f t
+          (element_on-all (λ (s : Term). Contains contested s.word) contested r (λ i low high some. Contains-get_or contested i [] low))
+          k in
           let q = led_by t.word lt (normal_at t.word there) in
           let apart : q.row.0 ≢ l = λ same. ne (sym q.word ∙ ap (λ (i : ℕ). get_or contested i []) same) in
           term_there p st.modulus f form residues t k
@@ -182,11 +213,14 @@ module _ (p : ℕ) (weights : List ℕ) (relations : List (List Term)) (st : IsS
         let r = of_lead vec rref.leads echelon q.row q.among in
         let there : Contains es (q.row.0, vec r.0) = subst (Contains es) (λ i. (q.row.0, r.2 i)) q.among in
         let own = row_reduced q.row.0 r.0 there (is_row r.0 r.1) in
-        let same : element_on contested r.0 ≡ g = reduced_one p weights relations st d (element_on contested r.0) g x.0 own h (row_lead q.row.0 r.0 there (is_row r.0 r.1) ∙ ap Some q.word) x.1 in
+        let same : element_on contested r.0 ≡ g = reduced_one p weights relations st d (element_on contested r.0) g x.0 own h
+        (row_lead q.row.0 r.0 there (is_row r.0 r.1) ∙ ap Some q.word) x.1 in
         subst (Contains (map (element_on contested) echelon)) same (Contains-map (element_on contested) echelon r.0 r.1)
 
     -- a later row leads at a later column, which has a smaller word
-    falling_from : (ls : List ℕ) (rs : List (List ℕ)) → length ls ≡ length rs → ((l : ℕ) (r : List ℕ) → Contains (zip ls (map vec rs)) (l, vec r) → Contains rs r → (l < m) × (lead_of (element_on contested r) ≡ Some (get_or contested l [])))
+    falling_from : (ls : List ℕ) (rs : List (List ℕ)) → length ls ≡ length rs →
+        ((l : ℕ) (r : List ℕ) → Contains (zip ls (map vec rs)) (l, vec r) → Contains rs r →
+        (l < m) × (lead_of (element_on contested r) ≡ Some (get_or contested l [])))
         → AllPairs (λ (a b : ℕ × N). a.0 < b.0) (zip ls (map vec rs)) → AllPairs HasGreaterLead (map (element_on contested) rs)
     falling_from [] [] e h rising = AllPairs-nil HasGreaterLead
     falling_from [] (r ∷ rs) e h rising = absurd (omega (arith, e))
@@ -199,17 +233,27 @@ module _ (p : ℕ) (weights : List ℕ) (relations : List (List Term)) (st : IsS
         let q = with_lead vec ls rs rest s.0 s.1 in
         let own = h l r (Contains-first (l, vec r) (zip ls (map vec rs))) (Contains-first r rs) in
         let other = h q.0 s.0 (Contains-more (l, vec r) (zip ls (map vec rs)) (q.0, vec s.0) q.1) (Contains-more r rs s.0 s.1) in
-        let later : l < q.0 = All-contains (λ (b : ℕ × N). l < b.0) (zip ls (map vec rs)) (q.0, vec s.0) (AllPairs-first (λ (a b : ℕ × N). a.0 < b.0) (l, vec r) (zip ls (map vec rs)) rising) q.1 in
+        let later : l < q.0 = All-contains (λ (b : ℕ × N). l < b.0) (zip ls (map vec rs)) (q.0, vec s.0)
+        (AllPairs-first (λ (a b : ℕ × N). a.0 < b.0) (l, vec r) (zip ls (map vec rs)) rising) q.1 in
         subst (HasGreaterLead (element_on contested r)) s.2
-        (record { of_f = get_or contested l []; of_g = get_or contested q.0 []; leads_f = own.1; leads_g = other.1; greater = falling l q.0 [] later other.0 })))
+        (record {
+          of_f = get_or contested l [];
+          of_g = get_or contested q.0 [];
+          leads_f = own.1;
+          leads_g = other.1;
+          greater = falling l q.0 [] later other.0;
+        })))
         (falling_from ls rs rest (λ k s c n. h k s (Contains-more (l, vec r) (zip ls (map vec rs)) (k, vec s) c) (Contains-more r rs s n))
         (AllPairs-rest (λ (a b : ℕ × N). a.0 < b.0) (l, vec r) (zip ls (map vec rs)) rising))
 
     pub row_basis : IsReducedBasis p weights relations d (map (element_on contested) echelon)
     row_basis = record {
       exactly = λ g. (listed_reduced g, reduced_listed g);
-      falling = falling_from rref.leads echelon rref.count (λ l r n k. (lead_within p m st.modulus cells echelon rref (l, vec r) n, row_lead l r n (is_row r k))) (leads_rising p m st.modulus cells echelon rref);
+      falling = falling_from rref.leads echelon rref.count (λ l r n k.
+          (lead_within p m st.modulus cells echelon rref (l, vec r) n, row_lead l r n (is_row r k)))
+          (leads_rising p m st.modulus cells echelon rref);
     }
 
 pub rows_give_basis : RowsGiveBasis
-rows_give_basis p weights relations st d G lower rows columns reducers closed cells are_cells echelon rref = row_basis p weights relations st d G lower rows columns reducers closed cells are_cells echelon rref
+rows_give_basis p weights relations st d G lower rows columns reducers closed cells are_cells echelon rref =
+    row_basis p weights relations st d G lower rows columns reducers closed cells are_cells echelon rref

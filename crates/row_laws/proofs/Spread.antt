@@ -1,5 +1,6 @@
 -- Vectors over numbered columns as vectors over words.
-use Rattle.std.proofs.Common.{ap₂, ◌≡◌, ◌<◌, ◌==◌, ℕ, zero, suc, Bool, true, false, cond, List, [], ◌∷◌, AllPairs, map, length, get_or, refl, sym, ap, ◌∙◌, inl, inr, arith, subst, bytes_eq, add-zero}
+use Rattle.std.proofs.Common.{ap₂, ◌≡◌, ◌<◌, ◌==◌, ℕ, zero, suc, Bool, true, false, cond, List, [], ◌∷◌, AllPairs, map, length, get_or, refl, sym, ap}
+use Rattle.std.proofs.Common.{◌∙◌, inl, inr, arith, subst, bytes_eq, add-zero}
 use Rattle.std.specs.List.{Contains}
 use Rattle.std.proofs.Math.Nat.{mod-eq_of_lt}
 use Rattle.std.proofs.lemmas.Bool.{cases_Bool, eqb-true}
@@ -47,7 +48,8 @@ module _ (p : ℕ) (fm : IsFieldModulus p) where
   pub spread-absent : (xs : List (List ℕ)) (u : N) (w : List ℕ) → (Contains xs w → ⊥) → spread xs u w ≡ K.zero
   spread-absent [] u w h = refl
   spread-absent (x ∷ xs) u w h =
-      ap (λ (b : Bool). K.add (cond b (u zero) K.zero) (spread xs (λ k. u (suc k)) w)) (not_here x w (λ e. h (subst (Contains (x ∷ xs)) e (Contains-first x xs))))
+      ap (λ (b : Bool). K.add (cond b (u zero) K.zero) (spread xs (λ k. u (suc k)) w))
+      (not_here x w (λ e. h (subst (Contains (x ∷ xs)) e (Contains-first x xs))))
       ∙ zero_add K _ ∙ spread-absent xs (λ k. u (suc k)) w (λ m. h (Contains-more x xs w m))
 
   -- at the word of a column it has the entry there
@@ -55,10 +57,13 @@ module _ (p : ℕ) (fm : IsFieldModulus p) where
   spread-at [] u k h lt = absurd (omega (arith, lt))
   spread-at (x ∷ xs) u zero h lt =
       ap₂ (λ (b : Bool) (r : Residue p). K.add (cond b (u zero) K.zero) r) (here x x refl)
-      (spread-absent xs (λ k. u (suc k)) x (λ m. letterwise-apart x x (subst (IsLetterwiseGreater x) m.2 (AllPairs-first IsLetterwiseGreater x xs h m.0 x m.1)) refl))
+      (spread-absent xs (λ k. u (suc k)) x (λ m. letterwise-apart x x
+      (subst (IsLetterwiseGreater x) m.2 (AllPairs-first IsLetterwiseGreater x xs h m.0 x m.1)) refl))
       ∙ K.add_zero (u zero)
   spread-at (x ∷ xs) u (suc k) h lt =
-      ap (λ (b : Bool). K.add (cond b (u zero) K.zero) (spread xs (λ k. u (suc k)) (get_or xs k []))) (not_here x (get_or xs k []) (letterwise-apart x (get_or xs k []) (AllPairs-first IsLetterwiseGreater x xs h k [] (omega (arith, lt)))))
+      ap (λ (b : Bool). K.add (cond b (u zero) K.zero) (spread xs (λ k. u (suc k)) (get_or xs k [])))
+      (not_here x (get_or xs k []) (letterwise-apart x (get_or xs k [])
+      (AllPairs-first IsLetterwiseGreater x xs h k [] (omega (arith, lt)))))
       ∙ zero_add K _ ∙ spread-at xs (λ k. u (suc k)) k (AllPairs-rest IsLetterwiseGreater x xs h) (omega (arith, lt))
 
   total_at-term : (x : List ℕ) (a : ℕ) (w : List ℕ) → total_at (term_at x a) w ≡ cond (bytes_eq x w) a 0
@@ -90,12 +95,15 @@ module _ (p : ℕ) (fm : IsFieldModulus p) where
   swapped : (a b c e : Residue p) → K.add (K.add a b) (K.add c e) ≡ K.add (K.add a c) (K.add b e)
   swapped a b c e = K.add_assoc a b (K.add c e) ∙ ap (K.add a) (add_left_comm K b c e) ∙ sym (K.add_assoc a c (K.add b e))
 
-  pub spread-linear : (xs : List (List ℕ)) (a : Residue p) (u v : N) (w : List ℕ) → spread xs (λ k. K.add (K.mul a (u k)) (v k)) w ≡ K.add (K.mul a (spread xs u w)) (spread xs v w)
+  pub spread-linear : (xs : List (List ℕ)) (a : Residue p) (u v : N) (w : List ℕ) →
+      spread xs (λ k. K.add (K.mul a (u k)) (v k)) w ≡ K.add (K.mul a (spread xs u w)) (spread xs v w)
   spread-linear [] a u v w = sym (ap (λ (n : Residue p). K.add n K.zero) (mul_zero K a) ∙ K.add_zero K.zero)
   spread-linear (x ∷ xs) a u v w =
       ap₂ K.add (by_test (bytes_eq x w)) (spread-linear xs a (λ k. u (suc k)) (λ k. v (suc k)) w)
-      ∙ swapped (K.mul a (cond (bytes_eq x w) (u zero) K.zero)) (cond (bytes_eq x w) (v zero) K.zero) (K.mul a (spread xs (λ k. u (suc k)) w)) (spread xs (λ k. v (suc k)) w)
-      ∙ ap (λ (n : Residue p). K.add n (K.add (cond (bytes_eq x w) (v zero) K.zero) (spread xs (λ k. v (suc k)) w))) (sym (K.mul_add a (cond (bytes_eq x w) (u zero) K.zero) (spread xs (λ k. u (suc k)) w)))
+      ∙ swapped (K.mul a (cond (bytes_eq x w) (u zero) K.zero)) (cond (bytes_eq x w) (v zero) K.zero)
+      (K.mul a (spread xs (λ k. u (suc k)) w)) (spread xs (λ k. v (suc k)) w)
+      ∙ ap (λ (n : Residue p). K.add n (K.add (cond (bytes_eq x w) (v zero) K.zero) (spread xs (λ k. v (suc k)) w)))
+      (sym (K.mul_add a (cond (bytes_eq x w) (u zero) K.zero) (spread xs (λ k. u (suc k)) w)))
     where
       by_test : (b : Bool) → cond b (K.add (K.mul a (u zero)) (v zero)) K.zero ≡ K.add (K.mul a (cond b (u zero) K.zero)) (cond b (v zero) K.zero)
       by_test true = refl
@@ -109,7 +117,8 @@ module _ (p : ℕ) (fm : IsFieldModulus p) where
   spread-sum xs (c ∷ cs) w = spread-linear xs c.0 c.1 (sum_of K ℕ cs) w ∙ ap (K.add (K.mul c.0 (spread xs c.1 w))) (spread-sum xs cs w)
 
   -- a member of a span goes to one of the span of what the members of P go to
-  pub spread-member : (xs : List (List ℕ)) (P : N → Type 0) (Q : V → Type 0) → ((g : N) → P g → IsInSpan K (List ℕ) Q (spread xs g)) → (v : N) → IsInSpan K ℕ P v → IsInSpan K (List ℕ) Q (spread xs v)
+  pub spread-member : (xs : List (List ℕ)) (P : N → Type 0) (Q : V → Type 0) → ((g : N) → P g → IsInSpan K (List ℕ) Q (spread xs g)) →
+      (v : N) → IsInSpan K ℕ P v → IsInSpan K (List ℕ) Q (spread xs v)
   spread-member xs P Q h v s =
       IsInSpan-trans K (List ℕ) (λ g. (u : N) × P u × (g ≡ spread xs u)) Q (λ g m. subst (IsInSpan K (List ℕ) Q) (sym m.2) (h m.0 m.1)) (spread xs v)
       (record {
@@ -132,5 +141,6 @@ module _ (p : ℕ) (fm : IsFieldModulus p) where
   pub spread-residues : (xs : List (List ℕ)) (u : N) (w : List ℕ) → spread xs (vector p fm (residues_of xs u)) w ≡ spread xs u w
   spread-residues [] u w = refl
   spread-residues (x ∷ xs) u w =
-      let first : vector p fm (residues_of (x ∷ xs) u) zero ≡ u zero = same_residue p (vector p fm (residues_of (x ∷ xs) u) zero) (u zero) (mod-eq_of_lt (u zero).1) in
+      let first : vector p fm (residues_of (x ∷ xs) u) zero ≡ u zero =
+      same_residue p (vector p fm (residues_of (x ∷ xs) u) zero) (u zero) (mod-eq_of_lt (u zero).1) in
       ap₂ K.add (ap (λ (r : Residue p). cond (bytes_eq x w) r K.zero) first) (spread-residues xs (λ k. u (suc k)) w)

@@ -18,7 +18,8 @@ use Rattle.ideal_laws.specs.Overlaps.{AreLower}
 use Rattle.ideal_laws.proofs.Vectors as vectors
 use Rattle.row_laws.proofs.Reducers.{reducer_above, reducer_one, reducer_there}
 
-module _ (p : ℕ) (weights : List ℕ) (relations : List (List Term)) (st : IsSetting p weights relations) (d : ℕ) (G : List (List Term)) (lower : AreLower p weights relations d G) where
+module _ (p : ℕ) (weights : List ℕ) (relations : List (List Term)) (st : IsSetting p weights relations) (d : ℕ) (G : List (List Term))
+    (lower : AreLower p weights relations d G) where
   abbrev K : Field
   K = vectors.K p st.modulus
 
@@ -57,7 +58,8 @@ module _ (p : ℕ) (weights : List ℕ) (relations : List (List Term)) (st : IsS
       sym (K.add_assoc (K.mul a t) (K.mul b t) r)
       ∙ ap (λ (n : Residue p). K.add n r) (ap₂ K.add (K.mul_comm a t) (K.mul_comm b t) ∙ sym (K.mul_add t a b) ∙ K.mul_comm t (K.add a b))
 
-  split_sum : (x : List ℕ) (xs : List (List ℕ)) (cs : List (Residue p × V)) → All (λ c. IsReducerOf (x ∷ xs) c.1) cs → Sp xs (sum_of K (List ℕ) cs) ⊎ HasPart x xs (sum_of K (List ℕ) cs)
+  split_sum : (x : List ℕ) (xs : List (List ℕ)) (cs : List (Residue p × V)) → All (λ c. IsReducerOf (x ∷ xs) c.1) cs →
+      Sp xs (sum_of K (List ℕ) cs) ⊎ HasPart x xs (sum_of K (List ℕ) cs)
   split_sum x xs [] each = inl (IsInSpan-zero K (List ℕ) (IsReducerOf xs))
   split_sum x xs (c ∷ cs) each =
       let h = All-head (λ (e : Residue p × V). IsReducerOf (x ∷ xs) e.1) c cs each in
@@ -125,7 +127,8 @@ module _ (p : ℕ) (weights : List ℕ) (relations : List (List Term)) (st : IsS
   ]
 
   -- a sum for words below x is 0 at x and above
-  above_all_words : (x : List ℕ) (xs : List (List ℕ)) → AllPairs IsLetterwiseGreater (x ∷ xs) → (v : V) → Sp xs v → (y : List ℕ) → ((y ≡ x) ⊎ IsLetterwiseGreater y x) → v y ≡ K.zero
+  above_all_words : (x : List ℕ) (xs : List (List ℕ)) → AllPairs IsLetterwiseGreater (x ∷ xs) → (v : V) → Sp xs v → (y : List ℕ) →
+      ((y ≡ x) ⊎ IsLetterwiseGreater y x) → v y ≡ K.zero
   above_all_words x xs falling v s y from = IsInSpan-zero_at K (List ℕ) (IsReducerOf xs) y (λ g h.
       let below : IsLetterwiseGreater x h.word = All-contains (IsLetterwiseGreater x) xs h.word (AllPairs-first IsLetterwiseGreater x xs falling) h.within in
       let above : IsLetterwiseGreater y h.word = elim from [
@@ -136,7 +139,8 @@ module _ (p : ℕ) (weights : List ℕ) (relations : List (List Term)) (st : IsS
 
   -- by the words from the greatest on
   pub zero_from_normal : (xs : List (List ℕ)) → AllPairs IsLetterwiseGreater xs → (v : V) → Sp xs v → (w : List ℕ) → Contains xs w → IsNormal G w
-      → ((x : List ℕ) (g : List Term) → IsReducer G x g → IsLetterwiseGreater x w → v x ≡ K.zero) → (y : List ℕ) → ((y ≡ w) ⊎ IsLetterwiseGreater y w) → v y ≡ K.zero
+      → ((x : List ℕ) (g : List Term) → IsReducer G x g → IsLetterwiseGreater x w → v x ≡ K.zero) → (y : List ℕ) →
+      ((y ≡ w) ⊎ IsLetterwiseGreater y w) → v y ≡ K.zero
   zero_from_normal [] falling v s w m normal none y from = absurd (Contains-none w m)
   zero_from_normal (x ∷ xs) falling v s w m normal none y from = elim (Contains-cases x xs w m) [
     | inl is ↦ elim (split x xs v s) [
@@ -151,10 +155,14 @@ module _ (p : ℕ) (weights : List ℕ) (relations : List (List Term)) (st : IsS
               let greater : IsLetterwiseGreater x w = All-contains (IsLetterwiseGreater x) xs w (AllPairs-first IsLetterwiseGreater x xs falling) later in
               let gone : q.rest x ≡ K.zero = above_all_words x xs falling q.rest q.spanned x (inl refl) in
               let factor : q.factor ≡ K.zero =
-              sym (q.sum x ∙ ap₂ (λ (t r : Residue p). K.add (K.mul q.factor t) r) (reducer_there p weights relations st d G lower x q.reducer q.over q.degree q.is_reducer) gone ∙ K.add_zero _ ∙ K.mul_one q.factor)
+              sym (q.sum x ∙ ap₂ (λ (t r : Residue p). K.add (K.mul q.factor t) r)
+              (reducer_there p weights relations st d G lower x q.reducer q.over q.degree q.is_reducer) gone ∙ K.add_zero _
+              ∙ K.mul_one q.factor)
               ∙ none x q.reducer q.is_reducer greater in
               let same : (z : List ℕ) → q.rest z ≡ v z = λ z.
-              sym (q.sum z ∙ ap (λ (a : Residue p). K.add (K.mul a (vec q.reducer z)) (q.rest z)) factor ∙ ap (λ (n : Residue p). K.add n (q.rest z)) (K.mul_comm K.zero (vec q.reducer z) ∙ mul_zero K (vec q.reducer z)) ∙ zero_add K (q.rest z)) in
+              sym (q.sum z ∙ ap (λ (a : Residue p). K.add (K.mul a (vec q.reducer z)) (q.rest z)) factor
+              ∙ ap (λ (n : Residue p). K.add n (q.rest z)) (K.mul_comm K.zero (vec q.reducer z) ∙ mul_zero K (vec q.reducer z))
+              ∙ zero_add K (q.rest z)) in
               rest (same_span K (List ℕ) (IsReducerOf xs) q.rest v same q.spanned) w later normal none y from
         ]
   ]

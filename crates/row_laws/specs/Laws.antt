@@ -9,16 +9,24 @@ use Rattle.back_reduce.specs.Rref.{IsRref}
 use Rattle.row_laws.specs.Contested.{AreContestedRows, IsContestedRow}
 use Rattle.free_poly.specs.Poly.{element_on}
 
--- over the reduced elements of lower degrees, each row of a degree leaves exactly one list of residues at the contested columns
+-- over the reduced elements of lower degrees, each row of a degree leaves exactly one list of residues at the
+-- contested columns
 abbrev pub LeavesOneRow : Type 0
-LeavesOneRow = (p : ℕ) (weights : List ℕ) (relations : List (List Term)) → IsSetting p weights relations → (d : ℕ) (G : List (List Term)) → AreLower p weights relations d G
-    → (rows : List (List Term)) (columns : List (List ℕ)) (reducers : List (Option (List Term))) → AreClosed p weights relations G d rows columns reducers
+LeavesOneRow = (p : ℕ) (weights : List ℕ) (relations : List (List Term)) → IsSetting p weights relations →
+    (d : ℕ) (G : List (List Term)) →
+    AreLower p weights relations d G
+    → (rows : List (List Term)) (columns : List (List ℕ)) (reducers : List (Option (List Term))) →
+    AreClosed p weights relations G d rows columns reducers
     → (row : List Term) → Contains rows row → IsOne (IsContestedRow p columns reducers row)
 
--- over the reduced elements of lower degrees, the elements of the reduced row echelon form of the contested rows are the reduced basis of the degree
+-- over the reduced elements of lower degrees, the elements of the reduced row echelon form of the contested rows are
+-- the reduced basis of the degree
 abbrev pub RowsGiveBasis : Type 0
-RowsGiveBasis = (p : ℕ) (weights : List ℕ) (relations : List (List Term)) → IsSetting p weights relations → (d : ℕ) (G : List (List Term)) → AreLower p weights relations d G
-    → (rows : List (List Term)) (columns : List (List ℕ)) (reducers : List (Option (List Term))) → AreClosed p weights relations G d rows columns reducers
+RowsGiveBasis = (p : ℕ) (weights : List ℕ) (relations : List (List Term)) → IsSetting p weights relations →
+    (d : ℕ) (G : List (List Term)) →
+    AreLower p weights relations d G
+    → (rows : List (List Term)) (columns : List (List ℕ)) (reducers : List (Option (List Term))) →
+    AreClosed p weights relations G d rows columns reducers
     → (cells : List (List ℕ)) → AreContestedRows p columns reducers rows cells
     → (echelon : List (List ℕ)) → IsRref p (length (contested_words columns reducers)) cells echelon
     → IsReducedBasis p weights relations d (map (element_on (contested_words columns reducers)) echelon)

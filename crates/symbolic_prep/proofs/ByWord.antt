@@ -1,5 +1,6 @@
 -- Reducers that are listed after the walk, by the columns of their words.
-use Rattle.std.proofs.Common.{◌≡◌, ◌≢◌, ◌<◌, ◌+◌, ℕ, zero, suc, List, [], ◌∷◌, ◌++◌, length, take, get_or, refl, sym, ap, ◌∙◌, arith, All, AllPairs, Option, Some, None, subst, append_assoc, length-append}
+use Rattle.std.proofs.Common.{◌≡◌, ◌≢◌, ◌<◌, ◌+◌, ℕ, zero, suc, List, [], ◌∷◌, ◌++◌, length, take, get_or, refl, sym, ap, ◌∙◌, arith, All, AllPairs}
+use Rattle.std.proofs.Common.{Option, Some, None, subst, append_assoc, length-append}
 use Rattle.std.specs.List.{AllZip, Contains, slice_get}
 use Rattle.std.proofs.lemmas.List.{append-nil, get_or_default, take_more}
 use Rattle.std.proofs.lemmas.List.Elements.{All-head, All-tail}
@@ -22,21 +23,29 @@ pub falling_apart : (columns : List (List ℕ)) → AllPairs IsLetterwiseGreater
 falling_apart columns falling i j d before within = letterwise-apart (get_or columns i d) (get_or columns j d) (falling i j d before within)
 
 -- one more term
-pub listed_push : (columns : List (List ℕ)) (n r m q : List ℕ) (ts : List Term) (i column : ℕ) (t : Term) → AreListed columns n r m q (take i ts) → i < length ts → t ≡ get_or ts i t → slice_get columns column ≡ Some t.word
+pub listed_push : (columns : List (List ℕ)) (n r m q : List ℕ) (ts : List Term) (i column : ℕ) (t : Term) →
+    AreListed columns n r m q (take i ts) → i < length ts → t ≡ get_or ts i t → slice_get columns column ≡ Some t.word
     → AreListed columns n r (m ++ column ∷ []) (q ++ t.coefficient ∷ []) (take (i + 1) ts)
 listed_push columns n r m q ts i column t h lt is at = record {
   ns = h.ns ++ column ∷ [];
   rs = h.rs ++ t.coefficient ∷ [];
   numbers_are = ap (λ (xs : List ℕ). xs ++ column ∷ []) h.numbers_are ∙ append_assoc n h.ns (column ∷ []);
   residues_are = ap (λ (xs : List ℕ). xs ++ t.coefficient ∷ []) h.residues_are ∙ append_assoc r h.rs (t.coefficient ∷ []);
-  are_terms = subst (AreTerms columns (h.ns ++ column ∷ []) (h.rs ++ t.coefficient ∷ [])) (sym (take_more ts i t lt ∙ ap (λ (x : Term). take i ts ++ x ∷ []) (sym is)))
+  are_terms = subst (AreTerms columns (h.ns ++ column ∷ []) (h.rs ++ t.coefficient ∷ []))
+      (sym (take_more ts i t lt ∙ ap (λ (x : Term). take i ts ++ x ∷ []) (sym is)))
       (AreTerms-push columns h.ns h.rs (take i ts) column t.coefficient t h.are_terms at refl);
 }
 
 -- the terms stand behind all others, as many coefficients as numbers
 module _ (columns : List (List ℕ)) (n r m q : List ℕ) (f : List Term) (h : AreListed columns n r m q f) where
   pub listed_longer : AreLonger n r m q
-  listed_longer = record { ns = h.ns; rs = h.rs; numbers_are = h.numbers_are; residues_are = h.residues_are; sizes = omega (arith, AreTerms-length columns h.ns h.rs f h.are_terms) }
+  listed_longer = record {
+    ns = h.ns;
+    rs = h.rs;
+    numbers_are = h.numbers_are;
+    residues_are = h.residues_are;
+    sizes = omega (arith, AreTerms-length columns h.ns h.rs f h.are_terms);
+  }
 
   pub listed_stands : length n ≡ length r → StandsAt columns m q (length n) (length m) f
   listed_stands same = record {
@@ -57,26 +66,39 @@ module _ (columns : List (List ℕ)) (n r m q : List ℕ) (f : List Term) (h : A
   }
 
 -- one more reducer
-pub spans_push : (columns : List (List ℕ)) → AllPairs IsLetterwiseGreater columns → (n r m q : List ℕ) (spans : List (Option Span)) (reducers : List (Option (List Term))) (i : ℕ) (span : Option Span) (o : Option (List Term))
-    → AllZip (IsSpanOf columns n r) spans (take i reducers) → AreLonger n r m q → i < length reducers → o ≡ get_or reducers i o → IsSpanOf columns m q span o → AllZip (IsSpanOf columns m q) (spans ++ span ∷ []) (take (i + 1) reducers)
+pub spans_push : (columns : List (List ℕ)) → AllPairs IsLetterwiseGreater columns →
+    (n r m q : List ℕ) (spans : List (Option Span)) (reducers : List (Option (List Term))) (i : ℕ) (span : Option Span)
+    (o : Option (List Term))
+    → AllZip (IsSpanOf columns n r) spans (take i reducers) → AreLonger n r m q → i < length reducers → o ≡ get_or reducers i o →
+    IsSpanOf columns m q span o → AllZip (IsSpanOf columns m q) (spans ++ span ∷ []) (take (i + 1) reducers)
 spans_push columns falling n r m q spans reducers i span o zipped longer lt is stands =
-    subst (AllZip (IsSpanOf columns m q) (spans ++ span ∷ [])) (sym (take_more reducers i o lt ∙ ap (λ (x : Option (List Term)). take i reducers ++ x ∷ []) (sym is)))
-    (AllZip-push (IsSpanOf columns m q) spans (take i reducers) span o (spans-more columns columns [] n r m q (grown_none columns (falling_apart columns falling)) longer spans (take i reducers) zipped) stands)
+    subst (AllZip (IsSpanOf columns m q) (spans ++ span ∷ [])) (sym
+    (take_more reducers i o lt ∙ ap (λ (x : Option (List Term)). take i reducers ++ x ∷ []) (sym is)))
+    (AllZip-push (IsSpanOf columns m q) spans (take i reducers) span o
+    (spans-more columns columns [] n r m q (grown_none columns (falling_apart columns falling)) longer spans (take i reducers) zipped)
+    stands)
 
 -- the words of the reducers of a closure are columns
-on_columns : (G : List (List Term)) (words columns : List (List ℕ)) → AreColumns G words columns → (cs : List (List ℕ)) (reducers : List (Option (List Term))) → All (Contains columns) cs → AllZip (HasReducer G) cs reducers → All (IsOnColumns columns) reducers
+on_columns : (G : List (List Term)) (words columns : List (List ℕ)) → AreColumns G words columns →
+    (cs : List (List ℕ)) (reducers : List (Option (List Term))) → All (Contains columns) cs → AllZip (HasReducer G) cs reducers →
+    All (IsOnColumns columns) reducers
 on_columns G words columns are cs reducers among zipped i d within = here cs reducers i d among zipped within
   where
     own : (w : List ℕ) (o : Option (List Term)) → Contains columns w → HasReducer G w o → IsOnColumns columns o
     own w None m h = tt
-    own w (Some f) m h = λ k e inside. (are.exactly (get_or f k e).word).1 (brought w (get_or f k e).word f ((are.exactly w).0 m) h (Contains-map (λ (t : Term). t.word) f (get_or f k e) (k, inside, get_or_default f k (get_or f k e) e inside)))
+    own w (Some f) m h = λ k e inside. (are.exactly (get_or f k e).word).1
+        (brought w (get_or f k e).word f ((are.exactly w).0 m) h (Contains-map (λ (t : Term). t.word) f (get_or f k e)
+        (k, inside, get_or_default f k (get_or f k e) e inside)))
 
-    here : (cs : List (List ℕ)) (reducers : List (Option (List Term))) (i : ℕ) (d : Option (List Term)) → All (Contains columns) cs → AllZip (HasReducer G) cs reducers → i < length reducers → IsOnColumns columns (get_or reducers i d)
+    here : (cs : List (List ℕ)) (reducers : List (Option (List Term))) (i : ℕ) (d : Option (List Term)) → All (Contains columns) cs →
+        AllZip (HasReducer G) cs reducers → i < length reducers → IsOnColumns columns (get_or reducers i d)
     here [] [] i d a z lt = absurd (omega (arith, lt))
     here [] (o ∷ os) i d a z lt = absurd z
     here (w ∷ ws) [] i d a z lt = absurd z
     here (w ∷ ws) (o ∷ os) zero d a z lt = own w o (All-head (Contains columns) w ws a) z.0
     here (w ∷ ws) (o ∷ os) (suc i) d a z lt = here ws os i d (All-tail (Contains columns) w ws a) z.1 (omega (arith, lt))
 
-pub closure_on_columns : (G : List (List Term)) (words columns : List (List ℕ)) (reducers : List (Option (List Term))) → AreColumns G words columns → AllZip (HasReducer G) columns reducers → All (IsOnColumns columns) reducers
-closure_on_columns G words columns reducers are zipped = on_columns G words columns are columns reducers (All-from_members (Contains columns) columns (λ w m. m)) zipped
+pub closure_on_columns : (G : List (List Term)) (words columns : List (List ℕ)) (reducers : List (Option (List Term))) →
+    AreColumns G words columns → AllZip (HasReducer G) columns reducers → All (IsOnColumns columns) reducers
+closure_on_columns G words columns reducers are zipped = on_columns G words columns are columns reducers
+    (All-from_members (Contains columns) columns (λ w m. m)) zipped

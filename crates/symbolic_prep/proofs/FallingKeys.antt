@@ -50,7 +50,8 @@ module _ (bits room : ℕ) (keys : List ℕ) (t : IsTable bits room keys) (pairs
         let number : get_or (map (λ p. p.1) pairs) c 0 ≡ p.1 = get_or-map (λ (p : ℕ × ℕ). p.1) pairs c (0, 0) 0 inside in
         let first : slice_get (map word keys) p.1 ≡ Some (word p.0) = slice_get-get_or (map word keys) p.1 [] (omega (arith, within, length-map keys word))
         ∙ ap Some (get_or-map word keys p.1 0 [] within ∙ ap word (get_or_from_slice_get keys p.1 p.0 0 here)) in
-        let second : slice_get (map word sorted) c ≡ Some (word p.0) = slice_get-get_or (map word sorted) c [] (omega (arith, among_sorted, length-map sorted word))
+        let second : slice_get (map word sorted) c ≡ Some (word p.0) =
+        slice_get-get_or (map word sorted) c [] (omega (arith, among_sorted, length-map sorted word))
         ∙ ap Some (get_or-map word sorted c 0 [] among_sorted ∙ ap word (get_or-map (λ (p : ℕ × ℕ). p.0) pairs c (0, 0) 0 inside)) in
         ap (slice_get (map word keys)) number ∙ first ∙ sym second;
   }
@@ -74,9 +75,12 @@ module _ (bits room : ℕ) (keys : List ℕ) (t : IsTable bits room keys) (pairs
         let a = get_or sorted i 0 in
         let b = get_or sorted j 0 in
         let low : i < length sorted = omega (arith, before, inside) in
-        let lt : packed (2 ^ bits) room (word a) < packed (2 ^ bits) room (word b) = omega (arith, key_of a (keys_each i 0 low), key_of b (keys_each j 0 inside), keys_rise i j 0 before inside) in
-        let falls = falls_packed one.weights one.are (2 ^ bits) room one.d (pow_pos bits) (word a) (word b) (has_room a (among i 0 low) (keys_each i 0 low)) (has_room b (among j 0 inside) (keys_each j 0 inside)) lt in
-        subst (IsLetterwiseGreater (get_or (map word sorted) i d)) (sym (get_or-map word sorted j 0 d inside)) (subst (λ (x : List ℕ). IsLetterwiseGreater x (word b)) (sym (get_or-map word sorted i 0 d low)) falls)
+        let lt : packed (2 ^ bits) room (word a) < packed (2 ^ bits) room (word b) =
+        omega (arith, key_of a (keys_each i 0 low), key_of b (keys_each j 0 inside), keys_rise i j 0 before inside) in
+        let falls = falls_packed one.weights one.are (2 ^ bits) room one.d (pow_pos bits) (word a) (word b)
+        (has_room a (among i 0 low) (keys_each i 0 low)) (has_room b (among j 0 inside) (keys_each j 0 inside)) lt in
+        subst (IsLetterwiseGreater (get_or (map word sorted) i d)) (sym (get_or-map word sorted j 0 d inside))
+        (subst (λ (x : List ℕ). IsLetterwiseGreater x (word b)) (sym (get_or-map word sorted i 0 d low)) falls)
 
     pub packed_words : ArePackedWords bits room (map (λ p. p.0) pairs)
     packed_words = record {
@@ -85,5 +89,8 @@ module _ (bits room : ℕ) (keys : List ℕ) (t : IsTable bits room keys) (pairs
       falling = words_fall;
     }
 
-  pub words_in_order : (order columns : List ℕ) (columns_words : List (List ℕ)) → order ≡ map (λ p. p.1) pairs → columns ≡ map (λ p. p.0) pairs → columns_words ≡ map (unpacked (2 ^ bits) room) columns → IsOrder (map (unpacked (2 ^ bits) room) keys) order columns_words
-  words_in_order order columns columns_words orders sorts are = subst (λ (ns : List ℕ). IsOrder (map word keys) ns columns_words) (sym orders) (subst (IsOrder (map word keys) (map (λ p. p.1) pairs)) (sym (are ∙ ap (map word) sorts)) keys_order)
+  pub words_in_order : (order columns : List ℕ) (columns_words : List (List ℕ)) → order ≡ map (λ p. p.1) pairs →
+      columns ≡ map (λ p. p.0) pairs → columns_words ≡ map (unpacked (2 ^ bits) room) columns →
+      IsOrder (map (unpacked (2 ^ bits) room) keys) order columns_words
+  words_in_order order columns columns_words orders sorts are = subst (λ (ns : List ℕ). IsOrder (map word keys) ns columns_words)
+      (sym orders) (subst (IsOrder (map word keys) (map (λ p. p.1) pairs)) (sym (are ∙ ap (map word) sorts)) keys_order)

@@ -1,5 +1,6 @@
 -- A walk by number, with its words put in order.
-use Rattle.std.proofs.Common.{◌≡◌, ◌≢◌, ◌<◌, ◌≤◌, ◌+◌, ℕ, List, [], ◌∷◌, ◌++◌, length, map, take, drop, get_or, refl, sym, ap, ◌∙◌, arith, All, AllPairs, Option, Some, None, subst, length-append}
+use Rattle.std.proofs.Common.{◌≡◌, ◌≢◌, ◌<◌, ◌≤◌, ◌+◌, ℕ, List, [], ◌∷◌, ◌++◌, length, map, take, drop, get_or, refl, sym, ap, ◌∙◌, arith, All}
+use Rattle.std.proofs.Common.{AllPairs, Option, Some, None, subst, length-append}
 use Rattle.std.specs.List.{AllZip, Contains, flat_map, range_with_len, slice_get, sum_by}
 use Rattle.std.specs.List.Sorted.{IsPermutation}
 use Rattle.std.proofs.lemmas.List.{append-nil, drop_all, get_or-map, get_or_default, length-map, map-append, take_all}
@@ -44,16 +45,19 @@ by_numbers xs d = sym (fill_by_all (λ n. get_or xs n d) xs (length xs) d refl (
 terms-sum : (os : List (Option (List Term))) → terms_in (reducers_in os) ≡ sum_by count_terms os
 terms-sum [] = refl
 terms-sum (None ∷ os) = terms-sum os ∙ (let e : sum_by count_terms os ≡ sum_by count_terms (None ∷ os) = omega (arith, sum_by-cons count_terms None os) in e)
-terms-sum (Some f ∷ os) = length-append f (flat_map (λ g. g) (reducers_in os)) ∙ ap (λ (n : ℕ). length f + n) (terms-sum os) ∙ sym (sum_by-cons count_terms (Some f) os)
+terms-sum (Some f ∷ os) = length-append f (flat_map (λ g. g) (reducers_in os)) ∙ ap (λ (n : ℕ). length f + n) (terms-sum os)
+    ∙ sym (sum_by-cons count_terms (Some f) os)
 
 -- numbers that are written over
 pub written_back : (long : ℕ) (new old : List ℕ) (f : ℕ → ℕ) → long ≡ length old → new ≡ map f old → take long (new ++ drop (length new) old) ≡ map f old
 written_back long new old f is e =
     let same : length new ≡ length old = ap length e ∙ length-map old f in
-    ap (λ (ys : List ℕ). take long (new ++ ys)) (drop_all (length new) old (omega (arith, same))) ∙ ap (take long) (append-nil new) ∙ take_all long new (omega (arith, same, is)) ∙ e
+    ap (λ (ys : List ℕ). take long (new ++ ys)) (drop_all (length new) old (omega (arith, same))) ∙ ap (take long) (append-nil new)
+    ∙ take_all long new (omega (arith, same, is)) ∙ e
 
 -- as many spans as words
-pub spans_long : (G : List (List Term)) (given_words words : List (List ℕ)) (from limit : ℕ) (spans : List (Option Span)) (n r : List ℕ) (entries : ℕ) → IsNumberWalk G given_words words (length words) from limit spans n r entries → length spans ≡ length words
+pub spans_long : (G : List (List Term)) (given_words words : List (List ℕ)) (from limit : ℕ) (spans : List (Option Span)) (n r : List ℕ)
+    (entries : ℕ) → IsNumberWalk G given_words words (length words) from limit spans n r entries → length spans ≡ length words
 spans_long G given_words words from limit spans n r entries walk =
     let all = numbered_all G given_words words (length words) walk.reducers walk.numbered (omega arith) in
     walk.size ∙ AllZip-length (HasReducer G) words walk.reducers all.1
@@ -83,11 +87,15 @@ module _ (words : List (List ℕ)) (order : List ℕ) (columns : List (List ℕ)
         let place : get_or places n 0 ≡ m.0 = ap (λ (k : ℕ). get_or places k 0) (sym here) ∙ placed m.0 m.1 in
         ap (slice_get columns) place ∙ sym (h.each m.0 m.1) ∙ ap (slice_get words) here ∙ at
 
-    slice-map : (ns before behind mid : List ℕ) → ns ≡ before ++ mid ++ behind → map (λ n. get_or places n 0) ns ≡ map (λ n. get_or places n 0) before ++ map (λ n. get_or places n 0) mid ++ map (λ n. get_or places n 0) behind
+    slice-map : (ns before behind mid : List ℕ) → ns ≡ before ++ mid ++ behind →
+        map (λ n. get_or places n 0) ns ≡ map (λ n. get_or places n 0) before ++ map (λ n. get_or places n 0) mid
+        ++ map (λ n. get_or places n 0) behind
     slice-map ns before behind mid e =
-        ap (map (λ n. get_or places n 0)) e ∙ map-append (λ n. get_or places n 0) (before ++ mid) behind ∙ ap (λ (xs : List ℕ). xs ++ map (λ n. get_or places n 0) behind) (map-append (λ n. get_or places n 0) before mid)
+        ap (map (λ n. get_or places n 0)) e ∙ map-append (λ n. get_or places n 0) (before ++ mid) behind
+        ∙ ap (λ (xs : List ℕ). xs ++ map (λ n. get_or places n 0) behind) (map-append (λ n. get_or places n 0) before mid)
 
-    stands_moved : (n r : List ℕ) (start end : ℕ) (f : List Term) → StandsAt words n r start end f → StandsAt columns (map (λ n. get_or places n 0) n) r start end f
+    stands_moved : (n r : List ℕ) (start end : ℕ) (f : List Term) → StandsAt words n r start end f →
+        StandsAt columns (map (λ n. get_or places n 0) n) r start end f
     stands_moved n r start end f s = record {
       before = map (λ n. get_or places n 0) s.before;
       before_residues = s.before_residues;
@@ -102,19 +110,23 @@ module _ (words : List (List ℕ)) (order : List ℕ) (columns : List (List ℕ)
       are_terms = AreTerms-renumbered words columns (λ n. get_or places n 0) moved s.ns s.rs f s.are_terms;
     }
 
-    span_moved : (n r : List ℕ) (span : Option Span) (o : Option (List Term)) → IsSpanOf words n r span o → IsSpanOf columns (map (λ n. get_or places n 0) n) r span o
+    span_moved : (n r : List ℕ) (span : Option Span) (o : Option (List Term)) → IsSpanOf words n r span o →
+        IsSpanOf columns (map (λ n. get_or places n 0) n) r span o
     span_moved n r None None z = tt
     span_moved n r None (Some f) z = absurd z
     span_moved n r (Some s) None z = absurd z
     span_moved n r (Some s) (Some f) z = stands_moved n r s.start s.end f z
 
-    spans_moved : (n r : List ℕ) (spans : List (Option Span)) (reducers : List (Option (List Term))) → AllZip (IsSpanOf words n r) spans reducers → length spans ≡ length words → length reducers ≡ length words
-        → (ks : List ℕ) → All (λ k. k < length words) ks → AllZip (IsSpanOf columns (map (λ n. get_or places n 0) n) r) (map (λ k. get_or spans k None) ks) (map (λ k. get_or reducers k None) ks)
+    spans_moved : (n r : List ℕ) (spans : List (Option Span)) (reducers : List (Option (List Term))) →
+        AllZip (IsSpanOf words n r) spans reducers → length spans ≡ length words → length reducers ≡ length words
+        → (ks : List ℕ) → All (λ k. k < length words) ks → AllZip (IsSpanOf columns (map (λ n. get_or places n 0) n) r)
+        (map (λ k. get_or spans k None) ks) (map (λ k. get_or reducers k None) ks)
     spans_moved n r spans reducers zipped many some [] below = tt
     spans_moved n r spans reducers zipped many some (k ∷ ks) below =
         let lt = All-head (λ k. k < length words) k ks below in (
           span_moved n r (get_or spans k None) (get_or reducers k None)
-              (AllZip-at (IsSpanOf words n r) spans reducers k (get_or spans k None) (get_or reducers k None) zipped (slice_get-get_or spans k None (omega (arith, lt, many))) (slice_get-get_or reducers k None (omega (arith, lt, some)))),
+              (AllZip-at (IsSpanOf words n r) spans reducers k (get_or spans k None) (get_or reducers k None) zipped
+              (slice_get-get_or spans k None (omega (arith, lt, many))) (slice_get-get_or reducers k None (omega (arith, lt, some)))),
           spans_moved n r spans reducers zipped many some ks (All-tail (λ k. k < length words) k ks below),
         )
 
@@ -122,13 +134,17 @@ module _ (words : List (List ℕ)) (order : List ℕ) (columns : List (List ℕ)
   abbrev ordered : List (Option (List Term)) → List (Option (List Term))
   ordered reducers = map (λ k. get_or reducers k None) order
 
-  ordered_terms : (reducers : List (Option (List Term))) → length reducers ≡ length words → terms_in (reducers_in (map (λ k. get_or reducers k None) order)) ≡ terms_in (reducers_in reducers)
+  ordered_terms : (reducers : List (Option (List Term))) → length reducers ≡ length words →
+      terms_in (reducers_in (map (λ k. get_or reducers k None) order)) ≡ terms_in (reducers_in reducers)
   ordered_terms reducers some =
       let f : ℕ → Option (List Term) = λ k. get_or reducers k None in
       let same : map f (range_with_len 0 (length words)) ≡ reducers = ap (λ (n : ℕ). map f (range_with_len 0 n)) (sym some) ∙ by_numbers reducers None in
-      terms-sum (map f order) ∙ sum_by-IsPermutation count_terms reducers (map f order) (subst (λ (os : List (Option (List Term))). IsPermutation os (map f order)) same (IsPermutation-map f (range_with_len 0 (length words)) order h.numbers)) ∙ sym (terms-sum reducers)
+      terms-sum (map f order) ∙ sum_by-IsPermutation count_terms reducers (map f order)
+      (subst (λ (os : List (Option (List Term))). IsPermutation os (map f order)) same
+      (IsPermutation-map f (range_with_len 0 (length words)) order h.numbers)) ∙ sym (terms-sum reducers)
 
-  ordered_listing : (reducers : List (Option (List Term))) → length reducers ≡ length words → IsListing words reducers columns (map (λ k. get_or reducers k None) order)
+  ordered_listing : (reducers : List (Option (List Term))) → length reducers ≡ length words →
+      IsListing words reducers columns (map (λ k. get_or reducers k None) order)
   ordered_listing reducers some = record {
     size = omega (arith, length-map order (λ k. get_or reducers k None), h.size);
     from = λ c lt.
@@ -139,7 +155,8 @@ module _ (words : List (List ℕ)) (order : List ℕ) (columns : List (List ℕ)
           below,
           h.each c inside,
           slice_get-get_or reducers n None (omega (arith, below, some))
-              ∙ sym (slice_get-get_or (ordered reducers) c None (omega (arith, inside, length-map order (λ k. get_or reducers k None))) ∙ ap Some (get_or-map (λ k. get_or reducers k None) order c 0 None inside)),
+              ∙ sym (slice_get-get_or (ordered reducers) c None (omega (arith, inside, length-map order (λ k. get_or reducers k None)))
+              ∙ ap Some (get_or-map (λ k. get_or reducers k None) order c 0 None inside)),
         );
     all = λ w m.
         let k = order_has m.0 m.1 in
@@ -148,9 +165,12 @@ module _ (words : List (List ℕ)) (order : List ℕ) (columns : List (List ℕ)
         (k.0, slice_get_within columns k.0 w at, get_or_from_slice_get columns k.0 w w at);
   }
 
-  pub listed_in_order : (G : List (List Term)) (given_words : List (List ℕ)) (from limit : ℕ) (spans : List (Option Span)) (n r : List ℕ) (entries : ℕ) → IsNumberWalk G given_words words (length words) from limit spans n r entries
-      → AllPairs IsLetterwiseGreater columns → (places : List ℕ) → ((c : ℕ) → c < length order → get_or places (get_or order c 0) 0 ≡ c) → (m : List ℕ) → (entries ≤ limit → m ≡ map (λ n. get_or places n 0) n)
-      → (columns_spans : List (Option Span)) → columns_spans ≡ map (λ k. get_or spans k None) order → IsListedClosure G given_words from limit columns columns_spans m r entries
+  pub listed_in_order : (G : List (List Term)) (given_words : List (List ℕ)) (from limit : ℕ) (spans : List (Option Span)) (n r : List ℕ)
+      (entries : ℕ) → IsNumberWalk G given_words words (length words) from limit spans n r entries
+      → AllPairs IsLetterwiseGreater columns → (places : List ℕ) → ((c : ℕ) → c < length order → get_or places (get_or order c 0) 0 ≡ c) →
+      (m : List ℕ) → (entries ≤ limit → m ≡ map (λ n. get_or places n 0) n)
+      → (columns_spans : List (Option Span)) → columns_spans ≡ map (λ k. get_or spans k None) order →
+      IsListedClosure G given_words from limit columns columns_spans m r entries
   listed_in_order G given_words from limit spans n r entries walk falling places placed m renumbered columns_spans are_spans =
       let all = numbered_all G given_words words (length words) walk.reducers walk.numbered (omega arith) in
       let some : length walk.reducers ≡ length words = AllZip-length (HasReducer G) words walk.reducers all.1 in

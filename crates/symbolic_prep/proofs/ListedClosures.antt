@@ -1,5 +1,6 @@
 -- A closure that is listed.
-use Rattle.std.proofs.Common.{◌≡◌, ◌↔◌, ◌≤◌, ◌<◌, ◌+◌, ◌-◌, ◌++◌, ℕ, List, [], ◌∷◌, length, map, take, drop, refl, sym, ap, ◌∙◌, arith, All, Option, Some, None, subst, length-append, append_assoc}
+use Rattle.std.proofs.Common.{◌≡◌, ◌↔◌, ◌≤◌, ◌<◌, ◌+◌, ◌-◌, ◌++◌, ℕ, List, [], ◌∷◌, length, map, take, drop, refl, sym, ap, ◌∙◌, arith, All, Option}
+use Rattle.std.proofs.Common.{Some, None, subst, length-append, append_assoc}
 use Rattle.std.specs.List.{AllZip, Contains, slice_range}
 use Rattle.std.proofs.lemmas.List.Elements.{All-cons, All-nil}
 use Rattle.words.proofs.Members.{All-from_members}
@@ -21,7 +22,8 @@ use Rattle.symbolic_prep.proofs.Stays.{IsWord, stays}
 use Rattle.symbolic_prep.proofs.Walks.{same_columns}
 
 -- it is that of all lists with the same words
-pub listed-same : (G : List (List Term)) (words others : List (List ℕ)) (from limit : ℕ) (columns : List (List ℕ)) (spans : List (Option Span)) (n r : List ℕ) (entries : ℕ) → ((w : List ℕ) → Contains words w ↔ Contains others w)
+pub listed-same : (G : List (List Term)) (words others : List (List ℕ)) (from limit : ℕ) (columns : List (List ℕ))
+    (spans : List (Option Span)) (n r : List ℕ) (entries : ℕ) → ((w : List ℕ) → Contains words w ↔ Contains others w)
     → IsListedClosure G words from limit columns spans n r entries → IsListedClosure G others from limit columns spans n r entries
 listed-same G words others from limit columns spans n r entries same h = record {
   reducers = h.reducers;
@@ -31,7 +33,8 @@ listed-same G words others from limit columns spans n r entries same h = record 
 }
 
 -- words of a closure have the degree of those that are given
-pub one_degree : (b : Elements) (kept : IsKept b) (forms : All IsPolynomial b.elements) (d : ℕ) (given_words : List (List ℕ)) (are_words : (x : List ℕ) → Contains given_words x → IsWord b kept forms d x)
+pub one_degree : (b : Elements) (kept : IsKept b) (forms : All IsPolynomial b.elements) (d : ℕ) (given_words : List (List ℕ))
+    (are_words : (x : List ℕ) → Contains given_words x → IsWord b kept forms d x)
     → (words : List (List ℕ)) → ((w : List ℕ) → Contains words w → IsInClosure b.elements given_words w) → HaveOneDegree words
 one_degree b kept forms d given_words are_words words sound = record {
   weights = b.weights;
@@ -41,8 +44,10 @@ one_degree b kept forms d given_words are_words words sound = record {
 }
 
 -- a walk from the greatest word down, with the reducers that it held listed
-pub walked_listed : (G : List (List Term)) (words : List (List ℕ)) (from limit : ℕ) (columns : List (List ℕ)) (held : List (Option (List Term))) (entries : ℕ) (spans : List (Option Span)) (n r : List ℕ)
-    → IsWalked G words from limit columns held entries → (entries ≤ limit → AllZip (IsSpanOf columns n r) spans held) → IsListedClosure G words from limit columns spans n r entries
+pub walked_listed : (G : List (List Term)) (words : List (List ℕ)) (from limit : ℕ) (columns : List (List ℕ))
+    (held : List (Option (List Term))) (entries : ℕ) (spans : List (Option Span)) (n r : List ℕ)
+    → IsWalked G words from limit columns held entries → (entries ≤ limit → AllZip (IsSpanOf columns n r) spans held) →
+    IsListedClosure G words from limit columns spans n r entries
 walked_listed G words from limit columns held entries spans n r h listed = record {
   reducers = h.reducers;
   closed = h.closed;
@@ -51,7 +56,8 @@ walked_listed G words from limit columns held entries spans n r h listed = recor
 }
 
 -- and the other way: the reducers are those that are listed
-pub listed_walked : (G : List (List Term)) (words : List (List ℕ)) (from limit : ℕ) (columns : List (List ℕ)) (spans : List (Option Span)) (n r : List ℕ) (entries : ℕ)
+pub listed_walked : (G : List (List Term)) (words : List (List ℕ)) (from limit : ℕ) (columns : List (List ℕ)) (spans : List (Option Span))
+    (n r : List ℕ) (entries : ℕ)
     → (h : IsListedClosure G words from limit columns spans n r entries) → IsWalked G words from limit columns h.reducers entries
 listed_walked G words from limit columns spans n r entries h = record {
   reducers = h.reducers;
@@ -68,7 +74,8 @@ take_first [] ys = refl
 take_first (x ∷ xs) ys = ap (λ (zs : List ℕ). x ∷ zs) (take_first xs ys)
 
 -- what stands between others
-range_is : (xs before mid behind : List ℕ) (start end : ℕ) → xs ≡ before ++ mid ++ behind → length before ≡ start → start + length mid ≡ end → slice_range xs start end ≡ mid
+range_is : (xs before mid behind : List ℕ) (start end : ℕ) → xs ≡ before ++ mid ++ behind → length before ≡ start → start + length mid ≡ end
+    → slice_range xs start end ≡ mid
 range_is xs before mid behind start end e first last =
     ap (slice_range xs start) (sym last) ∙ ap (λ (s : ℕ). slice_range xs s (s + length mid)) (sym first)
     ∙ (let long : length before + length mid - length before ≡ length mid = omega arith in ap (λ (k : ℕ). take k (drop (length before) xs)) long)
@@ -99,7 +106,8 @@ module _ (columns : List (List ℕ)) (n r : List ℕ) where
       (λ i. Some (terms_on columns (ns i) (rs i))) ∙ ap Some (terms_on-is columns h.ns h.rs f h.are_terms)
 
   -- the reducers are those that stand in the lists
-  pub reducers_on : (spans : List (Option Span)) (reducers : List (Option (List Term))) → AllZip (IsSpanOf columns n r) spans reducers → map (reducer_on columns n r) spans ≡ reducers
+  pub reducers_on : (spans : List (Option Span)) (reducers : List (Option (List Term))) → AllZip (IsSpanOf columns n r) spans reducers →
+      map (reducer_on columns n r) spans ≡ reducers
   reducers_on [] [] z = refl
   reducers_on [] (o ∷ os) z = absurd z
   reducers_on (s ∷ ss) [] z = absurd z
@@ -109,7 +117,8 @@ module _ (columns : List (List ℕ)) (n r : List ℕ) where
   reducers_on (Some s ∷ ss) (Some f ∷ os) z = (λ i. stands_on s f z.0 i ∷ reducers_on ss os z.1 i)
 
   -- as many as columns
-  pub spans_long : (G : List (List Term)) (ws : List (List ℕ)) (spans : List (Option Span)) (reducers : List (Option (List Term))) → AllZip (HasReducer G) ws reducers → AllZip (IsSpanOf columns n r) spans reducers → length spans ≡ length ws
+  pub spans_long : (G : List (List Term)) (ws : List (List ℕ)) (spans : List (Option Span)) (reducers : List (Option (List Term))) →
+      AllZip (HasReducer G) ws reducers → AllZip (IsSpanOf columns n r) spans reducers → length spans ≡ length ws
   spans_long G ws spans reducers h z = sym (AllZip-length (IsSpanOf columns n r) spans reducers z) ∙ AllZip-length (HasReducer G) ws reducers h
 
   within_one : (s : Span) (f : List Term) → StandsAt columns n r s.start s.end f → 0 < length f → IsSpanWithin (length columns) n r (Some s)
@@ -117,12 +126,20 @@ module _ (columns : List (List ℕ)) (n r : List ℕ) where
       let ns = range_is n h.before h.ns h.behind s.start s.end h.numbers_are h.starts.0 h.ends.0 in (
         omega (arith, some, h.ends.0, AreTerms-many columns h.ns h.rs f h.are_terms),
         omega (arith, ap length h.numbers_are, length-append (h.before ++ h.ns) h.behind, length-append h.before h.ns, h.starts.0, h.ends.0),
-        omega (arith, ap length h.residues_are, length-append (h.before_residues ++ h.rs) h.behind_residues, length-append h.before_residues h.rs, h.starts.1, h.ends.1),
+        omega (
+          arith,
+          ap length h.residues_are,
+          length-append (h.before_residues ++ h.rs) h.behind_residues,
+          length-append h.before_residues h.rs,
+          h.starts.1,
+          h.ends.1,
+        ),
         subst (All (λ k. k < length columns)) (sym ns) (AreTerms-below columns h.ns h.rs f h.are_terms),
       )
 
   -- and each stands within them
-  pub spans_within : (G : List (List Term)) (ws : List (List ℕ)) (spans : List (Option Span)) (reducers : List (Option (List Term))) → AllZip (HasReducer G) ws reducers → AllZip (IsSpanOf columns n r) spans reducers
+  pub spans_within : (G : List (List Term)) (ws : List (List ℕ)) (spans : List (Option Span)) (reducers : List (Option (List Term))) →
+      AllZip (HasReducer G) ws reducers → AllZip (IsSpanOf columns n r) spans reducers
       → All (IsSpanWithin (length columns) n r) spans
   spans_within G [] [] [] h z = All-nil (IsSpanWithin (length columns) n r)
   spans_within G [] [] (o ∷ os) h z = absurd h
@@ -136,4 +153,5 @@ module _ (columns : List (List ℕ)) (n r : List ℕ) where
   spans_within G (w ∷ ws) (None ∷ ss) (None ∷ os) h z = All-cons (IsSpanWithin (length columns) n r) None ss tt (spans_within G ws ss os h.1 z.1)
   spans_within G (w ∷ ws) (None ∷ ss) (Some f ∷ os) h z = absurd z.0
   spans_within G (w ∷ ws) (Some s ∷ ss) (None ∷ os) h z = absurd z.0
-  spans_within G (w ∷ ws) (Some s ∷ ss) (Some f ∷ os) h z = All-cons (IsSpanWithin (length columns) n r) (Some s) ss (within_one s f z.0 (reducer_some G w f h.0)) (spans_within G ws ss os h.1 z.1)
+  spans_within G (w ∷ ws) (Some s ∷ ss) (Some f ∷ os) h z = All-cons (IsSpanWithin (length columns) n r) (Some s) ss
+      (within_one s f z.0 (reducer_some G w f h.0)) (spans_within G ws ss os h.1 z.1)

@@ -19,18 +19,26 @@ module _ {X Y : Type 0} (R : X → Y → Type 0) where
       subst (λ (s : X). R s y) first (subst (R u) second z.0)
   AllZip-at (u ∷ xs) (v ∷ ys) (suc n) x y z at here = AllZip-at xs ys n x y z.1 at here
 
-  AllZip-from : (xs : List X) (ys : List Y) → length ys ≡ length xs → ((n : ℕ) (x : X) (y : Y) → slice_get xs n ≡ Some x → slice_get ys n ≡ Some y → R x y) → AllZip R xs ys
+  AllZip-from : (xs : List X) (ys : List Y) → length ys ≡ length xs →
+      ((n : ℕ) (x : X) (y : Y) → slice_get xs n ≡ Some x → slice_get ys n ≡ Some y → R x y) → AllZip R xs ys
   AllZip-from [] [] same h = tt
   AllZip-from [] (y ∷ ys) same h = absurd (omega (arith, same))
   AllZip-from (x ∷ xs) [] same h = absurd (omega (arith, same))
   AllZip-from (x ∷ xs) (y ∷ ys) same h = (h zero x y refl refl, AllZip-from xs ys (omega (arith, same)) (λ n u v at here. h (suc n) u v at here))
 
-pub closed_listing : (G : List (List Term)) (given_words words columns : List (List ℕ)) (reducers columns_reducers : List (Option (List Term))) → ((w : List ℕ) → Contains words w ↔ IsInClosure G given_words w) → AllZip (HasReducer G) words reducers
-    → IsListing words reducers columns columns_reducers → AllPairs IsLetterwiseGreater columns → IsClosed G given_words (record { columns = columns; reducers = columns_reducers })
+pub closed_listing : (G : List (List Term)) (given_words words columns : List (List ℕ))
+    (reducers columns_reducers : List (Option (List Term))) → ((w : List ℕ) → Contains words w ↔ IsInClosure G given_words w) →
+    AllZip (HasReducer G) words reducers
+    → IsListing words reducers columns columns_reducers → AllPairs IsLetterwiseGreater columns →
+    IsClosed G given_words (record { columns = columns; reducers = columns_reducers })
 closed_listing G given_words words columns reducers columns_reducers closure zipped listing falling = record {
   are_columns = record {
     exactly = λ w. (
-      λ m. let k = listing.from m.0 m.1 in (closure w).0 (k.0, k.1, get_or_from_slice_get words k.0 w w (k.2 ∙ slice_get-get_or columns m.0 w m.1 ∙ ap Some m.2)),
+      λ m. let k = listing.from m.0 m.1 in (closure w).0 (
+        k.0,
+        k.1,
+        get_or_from_slice_get words k.0 w w (k.2 ∙ slice_get-get_or columns m.0 w m.1 ∙ ap Some m.2),
+      ),
       λ i. listing.all w ((closure w).1 i),
     );
     falling = falling;

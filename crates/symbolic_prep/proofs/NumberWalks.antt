@@ -1,5 +1,6 @@
 -- A walk by number, step by step.
-use Rattle.std.proofs.Common.{◌≡◌, ◌≢◌, ◌+◌, ◌<◌, ◌≤◌, ℕ, List, [], ◌∷◌, ◌++◌, length, get_or, sym, ap, ◌∙◌, arith, All, AllPairs, Option, Some, None, subst, append_assoc, length-append}
+use Rattle.std.proofs.Common.{◌≡◌, ◌≢◌, ◌+◌, ◌<◌, ◌≤◌, ℕ, List, [], ◌∷◌, ◌++◌, length, get_or, sym, ap, ◌∙◌, arith, All, AllPairs, Option, Some, None}
+use Rattle.std.proofs.Common.{subst, append_assoc, length-append}
 use Rattle.std.specs.List.{AllZip, Contains}
 use Rattle.std.proofs.lemmas.List.Elements.{All-nil}
 use Rattle.free_poly.specs.declared.term.Term.{Term}
@@ -16,7 +17,8 @@ use Rattle.symbolic_prep.proofs.Stays.{IsWord}
 use Rattle.symbolic_prep.proofs.Walks.{AllZip-push, reducers_in-push}
 
 -- what stands in the lists still does in longer ones
-pub StandsAt-more : (words new wanted : List (List ℕ)) (n r m q : List ℕ) (start end : ℕ) (f : List Term) → IsGrown words new wanted → AreLonger n r m q → StandsAt words n r start end f → StandsAt new m q start end f
+pub StandsAt-more : (words new wanted : List (List ℕ)) (n r m q : List ℕ) (start end : ℕ) (f : List Term) → IsGrown words new wanted →
+    AreLonger n r m q → StandsAt words n r start end f → StandsAt new m q start end f
 StandsAt-more words new wanted n r m q start end f g l h = record {
   before = h.before;
   before_residues = h.before_residues;
@@ -31,7 +33,8 @@ StandsAt-more words new wanted n r m q start end f g l h = record {
   are_terms = subst (λ (ws : List (List ℕ)). AreTerms ws h.ns h.rs f) (sym g.joined) (AreTerms-more words g.more h.ns h.rs f h.are_terms);
 }
 
-pub spans-more : (words new wanted : List (List ℕ)) (n r m q : List ℕ) → IsGrown words new wanted → AreLonger n r m q → (spans : List (Option Span)) (rs : List (Option (List Term)))
+pub spans-more : (words new wanted : List (List ℕ)) (n r m q : List ℕ) → IsGrown words new wanted → AreLonger n r m q →
+    (spans : List (Option Span)) (rs : List (Option (List Term)))
     → AllZip (IsSpanOf words n r) spans rs → AllZip (IsSpanOf new m q) spans rs
 spans-more words new wanted n r m q g l [] [] z = tt
 spans-more words new wanted n r m q g l [] (o ∷ rs) z = absurd z
@@ -39,9 +42,11 @@ spans-more words new wanted n r m q g l (s ∷ spans) [] z = absurd z
 spans-more words new wanted n r m q g l (None ∷ spans) (None ∷ rs) z = (tt, spans-more words new wanted n r m q g l spans rs z.1)
 spans-more words new wanted n r m q g l (None ∷ spans) (Some f ∷ rs) z = absurd z.0
 spans-more words new wanted n r m q g l (Some s ∷ spans) (None ∷ rs) z = absurd z.0
-spans-more words new wanted n r m q g l (Some s ∷ spans) (Some f ∷ rs) z = (StandsAt-more words new wanted n r m q s.start s.end f g l z.0, spans-more words new wanted n r m q g l spans rs z.1)
+spans-more words new wanted n r m q g l (Some s ∷ spans) (Some f ∷ rs) z =
+    (StandsAt-more words new wanted n r m q s.start s.end f g l z.0, spans-more words new wanted n r m q g l spans rs z.1)
 
-pub number_walk_none : (G : List (List Term)) (words : List (List ℕ)) (from limit : ℕ) (spans : List (Option Span)) (numbers residues : List ℕ) → AllPairs (λ v w. v ≢ w) words → from ≤ limit + 1 → spans ≡ [] → numbers ≡ []
+pub number_walk_none : (G : List (List Term)) (words : List (List ℕ)) (from limit : ℕ) (spans : List (Option Span))
+    (numbers residues : List ℕ) → AllPairs (λ v w. v ≢ w) words → from ≤ limit + 1 → spans ≡ [] → numbers ≡ []
     → IsNumberWalk G words words 0 from limit spans numbers residues from
 number_walk_none G words from limit spans numbers residues apart le none no_numbers = record {
   reducers = [];
@@ -52,11 +57,14 @@ number_walk_none G words from limit spans numbers residues apart le none no_numb
   below = λ h. subst (All (λ n. n < length words)) (sym no_numbers) (All-nil (λ n. n < length words));
 }
 
-module _ (b : Elements) (kept : IsKept b) (forms : All IsPolynomial b.elements) (d : ℕ) (leads : List Lead) (index : IsIndex leads) (indexed : IsIndexOf b.elements leads)
+module _ (b : Elements) (kept : IsKept b) (forms : All IsPolynomial b.elements) (d : ℕ) (leads : List Lead) (index : IsIndex leads)
+    (indexed : IsIndexOf b.elements leads)
     (given_words : List (List ℕ)) (are_words : (x : List ℕ) → Contains given_words x → IsWord b kept forms d x) where
-  pub number_walk_more : (words new : List (List ℕ)) (next from limit : ℕ) (spans more_spans : List (Option Span)) (n r m q : List ℕ) (entries more : ℕ) (w : List ℕ) (span : Option Span)
+  pub number_walk_more : (words new : List (List ℕ)) (next from limit : ℕ) (spans more_spans : List (Option Span)) (n r m q : List ℕ)
+      (entries more : ℕ) (w : List ℕ) (span : Option Span)
       → IsNumberWalk b.elements given_words words next from limit spans n r entries → next < length words → w ≡ get_or words next w
-      → IsReducedTo b.elements w words new n r m q entries limit span more → more_spans ≡ spans ++ span ∷ [] → IsNumberWalk b.elements given_words new (next + 1) from limit more_spans m q more
+      → IsReducedTo b.elements w words new n r m q entries limit span more → more_spans ≡ spans ++ span ∷ [] →
+      IsNumberWalk b.elements given_words new (next + 1) from limit more_spans m q more
   number_walk_more words new next from limit spans more_spans n r m q entries more w span h lt here k pushed = record {
     reducers = h.reducers ++ k.reducer ∷ [];
     numbered = numbered_more b kept forms d leads index indexed given_words are_words words next h.reducers w k.reducer h.numbered lt here k.is new k.grown;

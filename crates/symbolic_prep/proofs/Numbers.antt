@@ -1,5 +1,6 @@
 -- A closure by number, word after word.
-use Rattle.std.proofs.Common.{◌≡◌, ◌≢◌, ◌⊎◌, ◌↔◌, ◌+◌, ◌<◌, ◌≤◌, ℕ, List, [], ◌∷◌, ◌++◌, length, map, take, get_or, refl, sym, ap, ◌∙◌, inl, inr, arith, All, AllPairs, Option, Some, subst, append_assoc, length-append}
+use Rattle.std.proofs.Common.{◌≡◌, ◌≢◌, ◌⊎◌, ◌↔◌, ◌+◌, ◌<◌, ◌≤◌, ℕ, List, [], ◌∷◌, ◌++◌, length, map, take, get_or, refl, sym, ap, ◌∙◌, inl, inr}
+use Rattle.std.proofs.Common.{arith, All, AllPairs, Option, Some, subst, append_assoc, length-append}
 use Rattle.std.specs.List.{AllZip, Contains, slice_get}
 use Rattle.std.proofs.lemmas.List.{append-nil, get_or-map, get_or_append_left, length-map, map-append, take-map, take_all, take_more, take-append-le}
 use Rattle.std.proofs.lemmas.List.Elements.{Contains-append_cases, Contains-append_left, Contains-append_right}
@@ -23,7 +24,8 @@ use Rattle.symbolic_prep.proofs.Sets.{first_of}
 use Rattle.symbolic_prep.proofs.Walks.{AllZip-push}
 
 -- the words that are given, each once
-pub numbered_none : (G : List (List Term)) (given_words words : List (List ℕ)) → ((w : List ℕ) → Contains words w ↔ Contains given_words w) → AllPairs (λ v w. v ≢ w) words → IsNumbered G given_words words 0 []
+pub numbered_none : (G : List (List Term)) (given_words words : List (List ℕ)) → ((w : List ℕ) → Contains words w ↔ Contains given_words w)
+    → AllPairs (λ v w. v ≢ w) words → IsNumbered G given_words words 0 []
 numbered_none G given_words words same apart = record {
   within = omega arith;
   sound = λ w m. given w ((same w).0 m);
@@ -33,7 +35,8 @@ numbered_none G given_words words same apart = record {
   apart = apart;
 }
 
-module _ (b : Elements) (kept : IsKept b) (forms : All IsPolynomial b.elements) (d : ℕ) (leads : List Lead) (index : IsIndex leads) (indexed : IsIndexOf b.elements leads)
+module _ (b : Elements) (kept : IsKept b) (forms : All IsPolynomial b.elements) (d : ℕ) (leads : List Lead) (index : IsIndex leads)
+    (indexed : IsIndexOf b.elements leads)
     (given_words : List (List ℕ)) (are_words : (x : List ℕ) → Contains given_words x → IsWord b kept forms d x) where
   abbrev G : List (List Term)
   G = b.elements
@@ -69,9 +72,11 @@ module _ (b : Elements) (kept : IsKept b) (forms : All IsPolynomial b.elements) 
       has = λ x m. later x (h.has x m);
       brought = λ x v r m q n. elim (Contains-append_cases (take next words) (w ∷ []) x (subst (λ (ws : List (List ℕ)). Contains ws x) first m)) [
         | inl k ↦ later v (h.brought x v r k q n)
-        | inr k ↦ of_own v (brought_words b kept forms d leads index indexed w numbered_word o is r (subst (λ (y : List ℕ). IsReducer G y r) (sym (single x k)) q) v n)
+        | inr k ↦ of_own v (brought_words b kept forms d leads index indexed w numbered_word o is r
+            (subst (λ (y : List ℕ). IsReducer G y r) (sym (single x k)) q) v n)
       ];
-      are_reducers = subst (λ (ws : List (List ℕ)). AllZip (HasReducer G) ws (rs ++ o ∷ [])) (sym first) (AllZip-push (HasReducer G) (take next words) rs w o h.are_reducers is);
+      are_reducers = subst (λ (ws : List (List ℕ)). AllZip (HasReducer G) ws (rs ++ o ∷ [])) (sym first)
+          (AllZip-push (HasReducer G) (take next words) rs w o h.are_reducers is);
       apart = g.apart;
     }
       where
@@ -85,14 +90,16 @@ module _ (b : Elements) (kept : IsKept b) (forms : All IsPolynomial b.elements) 
         ]
 
         first : take (next + 1) new ≡ take next words ++ w ∷ []
-        first = ap (take (next + 1)) g.joined ∙ take-append-le (next + 1) words g.more (omega (arith, lt)) ∙ take_more words next w lt ∙ ap (λ (x : List ℕ). take next words ++ x ∷ []) (sym here)
+        first = ap (take (next + 1)) g.joined ∙ take-append-le (next + 1) words g.more (omega (arith, lt)) ∙ take_more words next w lt
+            ∙ ap (λ (x : List ℕ). take next words ++ x ∷ []) (sym here)
 
         of_own : (v : List ℕ) → (w ≡ v) ⊎ (Contains (tail_words o) v × IsLetterwiseGreater w v × IsWord b kept forms d v) → Contains new v
         of_own v (inl e) = later v (subst (Contains words) e own)
         of_own v (inr p) = g.all v p.0
 
 -- no word is left
-pub numbered_all : (G : List (List Term)) (given_words words : List (List ℕ)) (next : ℕ) (rs : List (Option (List Term))) → IsNumbered G given_words words next rs → length words ≤ next
+pub numbered_all : (G : List (List Term)) (given_words words : List (List ℕ)) (next : ℕ) (rs : List (Option (List Term))) →
+    IsNumbered G given_words words next rs → length words ≤ next
     → ((w : List ℕ) → Contains words w ↔ IsInClosure G given_words w) × AllZip (HasReducer G) words rs
 numbered_all G given_words words next rs h done = (
   λ w. (h.sound w, all_in w),
@@ -112,20 +119,23 @@ AreTerms-more words more (n ∷ ns) [] ts h = absurd h
 AreTerms-more words more (n ∷ ns) (r ∷ rs) [] h = absurd h
 AreTerms-more words more (n ∷ ns) (r ∷ rs) (t ∷ ts) h =
     let lt = slice_get_within words n t.word h.0 in (
-      slice_get-get_or (words ++ more) n [] (omega (arith, lt, length-append words more)) ∙ ap Some (get_or_append_left words more [] n lt ∙ get_or_from_slice_get words n t.word [] h.0),
+      slice_get-get_or (words ++ more) n [] (omega (arith, lt, length-append words more))
+          ∙ ap Some (get_or_append_left words more [] n lt ∙ get_or_from_slice_get words n t.word [] h.0),
       h.1,
       AreTerms-more words more ns rs ts h.2,
     )
 
 -- and under new numbers
-pub AreTerms-renumbered : (words columns : List (List ℕ)) (places : ℕ → ℕ) → ((n : ℕ) (w : List ℕ) → slice_get words n ≡ Some w → slice_get columns (places n) ≡ Some w)
+pub AreTerms-renumbered : (words columns : List (List ℕ)) (places : ℕ → ℕ) →
+    ((n : ℕ) (w : List ℕ) → slice_get words n ≡ Some w → slice_get columns (places n) ≡ Some w)
     → (ns rs : List ℕ) (ts : List Term) → AreTerms words ns rs ts → AreTerms columns (map places ns) rs ts
 AreTerms-renumbered words columns places moved [] [] [] h = tt
 AreTerms-renumbered words columns places moved [] [] (t ∷ ts) h = absurd h
 AreTerms-renumbered words columns places moved [] (r ∷ rs) ts h = absurd h
 AreTerms-renumbered words columns places moved (n ∷ ns) [] ts h = absurd h
 AreTerms-renumbered words columns places moved (n ∷ ns) (r ∷ rs) [] h = absurd h
-AreTerms-renumbered words columns places moved (n ∷ ns) (r ∷ rs) (t ∷ ts) h = (moved n t.word h.0, h.1, AreTerms-renumbered words columns places moved ns rs ts h.2)
+AreTerms-renumbered words columns places moved (n ∷ ns) (r ∷ rs) (t ∷ ts) h =
+    (moved n t.word h.0, h.1, AreTerms-renumbered words columns places moved ns rs ts h.2)
 
 -- they are the terms
 pub terms_on-is : (words : List (List ℕ)) (ns rs : List ℕ) (ts : List Term) → AreTerms words ns rs ts → terms_on words ns rs ≡ ts
@@ -142,7 +152,8 @@ terms_on-is words (n ∷ ns) (r ∷ rs) (t ∷ ts) h =
 pub grown_none : (words : List (List ℕ)) → AllPairs (λ v w. v ≢ w) words → IsGrown words words []
 grown_none words apart = record { more = []; joined = sym (append-nil words); from = λ w m. m; all = λ w m. absurd (Contains-none w m); apart = apart }
 
-pub grown_more : (old so_far new wanted all_wanted : List (List ℕ)) (w : List ℕ) → IsGrown old so_far wanted → IsGrown so_far new (w ∷ []) → all_wanted ≡ wanted ++ w ∷ [] → IsGrown old new all_wanted
+pub grown_more : (old so_far new wanted all_wanted : List (List ℕ)) (w : List ℕ) → IsGrown old so_far wanted → IsGrown so_far new (w ∷ []) →
+    all_wanted ≡ wanted ++ w ∷ [] → IsGrown old new all_wanted
 grown_more old so_far new wanted all_wanted w g k e = record {
   more = g.more ++ k.more;
   joined = k.joined ∙ ap (λ (xs : List (List ℕ)). xs ++ k.more) g.joined ∙ append_assoc old g.more k.more;
@@ -157,7 +168,8 @@ grown_more old so_far new wanted all_wanted w g k e = record {
   apart = k.apart;
 }
 
-pub grown_many : (old new wanted : List (List ℕ)) (room : ℕ) → IsGrown old new wanted → room < length new → HasMore room (λ w. Contains old w ⊎ Contains wanted w)
+pub grown_many : (old new wanted : List (List ℕ)) (room : ℕ) → IsGrown old new wanted → room < length new →
+    HasMore room (λ w. Contains old w ⊎ Contains wanted w)
 grown_many old new wanted room g more = record {
   words = new;
   apart = g.apart;
@@ -169,7 +181,8 @@ grown_many old new wanted room g more = record {
 }
 
 -- one more term
-pub AreTerms-push : (words : List (List ℕ)) (ns rs : List ℕ) (ts : List Term) (n r : ℕ) (t : Term) → AreTerms words ns rs ts → slice_get words n ≡ Some t.word → r ≡ t.coefficient → AreTerms words (ns ++ n ∷ []) (rs ++ r ∷ []) (ts ++ t ∷ [])
+pub AreTerms-push : (words : List (List ℕ)) (ns rs : List ℕ) (ts : List Term) (n r : ℕ) (t : Term) → AreTerms words ns rs ts →
+    slice_get words n ≡ Some t.word → r ≡ t.coefficient → AreTerms words (ns ++ n ∷ []) (rs ++ r ∷ []) (ts ++ t ∷ [])
 AreTerms-push words [] [] [] n r t h at is = (at, is, tt)
 AreTerms-push words [] [] (u ∷ ts) n r t h at is = absurd h
 AreTerms-push words [] (q ∷ rs) ts n r t h at is = absurd h
@@ -178,36 +191,50 @@ AreTerms-push words (m ∷ ns) (q ∷ rs) [] n r t h at is = absurd h
 AreTerms-push words (m ∷ ns) (q ∷ rs) (u ∷ ts) n r t h at is = (h.0, h.1, AreTerms-push words ns rs ts n r t h.2 at is)
 
 pub listed_none : (words : List (List ℕ)) (numbers residues : List ℕ) → AreListed words numbers residues numbers residues []
-listed_none words numbers residues = record { ns = []; rs = []; numbers_are = sym (append-nil numbers); residues_are = sym (append-nil residues); are_terms = tt }
-
-pub listed_more : (so_far new wanted : List (List ℕ)) (numbers residues mid_numbers mid_residues more_numbers more_residues : List ℕ) (ts all_terms : List Term) (n r : ℕ) (t : Term)
-    → AreListed so_far numbers residues mid_numbers mid_residues ts → IsGrown so_far new wanted → slice_get new n ≡ Some t.word → r ≡ t.coefficient
-    → more_numbers ≡ mid_numbers ++ n ∷ [] → more_residues ≡ mid_residues ++ r ∷ [] → all_terms ≡ ts ++ t ∷ [] → AreListed new numbers residues more_numbers more_residues all_terms
-listed_more so_far new wanted numbers residues mid_numbers mid_residues more_numbers more_residues ts all_terms n r t h g at is pushed pushed_residue e = record {
-  ns = h.ns ++ n ∷ [];
-  rs = h.rs ++ r ∷ [];
-  numbers_are = pushed ∙ ap (λ (xs : List ℕ). xs ++ n ∷ []) h.numbers_are ∙ append_assoc numbers h.ns (n ∷ []);
-  residues_are = pushed_residue ∙ ap (λ (xs : List ℕ). xs ++ r ∷ []) h.residues_are ∙ append_assoc residues h.rs (r ∷ []);
-  are_terms = subst (AreTerms new (h.ns ++ n ∷ []) (h.rs ++ r ∷ [])) (sym e)
-      (AreTerms-push new h.ns h.rs ts n r t (subst (λ (ws : List (List ℕ)). AreTerms ws h.ns h.rs ts) (sym g.joined) (AreTerms-more so_far g.more h.ns h.rs ts h.are_terms)) at is);
+listed_none words numbers residues = record {
+  ns = [];
+  rs = [];
+  numbers_are = sym (append-nil numbers);
+  residues_are = sym (append-nil residues);
+  are_terms = tt;
 }
+
+pub listed_more : (so_far new wanted : List (List ℕ)) (numbers residues mid_numbers mid_residues more_numbers more_residues : List ℕ)
+    (ts all_terms : List Term) (n r : ℕ) (t : Term)
+    → AreListed so_far numbers residues mid_numbers mid_residues ts → IsGrown so_far new wanted → slice_get new n ≡ Some t.word → r ≡ t.coefficient
+    → more_numbers ≡ mid_numbers ++ n ∷ [] → more_residues ≡ mid_residues ++ r ∷ [] → all_terms ≡ ts ++ t ∷ [] →
+    AreListed new numbers residues more_numbers more_residues all_terms
+listed_more so_far new wanted numbers residues mid_numbers mid_residues more_numbers more_residues ts all_terms n r t h g at is pushed
+    pushed_residue e = record {
+      ns = h.ns ++ n ∷ [];
+      rs = h.rs ++ r ∷ [];
+      numbers_are = pushed ∙ ap (λ (xs : List ℕ). xs ++ n ∷ []) h.numbers_are ∙ append_assoc numbers h.ns (n ∷ []);
+      residues_are = pushed_residue ∙ ap (λ (xs : List ℕ). xs ++ r ∷ []) h.residues_are ∙ append_assoc residues h.rs (r ∷ []);
+      are_terms = subst (AreTerms new (h.ns ++ n ∷ []) (h.rs ++ r ∷ [])) (sym e)
+          (AreTerms-push new h.ns h.rs ts n r t (subst (λ (ws : List (List ℕ)). AreTerms ws h.ns h.rs ts) (sym g.joined)
+          (AreTerms-more so_far g.more h.ns h.rs ts h.are_terms)) at is);
+    }
 
 -- the terms of a product, one after another
 pub product_more : (u v : List ℕ) (ts : List Term) (i : ℕ) (t : Term) → i < length ts → t ≡ get_or ts i t
     → take (i + 1) (product u ts v) ≡ take i (product u ts v) ++ record { word = u ++ t.word ++ v; coefficient = t.coefficient } ∷ []
 product_more u v ts i t lt is =
     let f : Term → Term = λ (s : Term). record { word = u ++ s.word ++ v; coefficient = s.coefficient } in
-    take_more (map f ts) i (f t) (omega (arith, lt, length-map ts f)) ∙ ap (λ (x : Term). take i (map f ts) ++ x ∷ []) (get_or-map f ts i t (f t) lt ∙ ap f (sym is))
+    take_more (map f ts) i (f t) (omega (arith, lt, length-map ts f))
+    ∙ ap (λ (x : Term). take i (map f ts) ++ x ∷ []) (get_or-map f ts i t (f t) lt ∙ ap f (sym is))
 
 pub product_words-more : (u v : List ℕ) (ts : List Term) (i : ℕ) (t : Term) → i < length ts → t ≡ get_or ts i t
     → map (λ t. t.word) (take (i + 1) (product u ts v)) ≡ map (λ t. t.word) (take i (product u ts v)) ++ (u ++ t.word ++ v) ∷ []
 product_words-more u v ts i t lt is =
-    ap (map (λ (s : Term). s.word)) (product_more u v ts i t lt is) ∙ map-append (λ (s : Term). s.word) (take i (product u ts v)) (record { word = u ++ t.word ++ v; coefficient = t.coefficient } ∷ [])
+    ap (map (λ (s : Term). s.word)) (product_more u v ts i t lt is)
+    ∙ map-append (λ (s : Term). s.word) (take i (product u ts v)) (record { word = u ++ t.word ++ v; coefficient = t.coefficient } ∷ [])
 
 pub product_all : (u v : List ℕ) (ts : List Term) (i : ℕ) → length ts ≤ i → take i (product u ts v) ≡ product u ts v
 product_all u v ts i past =
     let f : Term → Term = λ (s : Term). record { word = u ++ s.word ++ v; coefficient = s.coefficient } in
     take_all i (map f ts) (omega (arith, past, length-map ts f))
 
-pub product_part : (u v : List ℕ) (ts : List Term) (i : ℕ) (w : List ℕ) → Contains (map (λ t. t.word) (take i (product u ts v))) w → Contains (map (λ t. t.word) (product u ts v)) w
-product_part u v ts i w m = first_of (map (λ (t : Term). t.word) (product u ts v)) i w (subst (λ (ws : List (List ℕ)). Contains ws w) (sym (take-map (λ (t : Term). t.word) i (product u ts v))) m)
+pub product_part : (u v : List ℕ) (ts : List Term) (i : ℕ) (w : List ℕ) → Contains (map (λ t. t.word) (take i (product u ts v))) w →
+    Contains (map (λ t. t.word) (product u ts v)) w
+product_part u v ts i w m = first_of (map (λ (t : Term). t.word) (product u ts v)) i w
+    (subst (λ (ws : List (List ℕ)). Contains ws w) (sym (take-map (λ (t : Term). t.word) i (product u ts v))) m)

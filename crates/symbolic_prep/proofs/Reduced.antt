@@ -1,5 +1,6 @@
 -- What the reducer of a word adds to the words by number and to the lists.
-use Rattle.std.proofs.Common.{◌≡◌, ◌^◌, ◌+◌, ◌<◌, ◌≤◌, min, ℕ, List, [], ◌∷◌, ◌++◌, length, map, refl, sym, ap, ◌∙◌, arith, All, Some, subst, append_assoc, length-append}
+use Rattle.std.proofs.Common.{◌≡◌, ◌^◌, ◌+◌, ◌<◌, ◌≤◌, min, ℕ, List, [], ◌∷◌, ◌++◌, length, map, refl, sym, ap, ◌∙◌, arith, All, Some, subst}
+use Rattle.std.proofs.Common.{append_assoc, length-append}
 use Rattle.std.specs.List.{Contains, slice_get}
 use Rattle.std.proofs.lemmas.List.{append-nil, get_or_append_left, length-map}
 use Rattle.std.proofs.lemmas.List.Elements.{All-append, All-cons, All-contains, All-nil}
@@ -29,12 +30,14 @@ in_tail (s ∷ f) t m = Contains-more s f t m
 
 pub tail_digits : (names bits : ℕ) (f : List Term) → names < 2 ^ bits → UsesLetters names f → All (λ t. HasDigits bits t.word) (below_lead f)
 tail_digits names bits f few letters =
-    All-from_members (λ (t : Term). HasDigits bits t.word) (below_lead f) (λ t m. digits_of names bits t.word few (All-contains (λ (s : Term). IsOver names s.word) f t letters (in_tail f t m)))
+    All-from_members (λ (t : Term). HasDigits bits t.word) (below_lead f)
+    (λ t m. digits_of names bits t.word few (All-contains (λ (s : Term). IsOver names s.word) f t letters (in_tail f t m)))
 
 pub slice_get-more : (words more : List (List ℕ)) (n : ℕ) (w : List ℕ) → slice_get words n ≡ Some w → slice_get (words ++ more) n ≡ Some w
 slice_get-more words more n w h =
     let lt = slice_get_within words n w h in
-    slice_get-get_or (words ++ more) n [] (omega (arith, lt, length-append words more)) ∙ ap Some (get_or_append_left words more [] n lt ∙ get_or_from_slice_get words n w [] h)
+    slice_get-get_or (words ++ more) n [] (omega (arith, lt, length-append words more))
+    ∙ ap Some (get_or_append_left words more [] n lt ∙ get_or_from_slice_get words n w [] h)
 
 pub AreTerms-below : (words : List (List ℕ)) (ns rs : List ℕ) (ts : List Term) → AreTerms words ns rs ts → All (λ n. n < length words) ns
 AreTerms-below words [] [] [] h = All-nil (λ n. n < length words)
@@ -42,7 +45,8 @@ AreTerms-below words [] [] (t ∷ ts) h = absurd h
 AreTerms-below words [] (r ∷ rs) ts h = absurd h
 AreTerms-below words (n ∷ ns) [] ts h = absurd h
 AreTerms-below words (n ∷ ns) (r ∷ rs) [] h = absurd h
-AreTerms-below words (n ∷ ns) (r ∷ rs) (t ∷ ts) h = All-cons (λ n. n < length words) n ns (slice_get_within words n t.word h.0) (AreTerms-below words ns rs ts h.2)
+AreTerms-below words (n ∷ ns) (r ∷ rs) (t ∷ ts) h = All-cons (λ n. n < length words) n ns (slice_get_within words n t.word h.0)
+    (AreTerms-below words ns rs ts h.2)
 
 pub AreTerms-length : (words : List (List ℕ)) (ns rs : List ℕ) (ts : List Term) → AreTerms words ns rs ts → length ns ≡ length rs
 AreTerms-length words [] [] [] h = refl
@@ -56,7 +60,8 @@ pub tail_product : (u v : List ℕ) (f : List Term) → map (λ t. t.word) (prod
 tail_product u v [] = refl
 tail_product u v (t ∷ f) = refl
 
-module _ (b : Elements) (kept : IsKept b) (forms : All IsPolynomial b.elements) (w : List ℕ) (letters : IsOver (length b.weights) w) (u v : List ℕ) (f : List Term) (q : IsReducer b.elements w (product u f v)) where
+module _ (b : Elements) (kept : IsKept b) (forms : All IsPolynomial b.elements) (w : List ℕ) (letters : IsOver (length b.weights) w)
+    (u v : List ℕ) (f : List Term) (q : IsReducer b.elements w (product u f v)) where
   d : ℕ
   d = degree_of b.weights w
 
@@ -66,7 +71,8 @@ module _ (b : Elements) (kept : IsKept b) (forms : All IsPolynomial b.elements) 
       let k = words_of_reducer b kept forms (degree_of b.weights w) w (letters, refl) (product u f v) q in
       let g : Term → Term = λ (s : Term). record { word = u ++ s.word ++ v; coefficient = s.coefficient } in
       All-from_members (λ (t : Term). length u + length t.word + length v ≤ room) (below_lead f) (λ t m.
-      let degree = All-contains (λ (s : Term). degree_of b.weights s.word ≡ degree_of b.weights w) (map g f) (g t) k.degree (Contains-map g f t (in_tail f t m)) in
+      let degree = All-contains (λ (s : Term). degree_of b.weights s.word ≡ degree_of b.weights w) (map g f) (g t) k.degree
+      (Contains-map g f t (in_tail f t m)) in
       omega (arith, three_long u t.word v, length-le-degree_of b.weights kept.weights (u ++ t.word ++ v), degree, fits))
 
   -- the leading word is the word itself
@@ -89,17 +95,24 @@ module _ (b : Elements) (kept : IsKept b) (forms : All IsPolynomial b.elements) 
       }
 
   -- it stands before the others in the lists
-  module _ (old new : List (List ℕ)) (grown : IsGrown old new (map (λ t. t.word) (product u (below_lead f) v))) (number : ℕ) (at : slice_get old number ≡ Some w)
+  module _ (old new : List (List ℕ)) (grown : IsGrown old new (map (λ t. t.word) (product u (below_lead f) v))) (number : ℕ)
+      (at : slice_get old number ≡ Some w)
       (n0 r0 n1 r1 n2 r2 : List ℕ) (entries more limit : ℕ) (count : more ≡ min (entries + length f) (limit + 1)) where
-    pub stands_at : ((t : Term) (ts : List Term) → f ≡ t ∷ ts → (n1 ≡ n0 ++ number ∷ []) × (r1 ≡ r0 ++ t.coefficient ∷ [])) → AreListed new n1 r1 n2 r2 (product u (below_lead f) v) → length n0 ≡ length r0
+    pub stands_at : ((t : Term) (ts : List Term) → f ≡ t ∷ ts → (n1 ≡ n0 ++ number ∷ []) × (r1 ≡ r0 ++ t.coefficient ∷ [])) →
+        AreListed new n1 r1 n2 r2 (product u (below_lead f) v) → length n0 ≡ length r0
         → StandsAt new n2 r2 (length n0) (length n2) (product u f v)
     stands_at pushed listed same =
         let l = has_lead in
         let p = pushed l.lead l.rest l.terms_are in
-        let tail : AreTerms new listed.ns listed.rs (product u l.rest v) = subst (λ (g : List Term). AreTerms new listed.ns listed.rs (product u (below_lead g) v)) l.terms_are listed.are_terms in
-        let own : slice_get new number ≡ Some (u ++ l.lead.word ++ v) = subst (λ (ws : List (List ℕ)). slice_get ws number ≡ Some (u ++ l.lead.word ++ v)) (sym grown.joined) (slice_get-more old grown.more number (u ++ l.lead.word ++ v) (at ∙ ap Some (sym l.word_is))) in
-        let numbers : n2 ≡ n0 ++ (number ∷ listed.ns) = listed.numbers_are ∙ ap (λ (xs : List ℕ). xs ++ listed.ns) p.0 ∙ append_assoc n0 (number ∷ []) listed.ns in
-        let residues : r2 ≡ r0 ++ (l.lead.coefficient ∷ listed.rs) = listed.residues_are ∙ ap (λ (xs : List ℕ). xs ++ listed.rs) p.1 ∙ append_assoc r0 (l.lead.coefficient ∷ []) listed.rs in
+        let tail : AreTerms new listed.ns listed.rs (product u l.rest v) =
+        subst (λ (g : List Term). AreTerms new listed.ns listed.rs (product u (below_lead g) v)) l.terms_are listed.are_terms in
+        let own : slice_get new number ≡ Some (u ++ l.lead.word ++ v) =
+        subst (λ (ws : List (List ℕ)). slice_get ws number ≡ Some (u ++ l.lead.word ++ v)) (sym grown.joined)
+        (slice_get-more old grown.more number (u ++ l.lead.word ++ v) (at ∙ ap Some (sym l.word_is))) in
+        let numbers : n2 ≡ n0 ++ (number ∷ listed.ns) = listed.numbers_are ∙ ap (λ (xs : List ℕ). xs ++ listed.ns) p.0
+        ∙ append_assoc n0 (number ∷ []) listed.ns in
+        let residues : r2 ≡ r0 ++ (l.lead.coefficient ∷ listed.rs) = listed.residues_are ∙ ap (λ (xs : List ℕ). xs ++ listed.rs) p.1
+        ∙ append_assoc r0 (l.lead.coefficient ∷ []) listed.rs in
         record {
           before = n0;
           before_residues = r0;
@@ -110,11 +123,21 @@ module _ (b : Elements) (kept : IsKept b) (forms : All IsPolynomial b.elements) 
           numbers_are = numbers ∙ sym (append-nil (n0 ++ (number ∷ listed.ns)));
           residues_are = residues ∙ sym (append-nil (r0 ++ (l.lead.coefficient ∷ listed.rs)));
           starts = (refl, sym same);
-          ends = (omega (arith, ap length numbers, length-append n0 (number ∷ listed.ns)), omega (arith, ap length numbers, length-append n0 (number ∷ listed.ns), AreTerms-length new listed.ns listed.rs (product u l.rest v) tail));
-          are_terms = subst (λ (g : List Term). AreTerms new (number ∷ listed.ns) (l.lead.coefficient ∷ listed.rs) (product u g v)) (sym l.terms_are) (own, refl, tail);
+          ends = (
+            omega (arith, ap length numbers, length-append n0 (number ∷ listed.ns)),
+            omega (
+              arith,
+              ap length numbers,
+              length-append n0 (number ∷ listed.ns),
+              AreTerms-length new listed.ns listed.rs (product u l.rest v) tail,
+            ),
+          );
+          are_terms = subst (λ (g : List Term). AreTerms new (number ∷ listed.ns) (l.lead.coefficient ∷ listed.rs) (product u g v))
+              (sym l.terms_are) (own, refl, tail);
         }
 
-    pub longer_by : ((t : Term) (ts : List Term) → f ≡ t ∷ ts → (n1 ≡ n0 ++ number ∷ []) × (r1 ≡ r0 ++ t.coefficient ∷ [])) → AreListed new n1 r1 n2 r2 (product u (below_lead f) v) → AreLonger n0 r0 n2 r2
+    pub longer_by : ((t : Term) (ts : List Term) → f ≡ t ∷ ts → (n1 ≡ n0 ++ number ∷ []) × (r1 ≡ r0 ++ t.coefficient ∷ [])) →
+        AreListed new n1 r1 n2 r2 (product u (below_lead f) v) → AreLonger n0 r0 n2 r2
     longer_by pushed listed =
         let l = has_lead in
         let p = pushed l.lead l.rest l.terms_are in
@@ -127,18 +150,22 @@ module _ (b : Elements) (kept : IsKept b) (forms : All IsPolynomial b.elements) 
         }
 
     -- their numbers are those of words
-    pub below_by : ((t : Term) (ts : List Term) → f ≡ t ∷ ts → (n1 ≡ n0 ++ number ∷ []) × (r1 ≡ r0 ++ t.coefficient ∷ [])) → AreListed new n1 r1 n2 r2 (product u (below_lead f) v)
+    pub below_by : ((t : Term) (ts : List Term) → f ≡ t ∷ ts → (n1 ≡ n0 ++ number ∷ []) × (r1 ≡ r0 ++ t.coefficient ∷ [])) →
+        AreListed new n1 r1 n2 r2 (product u (below_lead f) v)
         → All (λ n. n < length old) n0 → All (λ n. n < length new) n2
     below_by pushed listed below =
         let l = has_lead in
         let p = pushed l.lead l.rest l.terms_are in
-        let numbers : n2 ≡ n0 ++ (number ∷ listed.ns) = listed.numbers_are ∙ ap (λ (xs : List ℕ). xs ++ listed.ns) p.0 ∙ append_assoc n0 (number ∷ []) listed.ns in
+        let numbers : n2 ≡ n0 ++ (number ∷ listed.ns) = listed.numbers_are ∙ ap (λ (xs : List ℕ). xs ++ listed.ns) p.0
+        ∙ append_assoc n0 (number ∷ []) listed.ns in
         let more : length new ≡ length old + length grown.more = ap length grown.joined ∙ length-append old grown.more in
         subst (All (λ n. n < length new)) (sym numbers)
         (All-append (λ n. n < length new) n0 (number ∷ listed.ns) (λ k d inside. omega (arith, below k d inside, more))
-        (All-cons (λ n. n < length new) number listed.ns (omega (arith, slice_get_within old number w at, more)) (AreTerms-below new listed.ns listed.rs (product u (below_lead f) v) listed.are_terms)))
+        (All-cons (λ n. n < length new) number listed.ns (omega (arith, slice_get_within old number w at, more))
+        (AreTerms-below new listed.ns listed.rs (product u (below_lead f) v) listed.are_terms)))
 
-pub longer_sizes : (numbers residues more_numbers more_residues : List ℕ) → AreLonger numbers residues more_numbers more_residues → length numbers ≡ length residues → length more_numbers ≡ length more_residues
+pub longer_sizes : (numbers residues more_numbers more_residues : List ℕ) → AreLonger numbers residues more_numbers more_residues →
+    length numbers ≡ length residues → length more_numbers ≡ length more_residues
 longer_sizes numbers residues more_numbers more_residues h same =
     omega (arith, same, h.sizes, ap length h.numbers_are, ap length h.residues_are, length-append numbers h.ns, length-append residues h.rs)
 
@@ -146,10 +173,12 @@ pub longer_none : (numbers residues : List ℕ) → AreLonger numbers residues n
 longer_none numbers residues = record { ns = []; rs = []; numbers_are = sym (append-nil numbers); residues_are = sym (append-nil residues); sizes = refl }
 
 -- what the tail brings is in the closure
-pub tail_in_closure : (G : List (List Term)) (given_words : List (List ℕ)) (w u v : List ℕ) (f : List Term) → IsReducer G w (product u f v) → IsInClosure G given_words w
+pub tail_in_closure : (G : List (List Term)) (given_words : List (List ℕ)) (w u v : List ℕ) (f : List Term) → IsReducer G w (product u f v)
+    → IsInClosure G given_words w
     → (x : List ℕ) → Contains (map (λ t. t.word) (product u (below_lead f) v)) x → IsInClosure G given_words x
 tail_in_closure G given_words w u v [] q i x m = absurd (Contains-none x m)
-tail_in_closure G given_words w u v (t ∷ f) q i x m = brought w x (product u (t ∷ f) v) i q (Contains-more (u ++ t.word ++ v) (map (λ (s : Term). s.word) (product u f v)) x m)
+tail_in_closure G given_words w u v (t ∷ f) q i x m = brought w x (product u (t ∷ f) v) i q
+    (Contains-more (u ++ t.word ++ v) (map (λ (s : Term). s.word) (product u f v)) x m)
 
 pub numbered_own : (words : List (List ℕ)) (n : ℕ) (w : List ℕ) → slice_get words n ≡ Some w → Contains words w
 numbered_own words n w at = (n, slice_get_within words n w at, get_or_from_slice_get words n w w at)

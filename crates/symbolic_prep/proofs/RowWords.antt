@@ -35,4 +35,9 @@ module _ (weights : List ℕ) (are : AreWeights weights) (d bits room : ℕ) (ro
   rows_digits lt letters i e within k s inside = digits_of (length weights) bits (get_or (get_or rows i e) k s).word lt (letters i e within k s inside)
 
   pub rows_room : d ≤ room → All (HasDegree weights d) rows → All (All (λ t. length t.word ≤ room)) rows
-  rows_room le degree i e within k s inside = omega (arith, le, degree i e within k s inside, length-le-degree_of weights are (get_or (get_or rows i e) k s).word)
+  rows_room le degree i e within k s inside = omega (
+    arith,
+    le,
+    degree i e within k s inside,
+    length-le-degree_of weights are (get_or (get_or rows i e) k s).word,
+  )

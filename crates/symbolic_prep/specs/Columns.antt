@@ -1,5 +1,6 @@
 -- The words of the columns: packed, or as they are.
-use Rattle.std.specs.Prelude.{ℕ, ◌≡◌, ◌+◌, ◌<◌, ◌≤◌, min, List, All, AllPairs, Contains, Option, None, Some, map, length}
+use Rattle.std.specs.Prelude.{ℕ, ◌≡◌, ◌+◌, ◌<◌, ◌≤◌, min, List, All, AllPairs, Contains, Option, None, Some, map}
+use Rattle.std.specs.Prelude.{length}
 use Rattle.std.specs.List.{AllZip}
 use Rattle.words.specs.Order.{IsLetterwiseGreater}
 use Rattle.free_poly.specs.declared.term.Term.{Term}
@@ -15,8 +16,10 @@ abbrev pub words_in : ColumnWords → List (List ℕ)
 words_in (Packed words) = words
 words_in (Plain words) = words.items
 
--- what is kept of a closure: columns that have numbers and fall, for each the span of its reducer or none, and those that have none
-pub record IsKeptClosed (columns : List (List ℕ)) (spans : List (Option Span)) (numbers residues : List ℕ) (contested : List (List ℕ)) : Type 0 where
+-- what is kept of a closure: columns that have numbers and fall, for each the span of its reducer or none, and those
+-- that have none
+pub record IsKeptClosed (columns : List (List ℕ)) (spans : List (Option Span)) (numbers residues : List ℕ)
+    (contested : List (List ℕ)) : Type 0 where
   pub few : length columns < 4294967296
   pub falling : AllPairs IsLetterwiseGreater columns
   pub size : length spans ≡ length columns
@@ -24,7 +27,8 @@ pub record IsKeptClosed (columns : List (List ℕ)) (spans : List (Option Span))
   pub contested_is : contested ≡ contested_words columns (map (reducer_on columns numbers residues) spans)
 
 -- the whole closure with its entries, cut above the limit, and with its reducers where they are not
-pub record IsListedClosure (G : List (List Term)) (words : List (List ℕ)) (from limit : ℕ) (columns : List (List ℕ)) (spans : List (Option Span)) (numbers residues : List ℕ) (entries : ℕ) : Type 0 where
+pub record IsListedClosure (G : List (List Term)) (words : List (List ℕ)) (from limit : ℕ) (columns : List (List ℕ))
+    (spans : List (Option Span)) (numbers residues : List ℕ) (entries : ℕ) : Type 0 where
   pub reducers : List (Option (List Term))
   pub closed : IsClosed G words (record { columns = columns; reducers = reducers })
   pub count : entries ≡ min (from + terms_in (reducers_in reducers)) (limit + 1)

@@ -1,5 +1,7 @@
 -- The words of a closure by number: each word once, in the order in which they came.
-use Rattle.std.specs.Prelude.{ℕ, ◌≡◌, ◌≢◌, ◌+◌, ◌<◌, ◌≤◌, min, All, List, [], ◌∷◌, ◌++◌, AllPairs, Contains, Option, Some, None, map, length, take, slice_get, slice_index_or, slice_range}
+use Rattle.std.specs.Prelude.{ℕ, ◌≡◌, ◌≢◌, ◌+◌, ◌<◌, ◌≤◌, min, All, List, [], ◌∷◌, ◌++◌, AllPairs, Contains, Option}
+use Rattle.std.specs.Prelude.{Some, None, map, length, take}
+use Rattle.std.specs.Prelude.{slice_get, slice_index_or, slice_range}
 use Rattle.std.specs.List.{AllZip}
 use Rattle.free_poly.specs.declared.term.Term.{Term}
 use Rattle.ideal_laws.specs.Closure.{HasReducer, IsInClosure, IsReducer}
@@ -8,11 +10,13 @@ use Rattle.symbolic_prep.specs.declared.lists.Span.{Span}
 use Rattle.symbolic_prep.specs.Walk.{count_terms, tail_words}
 
 -- all of these words are in the closure, none of them stands twice, and those that the first ones bring are there
-pub record IsNumbered (G : List (List Term)) (given words : List (List ℕ)) (next : ℕ) (reducers : List (Option (List Term))) : Type 0 where
+pub record IsNumbered (G : List (List Term)) (given words : List (List ℕ)) (next : ℕ)
+    (reducers : List (Option (List Term))) : Type 0 where
   pub within : next ≤ length words
   pub sound : (w : List ℕ) → Contains words w → IsInClosure G given w
   pub has : (w : List ℕ) → Contains given w → Contains words w
-  pub brought : (w v : List ℕ) (r : List Term) → Contains (take next words) w → IsReducer G w r → Contains (map (λ t. t.word) r) v → Contains words v
+  pub brought : (w v : List ℕ) (r : List Term) → Contains (take next words) w → IsReducer G w r →
+      Contains (map (λ t. t.word) r) v → Contains words v
   pub are_reducers : AllZip (HasReducer G) (take next words) reducers
   pub apart : AllPairs (λ v w. v ≢ w) words
 
@@ -31,7 +35,8 @@ AreTerms words [] [] (t ∷ ts) = ⊥
 AreTerms words [] (r ∷ rs) ts = ⊥
 AreTerms words (n ∷ ns) [] ts = ⊥
 AreTerms words (n ∷ ns) (r ∷ rs) [] = ⊥
-AreTerms words (n ∷ ns) (r ∷ rs) (t ∷ ts) = (slice_get words n ≡ Some t.word) × (r ≡ t.coefficient) × AreTerms words ns rs ts
+AreTerms words (n ∷ ns) (r ∷ rs) (t ∷ ts) = (slice_get words n ≡ Some t.word) × (r ≡ t.coefficient)
+    × AreTerms words ns rs ts
 
 -- the terms that have these numbers and coefficients
 abbrev pub terms_on : List (List ℕ) → List ℕ → List ℕ → List Term
@@ -40,7 +45,8 @@ terms_on words (n ∷ ns) [] = []
 terms_on words (n ∷ ns) (r ∷ rs) = record { word = slice_index_or words n []; coefficient = r } ∷ terms_on words ns rs
 
 -- numbers and coefficients with those of some terms behind them
-pub record AreListed (words : List (List ℕ)) (numbers residues more_numbers more_residues : List ℕ) (terms : List Term) : Type 0 where
+pub record AreListed (words : List (List ℕ)) (numbers residues more_numbers more_residues : List ℕ)
+    (terms : List Term) : Type 0 where
   pub ns : List ℕ
   pub rs : List ℕ
   pub numbers_are : more_numbers ≡ numbers ++ ns
@@ -48,18 +54,19 @@ pub record AreListed (words : List (List ℕ)) (numbers residues more_numbers mo
   pub are_terms : AreTerms words ns rs terms
 
 -- the terms of a reducer stand from one place to another, or there is none
-pub record StandsAt (words : List (List ℕ)) (numbers residues : List ℕ) (start end : ℕ) (terms : List Term) : Type 0 where
-  pub before : List ℕ
-  pub before_residues : List ℕ
-  pub behind : List ℕ
-  pub behind_residues : List ℕ
-  pub ns : List ℕ
-  pub rs : List ℕ
-  pub numbers_are : numbers ≡ before ++ ns ++ behind
-  pub residues_are : residues ≡ before_residues ++ rs ++ behind_residues
-  pub starts : (length before ≡ start) × (length before_residues ≡ start)
-  pub ends : (start + length ns ≡ end) × (start + length rs ≡ end)
-  pub are_terms : AreTerms words ns rs terms
+pub record StandsAt (words : List (List ℕ)) (numbers residues : List ℕ) (start end : ℕ) (terms : List Term) : Type 0
+  where
+    pub before : List ℕ
+    pub before_residues : List ℕ
+    pub behind : List ℕ
+    pub behind_residues : List ℕ
+    pub ns : List ℕ
+    pub rs : List ℕ
+    pub numbers_are : numbers ≡ before ++ ns ++ behind
+    pub residues_are : residues ≡ before_residues ++ rs ++ behind_residues
+    pub starts : (length before ≡ start) × (length before_residues ≡ start)
+    pub ends : (start + length ns ≡ end) × (start + length rs ≡ end)
+    pub are_terms : AreTerms words ns rs terms
 
 abbrev pub IsSpanOf : List (List ℕ) → List ℕ → List ℕ → Option Span → Option (List Term) → Type 0
 IsSpanOf words numbers residues None None = Unit {0}
@@ -76,7 +83,9 @@ pub record AreLonger (numbers residues more_numbers more_residues : List ℕ) : 
   pub sizes : length ns ≡ length rs
 
 -- what the reducer of a word, if it has one, adds to the words, the lists and the entries
-pub record IsReducedTo (G : List (List Term)) (word : List ℕ) (old new : List (List ℕ)) (numbers residues more_numbers more_residues : List ℕ) (entries limit : ℕ) (span : Option Span) (more : ℕ) : Type 0 where
+pub record IsReducedTo (G : List (List Term)) (word : List ℕ) (old new : List (List ℕ))
+    (numbers residues more_numbers more_residues : List ℕ) (entries limit : ℕ) (span : Option Span)
+    (more : ℕ) : Type 0 where
   pub reducer : Option (List Term)
   pub is : HasReducer G word reducer
   pub grown : IsGrown old new (tail_words reducer)
@@ -86,7 +95,9 @@ pub record IsReducedTo (G : List (List Term)) (word : List ℕ) (old new : List 
   pub stands : more ≤ limit → IsSpanOf new more_numbers more_residues span reducer
 
 -- words by number with their reducers, and the entries of these with those that were there, cut above the limit
-pub record IsNumberWalk (G : List (List Term)) (given words : List (List ℕ)) (next from limit : ℕ) (spans : List (Option Span)) (numbers residues : List ℕ) (entries : ℕ) : Type 0 where
+pub record IsNumberWalk (G : List (List Term)) (given words : List (List ℕ)) (next from limit : ℕ)
+    (spans : List (Option Span))
+    (numbers residues : List ℕ) (entries : ℕ) : Type 0 where
   pub reducers : List (Option (List Term))
   pub numbered : IsNumbered G given words next reducers
   pub count : entries ≡ min (from + terms_in (reducers_in reducers)) (limit + 1)
@@ -97,15 +108,19 @@ pub record IsNumberWalk (G : List (List Term)) (given words : List (List ℕ)) (
 -- the reducer that stands in the lists, if one does
 abbrev pub reducer_on : List (List ℕ) → List ℕ → List ℕ → Option Span → Option (List Term)
 reducer_on words numbers residues None = None
-reducer_on words numbers residues (Some s) = Some (terms_on words (slice_range numbers s.start s.end) (slice_range residues s.start s.end))
+reducer_on words numbers residues (Some s) = Some (terms_on words (slice_range numbers s.start s.end)
+    (slice_range residues s.start s.end))
 
 -- a span is within the lists, and its numbers are those of words
 abbrev pub IsSpanWithin : ℕ → List ℕ → List ℕ → Option Span → Type 0
 IsSpanWithin count numbers residues None = Unit {0}
-IsSpanWithin count numbers residues (Some s) = (s.start < s.end) × (s.end ≤ length numbers) × (s.end ≤ length residues) × All (λ n. n < count) (slice_range numbers s.start s.end)
+IsSpanWithin count numbers residues (Some s) = (s.start < s.end) × (s.end ≤ length numbers) × (s.end ≤ length residues)
+    × All (λ n. n < count) (slice_range numbers s.start s.end)
 
 -- the same words in another order, each with its reducer or none
-pub record IsListing (words : List (List ℕ)) (reducers : List (Option (List Term))) (columns : List (List ℕ)) (columns_reducers : List (Option (List Term))) : Type 0 where
+pub record IsListing (words : List (List ℕ)) (reducers : List (Option (List Term))) (columns : List (List ℕ))
+    (columns_reducers : List (Option (List Term))) : Type 0 where
   pub size : length columns_reducers ≡ length columns
-  pub from : (c : ℕ) → c < length columns → (n : ℕ) × (n < length words) × (slice_get words n ≡ slice_get columns c) × (slice_get reducers n ≡ slice_get columns_reducers c)
+  pub from : (c : ℕ) → c < length columns → (n : ℕ) × (n < length words) × (slice_get words n ≡ slice_get columns c)
+      × (slice_get reducers n ≡ slice_get columns_reducers c)
   pub all : (w : List ℕ) → Contains words w → Contains columns w

@@ -1,5 +1,6 @@
 -- Words as numbers: a digit for each letter from the left, in a room of so many digits.
-use Rattle.std.specs.Prelude.{ℕ, ◌≡◌, ◌≢◌, ◌+◌, ◌*◌, ◌/◌, ◌%◌, ◌^◌, ◌<◌, ◌≤◌, List, [], ◌∷◌, All, AllPairs, length, zero, suc}
+use Rattle.std.specs.Prelude.{ℕ, ◌≡◌, ◌≢◌, ◌+◌, ◌*◌, ◌/◌, ◌%◌, ◌^◌, ◌<◌, ◌≤◌, List, [], ◌∷◌, All, AllPairs, length}
+use Rattle.std.specs.Prelude.{zero, suc}
 
 -- the first letter has the highest digit, which is one more than the letter, and behind the last one are zeros
 abbrev pub packed : ℕ → ℕ → List ℕ → ℕ

@@ -1,4 +1,5 @@
-ghost use Rattle.std.specs.Prelude.{◌≡◌, ◌+◌, ◌^◌, ◌<◌, ◌≤◌, ◌↔◌, List, ℕ, All, Contains, IfOk, IsErrOf, IsTrue, length, map, slice_index};
+ghost use Rattle.std.specs.Prelude.{◌≡◌, ◌+◌, ◌^◌, ◌<◌, ◌≤◌, ◌↔◌, List, ℕ, All, Contains, IfOk, IsErrOf, IsTrue};
+ghost use Rattle.std.specs.Prelude.{length, map, slice_index};
 ghost use Rattle.words.specs.Words.{IsOver, degree_of};
 ghost use Rattle.free_poly.specs.declared.term.Term.{Term};
 ghost use Rattle.free_poly.specs.Poly.{IsPolynomial};
@@ -57,9 +58,12 @@ pub(crate) fn closure_by_number(
     requires most { most < 4294967296 }
     requires entries { entries ≤ limit + 1 }
 
-    ensures listed { IfOk result (λ c. IsListedClosure basis.now.elements (words_of rows.now) entries limit (words_in c.columns) c.spans.items c.lists.numbers.items c.lists.residues.items c.entries) }
+    ensures listed { IfOk result (λ c. IsListedClosure basis.now.elements (words_of rows.now) entries limit
+        (words_in c.columns) c.spans.items c.lists.numbers.items c.lists.residues.items c.entries) }
     ensures within { IfOk result (λ c. length (words_in c.columns) ≤ most) }
-    ensures many { IsErrOf result ColumnFault.TooMany → (columns : List (List ℕ)) × AreColumns basis.now.elements (words_of rows.now) columns × (most < length columns) }
+    ensures many { IsErrOf result ColumnFault.TooMany →
+        (columns : List (List ℕ)) × AreColumns basis.now.elements (words_of rows.now) columns
+        × (most < length columns) }
 {
     let _done = basis.done();
     keeps(index);
@@ -108,10 +112,13 @@ fn in_order(alloc: Global, numbered: Numbered, limit: u32) -> Result<ListedClosu
     requires few { length numbered.table.words < 4294967296 }
     requires degree { HaveOneDegree numbered.table.words }
     requires walked { (G : List (List Term)) × (given : List (List ℕ)) × (from : ℕ)
-        × IsNumberWalk G given numbered.table.words (length numbered.table.words) from limit numbered.spans.items numbered.lists.numbers.items numbered.lists.residues.items numbered.entries }
+        × IsNumberWalk G given numbered.table.words (length numbered.table.words) from limit numbered.spans.items
+        numbered.lists.numbers.items numbered.lists.residues.items numbered.entries }
     ensures listed { IfOk result (λ c. (G : List (List Term)) (given : List (List ℕ)) (from : ℕ)
-        → IsNumberWalk G given numbered.table.words (length numbered.table.words) from limit numbered.spans.items numbered.lists.numbers.items numbered.lists.residues.items numbered.entries
-        → IsListedClosure G given from limit (words_in c.columns) c.spans.items c.lists.numbers.items c.lists.residues.items c.entries) }
+        → IsNumberWalk G given numbered.table.words (length numbered.table.words) from limit numbered.spans.items
+        numbered.lists.numbers.items numbered.lists.residues.items numbered.entries
+        → IsListedClosure G given from limit (words_in c.columns) c.spans.items c.lists.numbers.items
+        c.lists.residues.items c.entries) }
     ensures within { IfOk result (λ c. length (words_in c.columns) ≡ length numbered.table.words) }
 {
     let (words, order) = numbered.table.in_order(alloc)?;

@@ -1,4 +1,5 @@
-ghost use Rattle.std.specs.Prelude.{◌≡◌, ◌+◌, ◌<◌, ◌≤◌, ◌++◌, ◌∷◌, List, ℕ, All, AllPairs, Contains, IfOk, IsErrOf, IsTrue, OnOk, Option, length};
+ghost use Rattle.std.specs.Prelude.{◌≡◌, ◌+◌, ◌<◌, ◌≤◌, ◌++◌, ◌∷◌, List, ℕ, All, AllPairs, Contains, IfOk, IsErrOf};
+ghost use Rattle.std.specs.Prelude.{IsTrue, OnOk, Option, length};
 ghost use Rattle.std.specs.List.{AllZip};
 ghost use Rattle.words.specs.Order.{IsLetterwiseGreater};
 ghost use Rattle.free_poly.specs.declared.term.Term.{Term};
@@ -41,9 +42,12 @@ pub(crate) fn closure_by_word(
     requires most { most < 4294967296 }
     requires entries { entries ≤ limit + 1 }
 
-    ensures listed { IfOk result (λ c. IsListedClosure basis.now.elements (words_of rows.now) entries limit (words_in c.columns) c.spans.items c.lists.numbers.items c.lists.residues.items c.entries) }
+    ensures listed { IfOk result (λ c. IsListedClosure basis.now.elements (words_of rows.now) entries limit
+        (words_in c.columns) c.spans.items c.lists.numbers.items c.lists.residues.items c.entries) }
     ensures within { IfOk result (λ c. length (words_in c.columns) ≤ most) }
-    ensures many { IsErrOf result ColumnFault.TooMany → (columns : List (List ℕ)) × AreColumns basis.now.elements (words_of rows.now) columns × (most < length columns) }
+    ensures many { IsErrOf result ColumnFault.TooMany →
+        (columns : List (List ℕ)) × AreColumns basis.now.elements (words_of rows.now) columns
+        × (most < length columns) }
 {
     let _done = basis.done();
     keeps(index);
@@ -70,7 +74,8 @@ fn listed_if(
     requires few { length columns.now < 4294967296 }
     requires falling { AllPairs IsLetterwiseGreater columns.now }
     requires on_columns { IsTrue held → All (IsOnColumns columns.now) reducers.now }
-    ensures { IfOk result (λ l. IsTrue held → AllZip (IsSpanOf columns.now l.1.numbers.items l.1.residues.items) l.0.items reducers.now) }
+    ensures { IfOk result (λ l. IsTrue held → AllZip (IsSpanOf columns.now l.1.numbers.items l.1.residues.items)
+        l.0.items reducers.now) }
 {
     if held {
         listed(alloc, columns, reducers)
@@ -88,7 +93,8 @@ fn listed(
     requires few { length columns.now < 4294967296 }
     requires falling { AllPairs IsLetterwiseGreater columns.now }
     requires on_columns { All (IsOnColumns columns.now) reducers.now }
-    ensures { IfOk result (λ l. AllZip (IsSpanOf columns.now l.1.numbers.items l.1.residues.items) l.0.items reducers.now) }
+    ensures { IfOk result (λ l. AllZip (IsSpanOf columns.now l.1.numbers.items l.1.residues.items) l.0.items
+        reducers.now) }
 {
     let mut spans = Vec::with_capacity(alloc, reducers.len())?;
     let mut lists = Lists::new(alloc);
@@ -109,8 +115,10 @@ fn push_listed(
     requires falling { AllPairs IsLetterwiseGreater columns.now }
     requires on_columns { IsOnColumns columns.now reducer.now }
     requires sizes { length lists.old.numbers.items ≡ length lists.old.residues.items }
-    ensures longer { OnOk result (AreLonger lists.old.numbers.items lists.old.residues.items lists.new.numbers.items lists.new.residues.items) }
-    ensures stands { IfOk result (λ span. IsSpanOf columns.now lists.new.numbers.items lists.new.residues.items span reducer.now) }
+    ensures longer { OnOk result (AreLonger lists.old.numbers.items lists.old.residues.items lists.new.numbers.items
+        lists.new.residues.items) }
+    ensures stands { IfOk result (λ span. IsSpanOf columns.now lists.new.numbers.items lists.new.residues.items span
+        reducer.now) }
 {
     match reducer {
         Some(poly) => {
@@ -128,7 +136,8 @@ fn push_terms(columns: &[Word], terms: &[Term], lists: &mut Lists) -> Result<(),
     requires few { length columns.now < 4294967296 }
     requires falling { AllPairs IsLetterwiseGreater columns.now }
     requires on_columns { All (λ t. Contains columns.now t.word) terms.now }
-    ensures { OnOk result (AreListed columns.now lists.old.numbers.items lists.old.residues.items lists.new.numbers.items lists.new.residues.items terms.now) }
+    ensures { OnOk result (AreListed columns.now lists.old.numbers.items lists.old.residues.items
+        lists.new.numbers.items lists.new.residues.items terms.now) }
 {
     for term in terms {
         let column = place_of(columns, term.word.letters());

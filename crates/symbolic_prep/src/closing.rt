@@ -39,10 +39,12 @@ pub fn close(
     requires letters { All (UsesLetters (length basis.now.weights)) rows.now }
 
     ensures closed { IfOk result (IsClosed basis.now.elements (words_of rows.now)) }
-    ensures within { OnOk result (NonePasses (IsClosedQuantity basis.now.elements rows.now) (closing_limits limits.now)) }
+    ensures within { OnOk result (NonePasses (IsClosedQuantity basis.now.elements rows.now)
+        (closing_limits limits.now)) }
 
     ensures limit { (kind : LimitKind) (degree value : ℕ) → result ≡ Err (EngineFault.Limit kind degree value)
-        → (degree ≡ d) × IsFirstPassing (IsClosedQuantity basis.now.elements rows.now) (closing_limits limits.now) kind value }
+        → (degree ≡ d) × IsFirstPassing (IsClosedQuantity basis.now.elements rows.now) (closing_limits limits.now)
+        kind value }
 {
     let entries = entries_of(rows, limits.entries);
     let listed = match closure_of(alloc, basis, index, rows, entries, d, limits) {
@@ -76,10 +78,14 @@ fn closure_of(
     requires letters { All (UsesLetters (length basis.now.weights)) rows.now }
     requires entries { entries ≤ limits.now.entries + 1 }
 
-    ensures listed { IfOk result (λ c. IsListedClosure basis.now.elements (words_of rows.now) entries limits.now.entries (words_in c.columns) c.spans.items c.lists.numbers.items c.lists.residues.items c.entries) }
+    ensures listed { IfOk result (λ c. IsListedClosure basis.now.elements (words_of rows.now) entries
+        limits.now.entries (words_in c.columns) c.spans.items c.lists.numbers.items c.lists.residues.items
+        c.entries) }
     ensures within { IfOk result (λ c. length (words_in c.columns) ≤ limits.now.columns) }
     ensures few { IfOk result (λ c. length (words_in c.columns) < 4294967296) }
-    ensures many { IsErrOf result ColumnFault.TooMany → (columns : List (List ℕ)) × AreColumns basis.now.elements (words_of rows.now) columns × (limits.now.columns < length columns) }
+    ensures many { IsErrOf result ColumnFault.TooMany →
+        (columns : List (List ℕ)) × AreColumns basis.now.elements (words_of rows.now) columns
+        × (limits.now.columns < length columns) }
 {
     let most = limits.columns as usize;
     let limit = limits.entries;

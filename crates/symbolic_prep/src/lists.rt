@@ -1,4 +1,5 @@
-ghost use Rattle.std.specs.Prelude.{◌≡◌, ◌+◌, ◌^◌, ◌<◌, ◌≤◌, ◌⊎◌, ◌++◌, ◌∷◌, [], All, Contains, IsErrOf, IsTrue, OnOk, length, map};
+ghost use Rattle.std.specs.Prelude.{◌≡◌, ◌+◌, ◌^◌, ◌<◌, ◌≤◌, ◌⊎◌, ◌++◌, ◌∷◌, [], All, Contains, IsErrOf, IsTrue};
+ghost use Rattle.std.specs.Prelude.{OnOk, length, map};
 ghost use Rattle.free_poly.specs.Terms.{product};
 ghost use Rattle.symbolic_prep.specs.Numbers.{AreListed, IsGrown};
 ghost use Rattle.symbolic_prep.specs.Packing.{HasDigits, packed};
@@ -55,10 +56,15 @@ pub(crate) fn push_product(
     requires fits { All (λ t. length before.now + length t.word + length rest.now ≤ table.old.room) terms.now }
     requires before_key { before_key ≡ packed (2 ^ table.old.bits) table.old.room before.now }
     requires rest_key { rest_key ≡ packed (2 ^ table.old.bits) table.old.room rest.now }
-    ensures grown { OnOk result (IsGrown table.old.words table.new.words (map (λ t. t.word) (product before.now terms.now rest.now))) }
-    ensures listed { OnOk result (IsTrue held → AreListed table.new.words lists.old.numbers.items lists.old.residues.items lists.new.numbers.items lists.new.residues.items (product before.now terms.now rest.now)) }
+    ensures grown { OnOk result (IsGrown table.old.words table.new.words
+        (map (λ t. t.word) (product before.now terms.now rest.now))) }
+    ensures listed { OnOk result (IsTrue held → AreListed table.new.words lists.old.numbers.items
+        lists.old.residues.items lists.new.numbers.items lists.new.residues.items
+        (product before.now terms.now rest.now)) }
     ensures within { OnOk result (length table.new.words ≤ most) }
-    ensures many { IsErrOf result ColumnFault.TooMany → HasMore most (λ w. Contains table.old.words w ⊎ Contains (map (λ t. t.word) (product before.now terms.now rest.now)) w) }
+    ensures many { IsErrOf result ColumnFault.TooMany →
+        HasMore most (λ w. Contains table.old.words w ⊎ Contains
+        (map (λ t. t.word) (product before.now terms.now rest.now)) w) }
     ensures bits { OnOk result (table.new.bits ≡ table.old.bits) }
     ensures room { OnOk result (table.new.room ≡ table.old.room) }
 {
@@ -79,7 +85,8 @@ pub(crate) fn push_number(
     residue: u32,
     lists: &mut Lists,
 ) -> Result<(), ColumnFault>
-    ensures pushed { OnOk result (IsTrue held → (lists.new.numbers.items ≡ lists.old.numbers.items ++ number ∷ []) × (lists.new.residues.items ≡ lists.old.residues.items ++ residue ∷ [])) }
+    ensures pushed { OnOk result (IsTrue held → (lists.new.numbers.items ≡ lists.old.numbers.items ++ number ∷ [])
+        × (lists.new.residues.items ≡ lists.old.residues.items ++ residue ∷ [])) }
     ensures memory { IsErrOf result ColumnFault.TooMany → ⊥ }
 {
     if held {

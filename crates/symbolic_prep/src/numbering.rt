@@ -1,4 +1,5 @@
-ghost use Rattle.std.specs.Prelude.{◌≡◌, ◌+◌, ◌^◌, ◌<◌, ◌≤◌, ◌++◌, ◌∷◌, [], List, ℕ, All, Contains, IfOk, IsErrOf, IsTrue, OnOk, Some, length, slice_get};
+ghost use Rattle.std.specs.Prelude.{◌≡◌, ◌+◌, ◌^◌, ◌<◌, ◌≤◌, ◌++◌, ◌∷◌, [], List, ℕ, All, Contains, IfOk, IsErrOf};
+ghost use Rattle.std.specs.Prelude.{IsTrue, OnOk, Some, length, slice_get};
 ghost use Rattle.words.specs.Words.{IsOver, degree_of};
 ghost use Rattle.free_poly.specs.declared.term.Term.{Term};
 ghost use Rattle.free_poly.specs.Poly.{IsPolynomial};
@@ -49,11 +50,13 @@ pub(crate) fn walk_by_number(
     requires most { most < 4294967296 }
     requires entries { entries ≤ limit + 1 }
 
-    ensures walked { IfOk result (λ n. IsNumberWalk basis.now.elements table.words n.table.words (length n.table.words) entries limit n.spans.items n.lists.numbers.items n.lists.residues.items n.entries) }
+    ensures walked { IfOk result (λ n. IsNumberWalk basis.now.elements table.words n.table.words
+        (length n.table.words) entries limit n.spans.items n.lists.numbers.items n.lists.residues.items n.entries) }
     ensures within { IfOk result (λ n. length n.table.words ≤ most) }
     ensures bits { IfOk result (λ n. n.table.bits ≡ table.bits) }
     ensures room { IfOk result (λ n. n.table.room ≡ table.room) }
-    ensures many { IsErrOf result ColumnFault.TooMany → (columns : List (List ℕ)) × AreColumns basis.now.elements table.words columns × (most < length columns) }
+    ensures many { IsErrOf result ColumnFault.TooMany →
+        (columns : List (List ℕ)) × AreColumns basis.now.elements table.words columns × (most < length columns) }
 {
     let _done = basis.done();
     let _len = table.len();
@@ -116,12 +119,16 @@ fn push_reducer(
     requires most { most < 4294967296 }
     requires sizes { entries ≤ limit → length lists.old.numbers.items ≡ length lists.old.residues.items }
 
-    ensures reduced { IfOk result (λ r. IsReducedTo basis.now.elements word.now table.old.words table.new.words lists.old.numbers.items lists.old.residues.items lists.new.numbers.items lists.new.residues.items entries limit r.0 r.1) }
+    ensures reduced { IfOk result (λ r. IsReducedTo basis.now.elements word.now table.old.words table.new.words
+        lists.old.numbers.items lists.old.residues.items lists.new.numbers.items lists.new.residues.items entries
+        limit r.0 r.1) }
     ensures within { OnOk result (length table.new.words ≤ most) }
     ensures bits { OnOk result (table.new.bits ≡ table.old.bits) }
     ensures room { OnOk result (table.new.room ≡ table.old.room) }
     ensures sizes { IfOk result (λ r. r.1 ≤ limit → length lists.new.numbers.items ≡ length lists.new.residues.items) }
-    ensures many { IsErrOf result ColumnFault.TooMany → (given : List (List ℕ)) → ((w : List ℕ) → Contains table.old.words w → IsInClosure basis.now.elements given w) → HasMore most (IsInClosure basis.now.elements given) }
+    ensures many { IsErrOf result ColumnFault.TooMany → (given : List (List ℕ)) →
+        ((w : List ℕ) → Contains table.old.words w → IsInClosure basis.now.elements given w) →
+        HasMore most (IsInClosure basis.now.elements given) }
 {
     let _done = basis.done();
     match index.first_reducer(word) {
@@ -162,7 +169,8 @@ fn push_reducer(
 /// Lists the leading term of a reducer, whose word has this number.
 fn push_lead(held: bool, number: u32, terms: &[Term], lists: &mut Lists) -> Result<(), ColumnFault>
     ensures pushed { OnOk result (IsTrue held → (t : Term) (ts : List Term) → terms.now ≡ t ∷ ts
-        → (lists.new.numbers.items ≡ lists.old.numbers.items ++ number ∷ []) × (lists.new.residues.items ≡ lists.old.residues.items ++ t.coefficient ∷ [])) }
+        → (lists.new.numbers.items ≡ lists.old.numbers.items ++ number ∷ [])
+        × (lists.new.residues.items ≡ lists.old.residues.items ++ t.coefficient ∷ [])) }
     ensures memory { IsErrOf result ColumnFault.TooMany → ⊥ }
 {
     match terms.first() {

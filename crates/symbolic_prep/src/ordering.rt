@@ -1,4 +1,5 @@
-ghost use Rattle.std.specs.Prelude.{◌≡◌, ◌≢◌, ◌<◌, ◌≤◌, ℕ, All, AllPairs, IfOk, None, length, map, slice_index, slice_index_or};
+ghost use Rattle.std.specs.Prelude.{◌≡◌, ◌≢◌, ◌<◌, ◌≤◌, ℕ, All, AllPairs, IfOk, None, length, map, slice_index};
+ghost use Rattle.std.specs.Prelude.{slice_index_or};
 ghost use Rattle.std.specs.List.{range_with_len};
 ghost use Rattle.symbolic_prep.specs.Orders.{IsRising};
 
@@ -66,7 +67,8 @@ pub(crate) fn columns_of(alloc: Global, order: &[u32]) -> Result<Vec<u32>, NoMem
     requires within { All (λ n. n < length order.now) order.now }
     requires apart { AllPairs (λ a b. a ≢ b) order.now }
     ensures size { IfOk result (λ v. length v.items ≡ length order.now) }
-    ensures columns { IfOk result (λ v. (c : ℕ) → c < length order.now → slice_index v.items (slice_index order.now c) ≡ c) }
+    ensures columns { IfOk result (λ v. (c : ℕ) → c < length order.now →
+        slice_index v.items (slice_index order.now c) ≡ c) }
 {
     let mut columns = vec![in alloc; 0u32; order.len()]?;
     for (column, number) in order.iter().enumerate() {

@@ -1,4 +1,5 @@
-ghost use Rattle.std.specs.Prelude.{◌≡◌, ◌<◌, ◌^◌, AllPairs, Contains, IfOk, Some, [], length, map, slice_get, slice_index_or};
+ghost use Rattle.std.specs.Prelude.{◌≡◌, ◌<◌, ◌^◌, AllPairs, Contains, IfOk, Some, [], length, map, slice_get};
+ghost use Rattle.std.specs.Prelude.{slice_index_or};
 ghost use Rattle.words.specs.Order.{IsLetterwiseGreater};
 ghost use Rattle.symbolic_prep.specs.Orders.{ArePackedWords};
 ghost use Rattle.symbolic_prep.specs.Packing.{unpacked};

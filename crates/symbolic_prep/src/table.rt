@@ -1,4 +1,5 @@
-ghost use Rattle.std.specs.Prelude.{◌≡◌, ◌≢◌, ◌+◌, ◌^◌, ◌<◌, ◌≤◌, ◌++◌, ◌∷◌, [], AllPairs, IfOk, OnOk, Some, length, slice_get, slice_index_or};
+ghost use Rattle.std.specs.Prelude.{◌≡◌, ◌≢◌, ◌+◌, ◌^◌, ◌<◌, ◌≤◌, ◌++◌, ◌∷◌, [], AllPairs, IfOk, OnOk, Some};
+ghost use Rattle.std.specs.Prelude.{length, slice_get, slice_index_or};
 ghost use Rattle.symbolic_prep.specs.Packing.{HasDigits, IsPacking, packed};
 ghost use Rattle.symbolic_prep.specs.Numbers.{IsGrown};
 ghost use Rattle.symbolic_prep.specs.Orders.{HaveOneDegree, IsOrder};
@@ -25,7 +26,11 @@ impl Model for WordTable {
 
     ghost Value = { Table };
 
-    ghost view = { λ t. record { bits = t.packing.bits; room = t.packing.room; words = map (unpacked (2 ^ t.packing.bits) t.packing.room) t.keys.keys } };
+    ghost view = { λ t. record {
+      bits = t.packing.bits;
+      room = t.packing.room;
+      words = map (unpacked (2 ^ t.packing.bits) t.packing.room) t.keys.keys;
+    } };
 
     ghost invariant = { λ t. IsTable t.packing.bits t.packing.room t.keys.keys };
 }
@@ -85,7 +90,8 @@ impl WordTable {
         requires fits { length before.now + length term.now + length rest.now ≤ self.old.room }
         requires before_key { before_key ≡ packed (2 ^ self.old.bits) self.old.room before.now }
         requires rest_key { rest_key ≡ packed (2 ^ self.old.bits) self.old.room rest.now }
-        ensures grown { OnOk result (IsGrown self.old.words self.new.words ((before.now ++ term.now ++ rest.now) ∷ [])) }
+        ensures grown { OnOk result (IsGrown self.old.words self.new.words
+            ((before.now ++ term.now ++ rest.now) ∷ [])) }
         ensures number { IfOk result (λ n. slice_get self.new.words n ≡ Some (before.now ++ term.now ++ rest.now)) }
         ensures few { OnOk result (length self.new.words ≤ length self.old.words + 1) }
         ensures bits { self.new.bits ≡ self.old.bits }

@@ -1,5 +1,6 @@
 -- The list of the words of a degree has exactly the words of the degree, and falls, so that it has each once.
-use Rattle.std.proofs.Common.{◌≡◌, ◌+◌, ◌-◌, ◌<◌, ◌≤◌, ℕ, zero, suc, Bool, true, false, cond, leb, List, [], ◌∷◌, map, length, refl, sym, ap, ◌∙◌, inl, inr, arith, All, AllPairs, subst}
+use Rattle.std.proofs.Common.{◌≡◌, ◌+◌, ◌-◌, ◌<◌, ◌≤◌, ℕ, zero, suc, Bool, true, false, cond, leb, List, [], ◌∷◌, map, length, refl, sym, ap, ◌∙◌}
+use Rattle.std.proofs.Common.{inl, inr, arith, All, AllPairs, subst}
 use Rattle.std.specs.List.{Contains, flat_map, range_with_len}
 use Rattle.std.proofs.lemmas.Bool.{cases_eq, cases_Bool, leb-true, le-leb}
 use Rattle.std.proofs.lemmas.List.Elements.{All-cons, All-head, All-nil, All-tail}
@@ -8,7 +9,8 @@ use Rattle.words.specs.Words.{AreWeights, IsOver, degree_of, weight_of, with_let
 use Rattle.words.specs.Order.{HasSmallerFirst, IsGreater, IsLetterwiseGreater, ListsWords}
 use Rattle.words.proofs.OrderFacts.{agrees_in_degree, greater_says, letterwise_from_difference, self_cmp}
 use Rattle.words.proofs.Weights.{length-le-degree_of, weight_of-bounds}
-use Rattle.words.proofs.Members.{AllPairs-flat_map, AllPairs-map, AllPairs-nil, All-from_members, Contains-cases, Contains-first, Contains-flat_map, Contains-flat_map_cases, Contains-map, Contains-map_cases, Contains-more, Contains-none}
+use Rattle.words.proofs.Members.{AllPairs-flat_map, AllPairs-map, AllPairs-nil, All-from_members, Contains-cases, Contains-first, Contains-flat_map}
+use Rattle.words.proofs.Members.{Contains-flat_map_cases, Contains-map, Contains-map_cases, Contains-more, Contains-none}
 
 pub Contains-range : (a n k : ℕ) → a ≤ k → k < a + n → Contains (range_with_len a n) k
 Contains-range a zero k low high = absurd (omega (arith, low, high))
@@ -27,17 +29,23 @@ range-bounds a (suc n) k h = elim (Contains-cases a (range_with_len (a + 1) n) k
 pub range-rising : (a n : ℕ) → AllPairs (λ x y. x < y) (range_with_len a n)
 range-rising a zero = AllPairs-nil (λ x y. x < y)
 range-rising a (suc n) =
-    AllPairs-cons (λ x y. x < y) a (range_with_len (a + 1) n) (All-from_members (λ y. a < y) _ (λ y m. omega (arith, (range-bounds (a + 1) n y m).0))) (range-rising (a + 1) n)
+    AllPairs-cons (λ x y. x < y) a (range_with_len (a + 1) n) (All-from_members (λ y. a < y) _
+    (λ y m. omega (arith, (range-bounds (a + 1) n y m).0))) (range-rising (a + 1) n)
 
 module _ (weights : List ℕ) where
   -- the words that begin with a letter
-  pub in_letter : (W : ℕ → List (List ℕ)) (d x : ℕ) (w : List ℕ) → weight_of weights x ≤ d → Contains (W (d - weight_of weights x)) w → Contains (with_letter weights W d x) (x ∷ w)
+  pub in_letter : (W : ℕ → List (List ℕ)) (d x : ℕ) (w : List ℕ) → weight_of weights x ≤ d → Contains (W (d - weight_of weights x)) w →
+      Contains (with_letter weights W d x) (x ∷ w)
   in_letter W d x w le m = rw (le-leb _ _ le) (Contains-map (λ v. x ∷ v) (W (d - weight_of weights x)) w m)
 
   pub letter_cases : (W : ℕ → List (List ℕ)) (d x : ℕ) (w : List ℕ) → Contains (with_letter weights W d x) w
       → (weight_of weights x ≤ d) × ((v : List ℕ) × Contains (W (d - weight_of weights x)) v × ((x ∷ v) ≡ w))
   letter_cases W d x w h = elim (cases_Bool (leb (weight_of weights x) d)) [
-    | inl is ↦ (leb-true _ _ is, Contains-map_cases (λ v. x ∷ v) (W (d - weight_of weights x)) w (subst (λ (b : Bool). Contains (cond b (map (λ v. x ∷ v) (W (d - weight_of weights x))) []) w) is h))
+    | inl is ↦ (
+      leb-true _ _ is,
+      Contains-map_cases (λ v. x ∷ v) (W (d - weight_of weights x)) w
+          (subst (λ (b : Bool). Contains (cond b (map (λ v. x ∷ v) (W (d - weight_of weights x))) []) w) is h),
+    )
     | inr other ↦ absurd (Contains-none w (subst (λ (b : Bool). Contains (cond b (map (λ v. x ∷ v) (W (d - weight_of weights x))) []) w) other h))
   ]
 
@@ -70,7 +78,8 @@ module _ (weights : List ℕ) where
         let r = Contains-flat_map_cases (with_letter weights (words_within weights n) (suc d)) (range_with_len 0 (length weights)) w h in
         let m = letter_cases (words_within weights n) (suc d) r.0 w r.2 in
         let tail = within-says n (suc d - weight_of weights r.0) m.1.0 m.1.1 in (
-          subst (IsOver (length weights)) m.1.2 (All-cons (λ y. y < length weights) r.0 m.1.0 (omega (arith, (range-bounds 0 (length weights) r.0 r.1).1)) tail.0),
+          subst (IsOver (length weights)) m.1.2 (All-cons (λ y. y < length weights) r.0 m.1.0
+              (omega (arith, (range-bounds 0 (length weights) r.0 r.1).1)) tail.0),
           ap (degree_of weights) (sym m.1.2) ∙ omega (arith, m.0, tail.1),
         )
 
@@ -81,19 +90,24 @@ module _ (weights : List ℕ) where
     pub letterwise_later : (x : ℕ) (a b : List ℕ) → IsLetterwiseGreater a b → IsLetterwiseGreater (x ∷ a) (x ∷ b)
     letterwise_later x a b g = rw (self_cmp x) g
 
-    with_letter-falling : (W : ℕ → List (List ℕ)) (d x : ℕ) → ((e : ℕ) → AllPairs IsLetterwiseGreater (W e)) → AllPairs IsLetterwiseGreater (with_letter weights W d x)
+    with_letter-falling : (W : ℕ → List (List ℕ)) (d x : ℕ) → ((e : ℕ) → AllPairs IsLetterwiseGreater (W e)) →
+        AllPairs IsLetterwiseGreater (with_letter weights W d x)
     with_letter-falling W d x h = by_test (leb (weight_of weights x) d)
       where
         by_test : (b : Bool) → AllPairs IsLetterwiseGreater (cond b (map (λ v. x ∷ v) (W (d - weight_of weights x))) [])
-        by_test true = AllPairs-map (λ v. x ∷ v) IsLetterwiseGreater IsLetterwiseGreater (letterwise_later x) (W (d - weight_of weights x)) (h (d - weight_of weights x))
+        by_test true = AllPairs-map (λ v. x ∷ v) IsLetterwiseGreater IsLetterwiseGreater (letterwise_later x) (W (d - weight_of weights x))
+            (h (d - weight_of weights x))
         by_test false = AllPairs-nil IsLetterwiseGreater
 
-    across : (W : ℕ → List (List ℕ)) (d x y : ℕ) (u v : List ℕ) → x < y → Contains (with_letter weights W d x) u → Contains (with_letter weights W d y) v → IsLetterwiseGreater u v
+    across : (W : ℕ → List (List ℕ)) (d x y : ℕ) (u v : List ℕ) → x < y → Contains (with_letter weights W d x) u →
+        Contains (with_letter weights W d y) v → IsLetterwiseGreater u v
     across W d x y u v below m n =
         let a = letter_cases W d x u m in
         let b = letter_cases W d y v n in
-        let first : HasSmallerFirst (x ∷ a.1.0) (y ∷ b.1.0) = record { at = 0; in_first = omega arith; in_second = omega arith; same_before = refl; smaller = below } in
-        subst (λ (w : List ℕ). IsLetterwiseGreater w v) a.1.2 (subst (λ (w : List ℕ). IsLetterwiseGreater (x ∷ a.1.0) w) b.1.2 (letterwise_from_difference _ _ first))
+        let first : HasSmallerFirst (x ∷ a.1.0) (y ∷ b.1.0) = record
+        { at = 0; in_first = omega arith; in_second = omega arith; same_before = refl; smaller = below } in
+        subst (λ (w : List ℕ). IsLetterwiseGreater w v) a.1.2 (subst (λ (w : List ℕ). IsLetterwiseGreater (x ∷ a.1.0) w) b.1.2
+        (letterwise_from_difference _ _ first))
 
     within-falling : (n d : ℕ) → AllPairs IsLetterwiseGreater (words_within weights n d)
     within-falling n zero = AllPairs-cons IsLetterwiseGreater [] [] (All-nil (IsLetterwiseGreater [])) (AllPairs-nil IsLetterwiseGreater)
@@ -118,7 +132,8 @@ module _ (weights : List ℕ) where
         λ i. flat_map (λ x. cond (leb (weight_of weights x) (suc d)) (map (λ w. x ∷ w) (less x i)) []) (range_with_len 0 (length weights))
 
     -- W(d) by its letters, for d of 1 or more
-    pub words_of_degree-unfolds : (d : ℕ) → words_of_degree weights (suc d) ≡ flat_map (with_letter weights (words_of_degree weights) (suc d)) (range_with_len 0 (length weights))
+    pub words_of_degree-unfolds : (d : ℕ) → words_of_degree weights (suc d)
+        ≡ flat_map (with_letter weights (words_of_degree weights) (suc d)) (range_with_len 0 (length weights))
     words_of_degree-unfolds d = λ i. flat_map (λ x. same x i) (range_with_len 0 (length weights))
       where
         same : (x : ℕ) → with_letter weights (words_within weights d) (suc d) x ≡ with_letter weights (words_of_degree weights) (suc d) x
@@ -128,8 +143,13 @@ module _ (weights : List ℕ) where
     -- the list falls in the order of words
     pub words_of_degree-order : (d : ℕ) → AllPairs (IsGreater weights) (words_of_degree weights d)
     words_of_degree-order d i j x below within =
-        let degrees : All (λ w. degree_of weights w ≡ d) (words_of_degree weights d) = All-from_members (λ w. degree_of weights w ≡ d) _ (λ w m. (words_of_degree-says d w m).1) in
-        greater_says weights aw _ _ (agrees_in_degree weights _ _ (degrees i x (omega (arith, below, within)) ∙ sym (degrees j x within)) ∙ words_of_degree-falling d i j x below within)
+        let degrees : All (λ w. degree_of weights w ≡ d) (words_of_degree weights d) =
+        All-from_members (λ w. degree_of weights w ≡ d) _ (λ w m. (words_of_degree-says d w m).1) in
+        greater_says weights aw _ _ (agrees_in_degree weights _ _ (degrees i x (omega (arith, below, within)) ∙ sym (degrees j x within))
+        ∙ words_of_degree-falling d i j x below within)
 
 pub lists_words : ListsWords
-lists_words weights aw d w = (words_of_degree-says weights aw d w, λ h. subst (λ (n : ℕ). Contains (words_of_degree weights n) w) h.1 (listed_word weights aw w h.0))
+lists_words weights aw d w = (
+  words_of_degree-says weights aw d w,
+  λ h. subst (λ (n : ℕ). Contains (words_of_degree weights n) w) h.1 (listed_word weights aw w h.0),
+)

@@ -59,7 +59,8 @@ module _ {X Y : Type 0} (f : X → Y) where
   AllPairs-map R S h [] p = AllPairs-nil S
   AllPairs-map R S h (x ∷ xs) p =
       AllPairs-cons S (f x) (map f xs)
-      (All-from_members (S (f x)) (map f xs) (λ y m. let r = Contains-map_cases xs y m in subst (S (f x)) r.2 (h x r.0 (All-contains (R x) xs r.0 (AllPairs-first R x xs p) r.1))))
+      (All-from_members (S (f x)) (map f xs) (λ y m. let r = Contains-map_cases xs y m in
+      subst (S (f x)) r.2 (h x r.0 (All-contains (R x) xs r.0 (AllPairs-first R x xs p) r.1))))
       (AllPairs-map R S h xs (AllPairs-rest R x xs p))
 
 module _ {X Y : Type 0} (f : X → List Y) where
@@ -78,9 +79,11 @@ module _ {X Y : Type 0} (f : X → List Y) where
   ]
 
   -- blocks in order, each block after another
-  pub AllPairs-flat_map : (R : X → X → Type 0) (S : Y → Y → Type 0) → ((x : X) → AllPairs S (f x)) → ((a b : X) (u v : Y) → R a b → Contains (f a) u → Contains (f b) v → S u v)
+  pub AllPairs-flat_map : (R : X → X → Type 0) (S : Y → Y → Type 0) → ((x : X) → AllPairs S (f x)) →
+      ((a b : X) (u v : Y) → R a b → Contains (f a) u → Contains (f b) v → S u v)
       → (xs : List X) → AllPairs R xs → AllPairs S (flat_map f xs)
   AllPairs-flat_map R S inside across [] p = AllPairs-nil S
   AllPairs-flat_map R S inside across (x ∷ xs) p =
       AllPairs-append S (f x) (flat_map f xs) (inside x) (AllPairs-flat_map R S inside across xs (AllPairs-rest R x xs p))
-      (λ u m. All-from_members (S u) (flat_map f xs) (λ v n. let r = Contains-flat_map_cases xs v n in across x r.0 u v (All-contains (R x) xs r.0 (AllPairs-first R x xs p) r.1) m r.2))
+      (λ u m. All-from_members (S u) (flat_map f xs) (λ v n. let r = Contains-flat_map_cases xs v n in
+      across x r.0 u v (All-contains (R x) xs r.0 (AllPairs-first R x xs p) r.1) m r.2))

@@ -1,5 +1,6 @@
 -- Names that are apart, the first one that stands twice, and the faults of names.
-use Rattle.std.proofs.Common.{◌≡◌, ◌≢◌, ◌<◌, ◌≤◌, ◌+◌, ◌==◌, ◌↔◌, ℕ, false, List, [], ◌∷◌, length, map, take, get_or, refl, sym, ap, ◌∙◌, inl, inr, arith, subst, Err}
+use Rattle.std.proofs.Common.{◌≡◌, ◌≢◌, ◌<◌, ◌≤◌, ◌+◌, ◌==◌, ◌↔◌, ℕ, false, List, [], ◌∷◌, length, map, take, get_or, refl, sym, ap, ◌∙◌, inl, inr}
+use Rattle.std.proofs.Common.{arith, subst, Err}
 use Rattle.std.specs.List.{All}
 use Rattle.std.specs.Result.{IsErrOf}
 use Rattle.std.proofs.lemmas.Bool.{cases_lt, eqb-false}
@@ -16,22 +17,28 @@ module _ {X : Type 0} (f : X → List ℕ) where
   name_here xs i x name lt is e = get_or-map f xs i x [] lt ∙ ap f (sym is) ∙ e
 
   -- one more name, which is another
-  pub others_more : (xs : List X) (i : ℕ) (x : X) (name : List ℕ) → i < length xs → x ≡ get_or xs i x → f x ≢ name → All (λ n. n ≢ name) (map f (take i xs)) → All (λ n. n ≢ name) (map f (take (i + 1) xs))
+  pub others_more : (xs : List X) (i : ℕ) (x : X) (name : List ℕ) → i < length xs → x ≡ get_or xs i x → f x ≢ name →
+      All (λ n. n ≢ name) (map f (take i xs)) → All (λ n. n ≢ name) (map f (take (i + 1) xs))
   others_more xs i x name lt is other h =
       subst (All (λ n. n ≢ name)) (sym (map_more f xs i x lt))
-      (All-append (λ n. n ≢ name) (map f (take i xs)) (f (get_or xs i x) ∷ []) h (All-cons (λ n. n ≢ name) (f (get_or xs i x)) [] (λ e. other (ap f is ∙ e)) (All-nil (λ n. n ≢ name))))
+      (All-append (λ n. n ≢ name) (map f (take i xs)) (f (get_or xs i x) ∷ []) h
+      (All-cons (λ n. n ≢ name) (f (get_or xs i x)) [] (λ e. other (ap f is ∙ e)) (All-nil (λ n. n ≢ name))))
 
   -- one more name, which is none of those before
-  pub apart_more : (xs : List X) (i : ℕ) (x : X) → i < length xs → x ≡ get_or xs i x → All (λ n. n ≢ f x) (map f (take i xs)) → AreApart (map f (take i xs)) → AreApart (map f (take (i + 1) xs))
+  pub apart_more : (xs : List X) (i : ℕ) (x : X) → i < length xs → x ≡ get_or xs i x → All (λ n. n ≢ f x) (map f (take i xs)) →
+      AreApart (map f (take i xs)) → AreApart (map f (take (i + 1) xs))
   apart_more xs i x lt is others apart =
-      subst AreApart (sym (map_more f xs i x lt)) (all_pairs_push (λ a b. a ≢ b) (map f (take i xs)) (f (get_or xs i x)) apart (λ k d within e. others k d within (e ∙ ap f (sym is))))
+      subst AreApart (sym (map_more f xs i x lt)) (all_pairs_push (λ a b. a ≢ b) (map f (take i xs)) (f (get_or xs i x)) apart
+      (λ k d within e. others k d within (e ∙ ap f (sym is))))
 
   -- one more name, which is one of those before
-  pub repeat_here : (xs : List X) (first i : ℕ) (x : X) → i < length xs → x ≡ get_or xs i x → first < i → get_or (map f (take i xs)) first [] ≡ f x → AreApart (map f (take i xs)) → IsFirstRepeat (map f xs) first i
+  pub repeat_here : (xs : List X) (first i : ℕ) (x : X) → i < length xs → x ≡ get_or xs i x → first < i →
+      get_or (map f (take i xs)) first [] ≡ f x → AreApart (map f (take i xs)) → IsFirstRepeat (map f xs) first i
   repeat_here xs first i x lt is before e apart = record {
     before = before;
     within = omega (arith, length-map xs f);
-    same = sym (get_or-take i (map f xs) first [] before) ∙ ap (λ (l : List (List ℕ)). get_or l first []) (take-map f i xs) ∙ e ∙ sym (name_here xs i x (f x) lt is refl);
+    same = sym (get_or-take i (map f xs) first [] before) ∙ ap (λ (l : List (List ℕ)). get_or l first []) (take-map f i xs) ∙ e
+        ∙ sym (name_here xs i x (f x) lt is refl);
     apart = subst AreApart (sym (take-map f i xs)) apart;
   }
 
@@ -73,7 +80,8 @@ one_first names f g s r q = elim (cases_lt f g) [
 ]
 
 -- the fault of names with a first repeat is that one
-pub fault_of_repeat : (fault : AlphabetFault) (names : List (List ℕ)) (first second : ℕ) → IsFaultOf fault names → length names ≤ 64 → IsFirstRepeat names first second → fault ≡ Repeated first second
+pub fault_of_repeat : (fault : AlphabetFault) (names : List (List ℕ)) (first second : ℕ) → IsFaultOf fault names → length names ≤ 64 →
+    IsFirstRepeat names first second → fault ≡ Repeated first second
 fault_of_repeat Empty names first second h few r = absurd (omega (arith, r.within, ap length h))
 fault_of_repeat TooMany names first second h few r = absurd (omega (arith, h, few))
 fault_of_repeat (Repeated f s) names first second h few r =

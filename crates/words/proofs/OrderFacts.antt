@@ -1,5 +1,6 @@
 -- The order by comparison is the order by degree and first difference, and products keep it.
-use Rattle.std.proofs.Common.{◌≡◌, ◌≢◌, ◌⊎◌, ◌+◌, ◌<◌, ◌≤◌, ℕ, suc, zero, List, [], ◌∷◌, ◌++◌, length, take, get_or, refl, sym, ap, ◌∙◌, inl, inr, arith, length-append, zero-add}
+use Rattle.std.proofs.Common.{◌≡◌, ◌≢◌, ◌⊎◌, ◌+◌, ◌<◌, ◌≤◌, ℕ, suc, zero, List, [], ◌∷◌, ◌++◌, length, take, get_or, refl, sym, ap, ◌∙◌, inl, inr}
+use Rattle.std.proofs.Common.{arith, length-append, zero-add}
 use Rattle.std.proofs.Math.Nat.{suc-add}
 use Rattle.std.proofs.lemmas.Cmp.{by_ranked, ranked}
 use Rattle.std.proofs.lemmas.List.{append_assoc, get_or-append-add, get_or_append_left, take-append-le}
@@ -7,7 +8,8 @@ use Rattle.std.specs.Ordering.{nat_cmp, ordering_then}
 use Rattle.std.specs.Cmp.Lexicographic.{slice_cmp}
 use Rattle.std.specs.declared.cmp.Ordering.TheVariants.{Less, Equal, Greater}
 use Rattle.words.specs.Words.{AreWeights, IsProperPrefix, degree_of}
-use Rattle.words.specs.Order.{AgreesInDegree, ComparesLetters, HasNoPrefixes, HasSmallerFirst, IsGreater, IsKeptByProducts, IsLetterwiseGreater, letterwise_cmp, word_cmp}
+use Rattle.words.specs.Order.{AgreesInDegree, ComparesLetters, HasNoPrefixes, HasSmallerFirst, IsGreater, IsKeptByProducts, IsLetterwiseGreater}
+use Rattle.words.specs.Order.{letterwise_cmp, word_cmp}
 use Rattle.words.proofs.Weights.{degree_of-append, degree_of-positive}
 
 pub one_later : (x : ℕ) (a b : List ℕ) → HasSmallerFirst a b → HasSmallerFirst (x ∷ a) (x ∷ b)
@@ -102,20 +104,30 @@ take-append-add (x ∷ u) a n = rw suc-add (ap (λ (r : List ℕ). x ∷ r) (tak
 -- the first difference stays in products
 pub difference_in_product : (u a b v : List ℕ) → HasSmallerFirst a b → HasSmallerFirst (u ++ a ++ v) (u ++ b ++ v)
 difference_in_product u a b v d =
-    let left : take (length u + d.at) (u ++ a ++ v) ≡ u ++ take d.at a = rw (append_assoc, take-append-add) (ap (λ (r : List ℕ). u ++ r) (take-append-le d.at a v (omega (arith, d.in_first)))) in
-    let right : take (length u + d.at) (u ++ b ++ v) ≡ u ++ take d.at b = rw (append_assoc, take-append-add) (ap (λ (r : List ℕ). u ++ r) (take-append-le d.at b v (omega (arith, d.in_second)))) in
+    let left : take (length u + d.at) (u ++ a ++ v) ≡ u ++ take d.at a =
+    rw (append_assoc, take-append-add) (ap (λ (r : List ℕ). u ++ r) (take-append-le d.at a v (omega (arith, d.in_first)))) in
+    let right : take (length u + d.at) (u ++ b ++ v) ≡ u ++ take d.at b =
+    rw (append_assoc, take-append-add) (ap (λ (r : List ℕ). u ++ r) (take-append-le d.at b v (omega (arith, d.in_second)))) in
     record {
       at = length u + d.at;
       in_first = simp length-append (omega (arith, d.in_first));
       in_second = simp length-append (omega (arith, d.in_second));
       same_before = left ∙ ap (λ (r : List ℕ). u ++ r) d.same_before ∙ sym right;
-      smaller = rw (append_assoc, get_or-append-add, get_or_append_left a v 0 d.at d.in_first, append_assoc, get_or-append-add, get_or_append_left b v 0 d.at d.in_second) d.smaller;
+      smaller = rw (
+        append_assoc,
+        get_or-append-add,
+        get_or_append_left a v 0 d.at d.in_first,
+        append_assoc,
+        get_or-append-add,
+        get_or_append_left b v 0 d.at d.in_second,
+      ) d.smaller;
     }
 
 pub kept_by_products : IsKeptByProducts
 kept_by_products weights u a b v same (inl more) = absurd (omega (arith, more, same))
 kept_by_products weights u a b v same (inr (_, d)) = inr (
-  degree_of-append weights (u ++ a) v ∙ ap (λ (n : ℕ). n + degree_of weights v) (degree_of-append weights u a ∙ ap (λ (n : ℕ). degree_of weights u + n) same ∙ sym (degree_of-append weights u b))
+  degree_of-append weights (u ++ a) v ∙ ap (λ (n : ℕ). n + degree_of weights v)
+      (degree_of-append weights u a ∙ ap (λ (n : ℕ). degree_of weights u + n) same ∙ sym (degree_of-append weights u b))
       ∙ sym (degree_of-append weights (u ++ b) v),
   difference_in_product u a b v d,
 )
@@ -141,7 +153,8 @@ letterwise_by_front (suc n) (x ∷ a) [] m k h = absurd (omega (arith, k))
 letterwise_by_front (suc n) (x ∷ a) (y ∷ b) m k h =
     by_ranked (y < x) (y ≡ x) (x < y) (nat_cmp y x) (ranked y x (nat_cmp y x) refl)
     (λ is below. rw is refl)
-    (λ is same. rw is (letterwise_by_front n a b (omega (arith, m)) (omega (arith, k)) (shorter h) ∙ ap (ordering_then (slice_cmp nat_cmp (take n b) (take n a))) (lengths (length a) (length b))))
+    (λ is same. rw is (letterwise_by_front n a b (omega (arith, m)) (omega (arith, k)) (shorter h)
+    ∙ ap (ordering_then (slice_cmp nat_cmp (take n b) (take n a))) (lengths (length a) (length b))))
     (λ is above. rw is refl)
   where
     shorter : (length (x ∷ a) ≡ suc n) ⊎ (length (y ∷ b) ≡ suc n) → (length a ≡ n) ⊎ (length b ≡ n)
@@ -151,8 +164,10 @@ letterwise_by_front (suc n) (x ∷ a) (y ∷ b) m k h =
     lengths : (i j : ℕ) → nat_cmp i j ≡ nat_cmp (suc i) (suc j)
     lengths i j =
         by_ranked (i < j) (i ≡ j) (j < i) (nat_cmp i j) (ranked i j (nat_cmp i j) refl)
-        (λ is below. is ∙ by_ranked (suc i < suc j) (suc i ≡ suc j) (suc j < suc i) (nat_cmp (suc i) (suc j)) (ranked (suc i) (suc j) (nat_cmp (suc i) (suc j)) refl)
+        (λ is below. is ∙ by_ranked (suc i < suc j) (suc i ≡ suc j) (suc j < suc i) (nat_cmp (suc i) (suc j))
+        (ranked (suc i) (suc j) (nat_cmp (suc i) (suc j)) refl)
         (λ r q. sym r) (λ r q. absurd (omega (arith, q, below))) (λ r q. absurd (omega (arith, q, below))))
         (λ is same. is ∙ sym (ap (nat_cmp (suc i)) (ap suc (sym same)) ∙ self_cmp (suc i)))
-        (λ is above. is ∙ by_ranked (suc i < suc j) (suc i ≡ suc j) (suc j < suc i) (nat_cmp (suc i) (suc j)) (ranked (suc i) (suc j) (nat_cmp (suc i) (suc j)) refl)
+        (λ is above. is ∙ by_ranked (suc i < suc j) (suc i ≡ suc j) (suc j < suc i) (nat_cmp (suc i) (suc j))
+        (ranked (suc i) (suc j) (nat_cmp (suc i) (suc j)) refl)
         (λ r q. absurd (omega (arith, q, above))) (λ r q. absurd (omega (arith, q, above))) (λ r q. sym r))

@@ -1,5 +1,6 @@
 -- Degrees by weights.
-use Rattle.std.proofs.Common.{◌≡◌, ◌≢◌, ◌+◌, ◌*◌, ◌<◌, ◌≤◌, ℕ, suc, zero, List, [], ◌∷◌, ◌++◌, length, take, get_or, refl, sym, ap, ◌∙◌, inl, inr, arith, zero-add, add_assoc}
+use Rattle.std.proofs.Common.{◌≡◌, ◌≢◌, ◌+◌, ◌*◌, ◌<◌, ◌≤◌, ℕ, suc, zero, List, [], ◌∷◌, ◌++◌, length, take, get_or, refl, sym, ap, ◌∙◌, inl, inr}
+use Rattle.std.proofs.Common.{arith, zero-add, add_assoc}
 use Rattle.std.proofs.lemmas.Bool.{cases_lt}
 use Rattle.std.proofs.lemmas.List.{take_more}
 use Rattle.std.proofs.lemmas.List.Elements.{All-get_or}
@@ -7,7 +8,8 @@ use Rattle.words.specs.Words.{AreWeights, degree_of, weight_of}
 
 pub degree_of-append : (weights a b : List ℕ) → degree_of weights (a ++ b) ≡ degree_of weights a + degree_of weights b
 degree_of-append weights [] b = sym (zero-add (degree_of weights b))
-degree_of-append weights (x ∷ a) b = ap (λ (n : ℕ). weight_of weights x + n) (degree_of-append weights a b) ∙ sym (add_assoc (weight_of weights x) (degree_of weights a) (degree_of weights b))
+degree_of-append weights (x ∷ a) b = ap (λ (n : ℕ). weight_of weights x + n) (degree_of-append weights a b)
+    ∙ sym (add_assoc (weight_of weights x) (degree_of weights a) (degree_of weights b))
 
 -- past the last letter
 beyond : (weights : List ℕ) (x : ℕ) → length weights ≤ x → get_or weights x 1 ≡ 1
@@ -36,7 +38,8 @@ degree_of-bound weights aw [] = omega arith
 degree_of-bound weights aw (x ∷ w) = omega (arith, (weight_of-bounds weights aw x).1, degree_of-bound weights aw w)
 
 -- one letter more
-pub degree_of-more : (weights w : List ℕ) (i : ℕ) → i < length w → degree_of weights (take (i + 1) w) ≡ degree_of weights (take i w) + weight_of weights (get_or w i 0)
+pub degree_of-more : (weights w : List ℕ) (i : ℕ) → i < length w →
+    degree_of weights (take (i + 1) w) ≡ degree_of weights (take i w) + weight_of weights (get_or w i 0)
 degree_of-more weights w i within =
     ap (degree_of weights) (take_more w i 0 within) ∙ degree_of-append weights (take i w) (get_or w i 0 ∷ []) ∙ omega arith
 

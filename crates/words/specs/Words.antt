@@ -1,5 +1,6 @@
 -- Words: lists of letters, a letter being the place of its variable, and their degrees.
-use Rattle.std.specs.Prelude.{ℕ, ◌≡◌, ◌≢◌, ◌+◌, ◌-◌, ◌<◌, ◌≤◌, List, [], ◌∷◌, ◌++◌, length, All, map, take, drop, suc, zero, slice_index_or, cond, leb}
+use Rattle.std.specs.Prelude.{ℕ, ◌≡◌, ◌≢◌, ◌+◌, ◌-◌, ◌<◌, ◌≤◌, List, [], ◌∷◌, ◌++◌, length, All, map, take, drop, suc}
+use Rattle.std.specs.Prelude.{zero, slice_index_or, cond, leb}
 use Rattle.std.specs.List.{flat_map, range_with_len}
 
 -- every letter is below the number of names
@@ -21,13 +22,15 @@ degree_of weights (x ∷ w) = weight_of weights x + degree_of weights w
 
 -- a letter before each word of the degree that is left for it, and nothing where its weight is above d
 abbrev pub with_letter : List ℕ → (ℕ → List (List ℕ)) → ℕ → ℕ → List (List ℕ)
-with_letter weights words d x = cond (leb (weight_of weights x) d) (map (λ w. x ∷ w) (words (d - weight_of weights x))) []
+with_letter weights words d x = cond (leb (weight_of weights x) d)
+    (map (λ w. x ∷ w) (words (d - weight_of weights x))) []
 
 -- the words of degree d with at most so many letters, each letter in rising number
 abbrev pub words_within : List ℕ → ℕ → ℕ → List (List ℕ)
 words_within weights letters zero = [] ∷ []
 words_within weights zero (suc d) = []
-words_within weights (suc letters) (suc d) = flat_map (with_letter weights (words_within weights letters) (suc d)) (range_with_len 0 (length weights))
+words_within weights (suc letters) (suc d) = flat_map (with_letter weights (words_within weights letters) (suc d))
+    (range_with_len 0 (length weights))
 
 -- W(d): all words of degree d, which has at most d letters
 abbrev pub words_of_degree : List ℕ → ℕ → List (List ℕ)

@@ -1,4 +1,5 @@
-ghost use Rattle.std.specs.Prelude.{◌≡◌, ◌≢◌, ◌<◌, ◌≤◌, ◌↔◌, ◌^◌, ℕ, [], map, length, replicate, All, Contains, IfOk, IfSome, IsErrOf, IsNone, IsOk, MatchOption, OnOk, slice_index_or};
+ghost use Rattle.std.specs.Prelude.{◌≡◌, ◌≢◌, ◌<◌, ◌≤◌, ◌↔◌, ◌^◌, ℕ, [], map, length, replicate, All, Contains};
+ghost use Rattle.std.specs.Prelude.{IfOk, IfSome, IsErrOf, IsNone, IsOk, MatchOption, OnOk, slice_index_or};
 ghost use Rattle.words.specs.Words.{AreWeights, IsOver, degree_of, weight_of};
 ghost use Rattle.words.specs.Names.{AreNames, IsAlphabet, IsFaultOf, IsFirstRepeat};
 
@@ -20,7 +21,10 @@ impl Model for Alphabet {
 
     ghost view = { λ a. record { names = map (λ name. name.items) a.names.items; weights = a.weights.items } };
 
-    ghost invariant = { λ a. IsAlphabet (record { names = map (λ name. name.items) a.names.items; weights = a.weights.items }) };
+    ghost invariant = { λ a. IsAlphabet (record {
+      names = map (λ name. name.items) a.names.items;
+      weights = a.weights.items;
+    }) };
 }
 
 /// Why names are no alphabet.
@@ -51,7 +55,8 @@ impl Alphabet {
         ensures made { OnOk result (AreNames (map (λ name. name.items) names.items)) }
         ensures empty { IsErrOf result AlphabetFault.Empty ↔ (names.items ≡ []) }
         ensures many { IsErrOf result AlphabetFault.TooMany ↔ (64 < length names.items) }
-        ensures repeated { (first second : ℕ) → (IsErrOf result (AlphabetFault.Repeated first second) ↔ ((length names.items ≤ 64) × IsFirstRepeat (map (λ name. name.items) names.items) first second)) }
+        ensures repeated { (first second : ℕ) → (IsErrOf result (AlphabetFault.Repeated first second) ↔
+            ((length names.items ≤ 64) × IsFirstRepeat (map (λ name. name.items) names.items) first second)) }
         ensures starved { IsErrOf result AlphabetFault.NoMemory → AreNames (map (λ name. name.items) names.items) }
     {
         if let Some(fault) = fault_of(names.as_slice()) {
@@ -74,7 +79,8 @@ impl Alphabet {
         ensures made { IsOk result ↔ AreNames (map (λ name. name.items) names.items) }
         ensures empty { IsErrOf result AlphabetFault.Empty ↔ (names.items ≡ []) }
         ensures many { IsErrOf result AlphabetFault.TooMany ↔ (64 < length names.items) }
-        ensures repeated { (first second : ℕ) → (IsErrOf result (AlphabetFault.Repeated first second) ↔ ((length names.items ≤ 64) × IsFirstRepeat (map (λ name. name.items) names.items) first second)) }
+        ensures repeated { (first second : ℕ) → (IsErrOf result (AlphabetFault.Repeated first second) ↔
+            ((length names.items ≤ 64) × IsFirstRepeat (map (λ name. name.items) names.items) first second)) }
         ensures starved { IsErrOf result AlphabetFault.NoMemory → ⊥ }
     {
         match fault_of(names.as_slice()) {
@@ -111,7 +117,8 @@ impl Alphabet {
     /// The letter of this name.
     pub fn find(&self, name: &[u8]) -> Option<u8>
         ensures none { IsNone result ↔ (Contains self.now.names name.now → ⊥) }
-        ensures place { IfSome result (λ letter. (letter < length self.now.weights) × (slice_index_or self.now.names letter [] ≡ name.now)) }
+        ensures place { IfSome result (λ letter. (letter < length self.now.weights)
+            × (slice_index_or self.now.names letter [] ≡ name.now)) }
     {
         match place_of(self.names.as_slice(), name) {
             Some(at) => Some(at as u8),
@@ -122,7 +129,8 @@ impl Alphabet {
 
 /// Why these names are no alphabet: there is none, there are too many, or one stands twice.
 fn fault_of(names: &[Vec<u8>]) -> Option<AlphabetFault>
-    ensures { MatchOption result (AreNames (map (λ name. name.items) names.now)) (λ fault. IsFaultOf fault (map (λ name. name.items) names.now)) }
+    ensures { MatchOption result (AreNames (map (λ name. name.items) names.now))
+        (λ fault. IsFaultOf fault (map (λ name. name.items) names.now)) }
 {
     if names.is_empty() {
         return Some(AlphabetFault::Empty);
@@ -143,7 +151,8 @@ fn fault_of(names: &[Vec<u8>]) -> Option<AlphabetFault>
 
 /// The place of a name among these.
 fn place_of(names: &[Vec<u8>], name: &[u8]) -> Option<usize>
-    ensures { MatchOption result (All (λ other. other ≢ name.now) (map (λ name. name.items) names.now)) (λ at. (at < length names.now) × (slice_index_or (map (λ name. name.items) names.now) at [] ≡ name.now)) }
+    ensures { MatchOption result (All (λ other. other ≢ name.now) (map (λ name. name.items) names.now))
+        (λ at. (at < length names.now) × (slice_index_or (map (λ name. name.items) names.now) at [] ≡ name.now)) }
 {
     for (at, other) in names.iter().enumerate() {
         if other.as_slice() == name {

@@ -1,6 +1,8 @@
 ghost use Rattle.std.specs.Prelude.{◌≡◌, List, ℕ, length};
 ghost use Rattle.std.specs.Cmp.{IsTotalOrder};
-ghost use Rattle.words.specs.Order.{AgreesInDegree, ComparesLetters, ComparesWords, HasNoPrefixes, IsKeptByProducts, ListsByLetters, ListsFalling, ListsWords, TiesEqualWords, letterwise_cmp, word_cmp};
+ghost use Rattle.words.specs.Order.{AgreesInDegree, ComparesLetters, ComparesWords, HasNoPrefixes};
+ghost use Rattle.words.specs.Order.{IsKeptByProducts, ListsByLetters, ListsFalling, ListsWords, TiesEqualWords};
+ghost use Rattle.words.specs.Order.{letterwise_cmp, word_cmp};
 ghost use Rattle.words.specs.Words.{IsOver};
 
 use crate::alphabet::{Alphabet, total_degree};

@@ -47,7 +47,8 @@ fn rows_of(
 ) -> Result<Vec<Poly>, NoMemory>
     requires obstructions { All (IsOf basis.now.weights basis.now.elements) found.now }
     requires residues { All (HasResidues field.now) basis.now.elements }
-    ensures { IfOk result (λ rows. AllZip (IsRowFor field.now basis.now.weights basis.now.elements) found.now rows.items) }
+    ensures { IfOk result (λ rows. AllZip (IsRowFor field.now basis.now.weights basis.now.elements) found.now
+        rows.items) }
 {
     let mut rows = Vec::with_capacity(alloc, found.len())?;
     for obstruction in found {
@@ -73,7 +74,8 @@ fn rows_above(
     requires none { of_degree given.now.alphabet.weights d given.now.relations ≡ [] }
     requires elements { All (HasResidues field.now) basis.now.elements }
     requires listed { AreListed basis.now.weights basis.now.elements d found.now }
-    ensures rows { IfOk result (λ rows. AreRows field.now given.now.alphabet.weights given.now.relations basis.now.elements d rows.items) }
+    ensures rows { IfOk result (λ rows. AreRows field.now given.now.alphabet.weights given.now.relations
+        basis.now.elements d rows.items) }
     ensures degree { IfOk result (λ rows. All (HasDegree basis.now.weights d) rows.items) }
     ensures letters { IfOk result (λ rows. All (UsesLetters (length basis.now.weights)) rows.items) }
 {
@@ -126,7 +128,8 @@ fn assert_cells<R: Abort + Threads + Sync>(
     requires weights { algebra.now.basis.weights ≡ algebra.now.given.alphabet.weights }
     requires reduced { IsReducedUpto algebra.now.field algebra.now.given.relations algebra.now.basis }
     requires residues { All (HasResidues algebra.now.field) algebra.now.given.relations }
-    requires rows { AreRows algebra.now.field algebra.now.given.alphabet.weights algebra.now.given.relations algebra.now.basis.elements 4 rows.now }
+    requires rows { AreRows algebra.now.field algebra.now.given.alphabet.weights algebra.now.given.relations
+        algebra.now.basis.elements 4 rows.now }
     requires closed { IsClosed algebra.now.basis.elements (words_of rows.now) closed.now }
 {
     lower_law();
@@ -169,7 +172,8 @@ fn assert_closures<R: Abort + Threads + Sync>(
     requires weights { algebra.now.basis.weights ≡ algebra.now.given.alphabet.weights }
     requires reduced { IsReducedUpto algebra.now.field algebra.now.given.relations algebra.now.basis }
     requires residues { All (HasResidues algebra.now.field) algebra.now.given.relations }
-    requires rows { AreRows algebra.now.field algebra.now.given.alphabet.weights algebra.now.given.relations algebra.now.basis.elements 4 rows.now }
+    requires rows { AreRows algebra.now.field algebra.now.given.alphabet.weights algebra.now.given.relations
+        algebra.now.basis.elements 4 rows.now }
     requires factor_free { IsFactorFree algebra.now.basis.elements }
     requires forms { All IsPolynomial algebra.now.basis.elements }
     requires degree { All (HasDegree algebra.now.basis.weights 4) rows.now }

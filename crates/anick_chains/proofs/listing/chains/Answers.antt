@@ -22,8 +22,12 @@ loop-degree-init c =
       listed = subst (AreListed (Contains (leads_of b.elements)) (length b.weights) b.weights 0) (sym c.new-found.ensures.items) none;
       within = omega (arith, ap length c.new-found.ensures.items);
       before = λ e lt.
-          let zero : 0 ≡ e = omega (arith, lt) in
-          (0, subst (λ (n : ℕ). IsNumber (Contains (leads_of b.elements)) (length b.weights) b.weights n 0) zero (number_listed b kept c.requires.factor_free 0 [] none), omega arith);
+          let zero : 0 ≡ e = omega (arith, lt) in (
+            0,
+            subst (λ (n : ℕ). IsNumber (Contains (leads_of b.elements)) (length b.weights) b.weights n 0) zero
+                (number_listed b kept c.requires.factor_free 0 [] none),
+            omega arith,
+          );
     }
 
 pub loop-degree-preserved : goal.loop-degree-preserved
@@ -74,10 +78,12 @@ returns-clause-minimal c = λ p relations st upto.
     let last : c.loop-degree.degree - 1 ≡ c.args.bound = omega (arith, c.loop-degree-test.false, c.loop-degree.auto.degree-end (omega arith)) in
     listed_minimal b c.done-done.ensures.kept p relations st upto c.args.bound c.requires.done c.from_vec.result
     (subst (AreListed (Contains (leads_of b.elements)) (length b.weights) b.weights c.args.bound) (sym c.from_vec.ensures)
-    (subst (λ (n : ℕ). AreListed (Contains (leads_of b.elements)) (length b.weights) b.weights n c.loop-degree.found.items) last c.loop-degree.invariant.listed))
+    (subst (λ (n : ℕ). AreListed (Contains (leads_of b.elements)) (length b.weights) b.weights n c.loop-degree.found.items) last
+    c.loop-degree.invariant.listed))
 
 pub returns-clause-letters : goal.returns-clause-letters
 returns-clause-letters c =
     let b = c.args.basis.now in
     subst (All (λ x. All (IsOver (length b.weights)) x.pieces)) (sym c.from_vec.ensures)
-    (listed_over (Contains (leads_of b.elements)) (length b.weights) b.weights (c.loop-degree.degree - 1) c.loop-degree.found.items c.loop-degree.invariant.listed)
+    (listed_over (Contains (leads_of b.elements)) (length b.weights) b.weights (c.loop-degree.degree - 1) c.loop-degree.found.items
+    c.loop-degree.invariant.listed)

@@ -68,15 +68,20 @@ returns-clause-listed c =
     let d = c.args.degree in
     let below = pieces_of c.args.found.now.items in
     let letters : c.push_continued.new.block.items ≡ with_degree d (continued [] (free_letters b.weights b.elements d)) =
-    c.in_ok-push_continued.ensures.continued ∙ ap (λ (x : List Chain). x ++ with_degree d (continued [] c.in_ok-letters.letters.items)) c.new-block.ensures.items
+    c.in_ok-push_continued.ensures.continued ∙ ap (λ (x : List Chain). x ++ with_degree d (continued [] c.in_ok-letters.letters.items))
+    c.new-block.ensures.items
     ∙ ap (λ (rs : List (List ℕ)). with_degree d (continued [] rs)) c.in_ok-letters.ensures in
     let block : c.push_onward.new.block.items ≡ with_degree d (chains_at b.weights b.elements d below) =
-    c.in_ok-push_onward.ensures.onward ∙ ap (λ (x : List Chain). x ++ with_degree d (flat_map (onward b.weights b.elements d) (pieces_of c.as_slice.result.now))) letters
-    ∙ ap (λ (x : List Chain). with_degree d (continued [] (free_letters b.weights b.elements d)) ++ with_degree d (flat_map (onward b.weights b.elements d) (pieces_of x))) c.as_slice.ensures.value
-    ∙ sym (map-append {B = Chain} (λ (x : List (List ℕ)). record { degree = d; pieces = x }) (continued [] (free_letters b.weights b.elements d)) (flat_map (onward b.weights b.elements d) below)) in
+    c.in_ok-push_onward.ensures.onward ∙ ap (λ (x : List Chain). x
+    ++ with_degree d (flat_map (onward b.weights b.elements d) (pieces_of c.as_slice.result.now))) letters
+    ∙ ap (λ (x : List Chain). with_degree d (continued [] (free_letters b.weights b.elements d))
+    ++ with_degree d (flat_map (onward b.weights b.elements d) (pieces_of x))) c.as_slice.ensures.value
+    ∙ sym (map-append {B = Chain} (λ (x : List (List ℕ)). record { degree = d; pieces = x })
+    (continued [] (free_letters b.weights b.elements d)) (flat_map (onward b.weights b.elements d) below)) in
     let whole : c.append.new.self.items ≡ c.args.found.now.items ++ c.sort.new.block.items = search rules in
     subst (AreListed (Contains (leads_of b.elements)) (length b.weights) b.weights d) (sym whole)
-    (listed_more b c.done-done.ensures.kept c.requires.factor_free (c.args.degree - 1) c.args.found.now.items c.requires.below d next c.push_onward.new.block.items c.sort.new.block.items block c.sort.ensures.same
+    (listed_more b c.done-done.ensures.kept c.requires.factor_free (c.args.degree - 1) c.args.found.now.items c.requires.below d next
+    c.push_onward.new.block.items c.sort.new.block.items block c.sort.ensures.same
     (subst (λ (ws : List ℕ). IsSorted (λ (x y : Chain). pieces_cmp ws x.pieces y.pieces) c.sort.new.block.items) c.requires.weights c.sort.ensures.sorted))
 
 pub returns-clause-within : goal.returns-clause-within

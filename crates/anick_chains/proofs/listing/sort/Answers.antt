@@ -9,5 +9,6 @@ use Rattle.anick_chains.proofs.listing.sort.Goals as goal
 
 pub returns-clause-sorted : goal.returns-clause-sorted
 returns-clause-sorted c =
-    c.sort_unstable_by.ensures.sorted (λ x y. is_lt (pieces_cmp c.args.weights.now x.pieces y.pieces)) (ranks_by (pieces_cmp_total c.args.weights.now) (λ (x : Chain). x.pieces))
+    c.sort_unstable_by.ensures.sorted (λ x y. is_lt (pieces_cmp c.args.weights.now x.pieces y.pieces))
+    (ranks_by (pieces_cmp_total c.args.weights.now) (λ (x : Chain). x.pieces))
     (always_returns_same _ _ _ (λ a r q k. (search rules, search rules)))

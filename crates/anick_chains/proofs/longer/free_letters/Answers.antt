@@ -12,5 +12,10 @@ loop-letter-preserved c =
 pub returns : goal.returns
 returns c =
     let b = c.args.basis.now in
-    let last : c.loop-letter.letter ≡ length b.weights = omega (arith, c.loop-letter-test.false, c.loop-letter.auto.letter-end, c.letters-letter-end.ensures.count) in
+    let last : c.loop-letter.letter ≡ length b.weights = omega (
+      arith,
+      c.loop-letter-test.false,
+      c.loop-letter.auto.letter-end,
+      c.letters-letter-end.ensures.count,
+    ) in
     c.loop-letter.invariant ∙ ap (joined (free_letter b.weights b.elements c.args.degree)) last

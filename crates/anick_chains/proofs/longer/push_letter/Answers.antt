@@ -13,7 +13,8 @@ pub returns-in-Some : goal.returns-in-Some
 returns-in-Some c =
     let b = c.args.basis.now in
     let none = free_letter-tip b.weights b.elements c.args.degree c.args.letter
-    (stands-starts b c.done-done.ensures.kept c.args.index.now c.requires.index (c.args.letter ∷ []) c.in-Some.field-0.at c.in-Some.field-0.element c.in-Some.ensures.place.starts) in
+    (stands-starts b c.done-done.ensures.kept c.args.index.now c.requires.index (c.args.letter ∷ []) c.in-Some.field-0.at
+    c.in-Some.field-0.element c.in-Some.ensures.place.starts) in
     sym (ap (λ (rs : List (List ℕ)). c.args.found.now.items ++ rs) none ∙ append-nil c.args.found.now.items)
 
 pub returns-in-None : goal.returns-in-None

@@ -9,21 +9,24 @@ pub overflow_cast-both : goal.overflow_cast-both
 overflow_cast-both c =
     let b = c.args.basis.now in
     let degree : c.word_degree.result ≡ degree_of b.weights (last_piece c.args.chain.now.pieces) =
-    c.word_degree.ensures ∙ ap (λ (ws : List ℕ). degree_of ws c.last_piece-last.result.now) c.requires.weights ∙ ap (degree_of b.weights) (c.last_piece-last.ensures ∙ ap last_piece c.as_slice-pieces.ensures) in
+    c.word_degree.ensures ∙ ap (λ (ws : List ℕ). degree_of ws c.last_piece-last.result.now) c.requires.weights
+    ∙ ap (degree_of b.weights) (c.last_piece-last.ensures ∙ ap last_piece c.as_slice-pieces.ensures) in
     omega (arith, degree, last_piece-degree b.weights c.args.chain.now.pieces, c.requires.below, c.requires.degree, c.requires.room)
 
 pub overflow_add-both : goal.overflow_add-both
 overflow_add-both c =
     let b = c.args.basis.now in
     let degree : c.word_degree.result ≡ degree_of b.weights (last_piece c.args.chain.now.pieces) =
-    c.word_degree.ensures ∙ ap (λ (ws : List ℕ). degree_of ws c.last_piece-last.result.now) c.requires.weights ∙ ap (degree_of b.weights) (c.last_piece-last.ensures ∙ ap last_piece c.as_slice-pieces.ensures) in
+    c.word_degree.ensures ∙ ap (λ (ws : List ℕ). degree_of ws c.last_piece-last.result.now) c.requires.weights
+    ∙ ap (degree_of b.weights) (c.last_piece-last.ensures ∙ ap last_piece c.as_slice-pieces.ensures) in
     omega (arith, degree, last_piece-degree b.weights c.args.chain.now.pieces, c.requires.below, c.requires.degree, c.requires.room)
 
 pub next_pieces-requires-clause-room : goal.next_pieces-requires-clause-room
 next_pieces-requires-clause-room c =
     let b = c.args.basis.now in
     let degree : c.word_degree.result ≡ degree_of b.weights (last_piece c.args.chain.now.pieces) =
-    c.word_degree.ensures ∙ ap (λ (ws : List ℕ). degree_of ws c.last_piece-last.result.now) c.requires.weights ∙ ap (degree_of b.weights) (c.last_piece-last.ensures ∙ ap last_piece c.as_slice-pieces.ensures) in
+    c.word_degree.ensures ∙ ap (λ (ws : List ℕ). degree_of ws c.last_piece-last.result.now) c.requires.weights
+    ∙ ap (degree_of b.weights) (c.last_piece-last.ensures ∙ ap last_piece c.as_slice-pieces.ensures) in
     omega (arith, degree, last_piece-degree b.weights c.args.chain.now.pieces, c.requires.below, c.requires.degree, c.requires.room)
 
 pub returns : goal.returns

@@ -7,7 +7,8 @@ use Rattle.anick_chains.proofs.longer.push_onward.Goals as goal
 
 pub push_longer-requires-clause-letters : goal.push_longer-requires-clause-letters
 push_longer-requires-clause-letters c =
-    listed_letters c.args.basis.now c.done-done.ensures.kept c.requires.factor_free _ c.args.found.now c.requires.below c.loop-chain.chain-index c.chain-item.result c.loop-chain-test.true c.chain-item.is
+    listed_letters c.args.basis.now c.done-done.ensures.kept c.requires.factor_free _ c.args.found.now c.requires.below
+    c.loop-chain.chain-index c.chain-item.result c.loop-chain-test.true c.chain-item.is
 
 pub returns-in_err-push_longer-clause-many : goal.returns-in_err-push_longer-clause-many
 returns-in_err-push_longer-clause-many c = λ d e.
@@ -15,11 +16,13 @@ returns-in_err-push_longer-clause-many c = λ d e.
     let p = err_from_is_err_and c.from_residual.result c.from_residual.ensures.1 in
     let m = c.in_err-push_longer.ensures.many d (ap Err (sym p.2 ∙ one_fault c.from_residual.result _ _ p.1 e)) in (
       m.0,
-      onward_many b.weights b.elements c.args.degree c.args.found.now c.args.block.now.items c.loop-chain.block.items c.args.room c.loop-chain.chain-index c.chain-item.result c.loop-chain-test.true c.chain-item.is
+      onward_many b.weights b.elements c.args.degree c.args.found.now c.args.block.now.items c.loop-chain.block.items c.args.room
+          c.loop-chain.chain-index c.chain-item.result c.loop-chain-test.true c.chain-item.is
           c.loop-chain.invariant.so_far m.1,
     )
 
 pub returns-clause-onward : goal.returns-clause-onward
 returns-clause-onward c =
     let b = c.args.basis.now in
-    c.loop-chain.invariant.so_far ∙ ap (λ (cs : List (List (List ℕ))). c.args.block.now.items ++ with_degree c.args.degree cs) (onward_all b.weights b.elements c.args.degree c.args.found.now c.loop-chain.chain-index c.loop-chain-test.false)
+    c.loop-chain.invariant.so_far ∙ ap (λ (cs : List (List (List ℕ))). c.args.block.now.items ++ with_degree c.args.degree cs)
+    (onward_all b.weights b.elements c.args.degree c.args.found.now c.loop-chain.chain-index c.loop-chain-test.false)

@@ -42,7 +42,13 @@ loop-before-preserved c =
     let at = c.loop-before.before in
     let f : ℕ → List (List ℕ) = λ k. ends_of b.weights b.elements q k (c.args.d - degree_of b.weights (take k q)) in
     record {
-      degree = omega (arith, c.loop-before.invariant.degree, c.from-degree.ensures, c.weight.ensures.value, degree_of-more b.weights q at c.loop-before-test.true);
+      degree = omega (
+        arith,
+        c.loop-before.invariant.degree,
+        c.from-degree.ensures,
+        c.weight.ensures.value,
+        degree_of-more b.weights q at c.loop-before-test.true,
+      );
       so_far = c.in_ok-push_ends.ensures
           ∙ ap (λ (rs : List (List ℕ)). rs ++ ends_of b.weights b.elements q at (c.args.d - c.loop-before.degree)) c.loop-before.invariant.so_far
           ∙ ap (λ (n : ℕ). joined f at ++ ends_of b.weights b.elements q at (c.args.d - n)) c.loop-before.invariant.degree ∙ sym (joined-one f at);

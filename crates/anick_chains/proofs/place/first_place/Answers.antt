@@ -31,7 +31,8 @@ loop-low-preserved c =
     let middle : ℕ = c.loop-low.low + (c.loop-low.high - c.loop-low.low) / 2 in
     let under : middle < c.loop-low.high = omega (arith, c.loop-low-test.true) in
     let not_here : IsAbove word (lead_word G middle) → ⊥ = λ h.
-    let t : c.is_above.result ≡ true = c.is_above.ensures.1 (subst (IsAbove word) (sym c.lead_at.ensures.lead) h) in let f : c.is_above.result ≡ false = c.if-is_above.false in cc in
+    let t : c.is_above.result ≡ true = c.is_above.ensures.1 (subst (IsAbove word) (sym c.lead_at.ensures.lead) h) in
+    let f : c.is_above.result ≡ false = c.if-is_above.false in cc in
     record {
       from = v.from;
       ordered = omega arith;

@@ -18,15 +18,19 @@ loop-term-preserved c =
     let letters : IsOver (length n) t.word = search rules in
     let degree : degree_of n t.word ≡ c.args.d = search rules in (
       All-more (λ (x : Term). x.coefficient < p) ts i t c.loop-term-test.true c.loop-term.invariant.0 (subst (λ (x : Term). x.coefficient < p) here residue),
-      All-more (λ (x : Term). IsOver (length n) x.word) ts i t c.loop-term-test.true c.loop-term.invariant.1 (subst (λ (x : Term). IsOver (length n) x.word) here letters),
-      All-more (λ (x : Term). degree_of n x.word ≡ c.args.d) ts i t c.loop-term-test.true c.loop-term.invariant.2 (subst (λ (x : Term). degree_of n x.word ≡ c.args.d) here degree),
+      All-more (λ (x : Term). IsOver (length n) x.word) ts i t c.loop-term-test.true c.loop-term.invariant.1
+          (subst (λ (x : Term). IsOver (length n) x.word) here letters),
+      All-more (λ (x : Term). degree_of n x.word ≡ c.args.d) ts i t c.loop-term-test.true c.loop-term.invariant.2
+          (subst (λ (x : Term). degree_of n x.word ≡ c.args.d) here degree),
     )
 
 pub returns-clause-residues : goal.returns-clause-residues
 returns-clause-residues c _ = subst (HasResidues c.args.field.now) (take_all c.loop-term.term-index c.args.terms.now (omega arith)) c.loop-term.invariant.0
 
 pub returns-clause-letters : goal.returns-clause-letters
-returns-clause-letters c _ = subst (UsesLetters (length c.args.alphabet.now.weights)) (take_all c.loop-term.term-index c.args.terms.now (omega arith)) c.loop-term.invariant.1
+returns-clause-letters c _ = subst (UsesLetters (length c.args.alphabet.now.weights))
+    (take_all c.loop-term.term-index c.args.terms.now (omega arith)) c.loop-term.invariant.1
 
 pub returns-clause-degree : goal.returns-clause-degree
-returns-clause-degree c _ = subst (HasDegree c.args.alphabet.now.weights c.args.d) (take_all c.loop-term.term-index c.args.terms.now (omega arith)) c.loop-term.invariant.2
+returns-clause-degree c _ = subst (HasDegree c.args.alphabet.now.weights c.args.d)
+    (take_all c.loop-term.term-index c.args.terms.now (omega arith)) c.loop-term.invariant.2

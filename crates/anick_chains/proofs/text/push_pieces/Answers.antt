@@ -12,5 +12,6 @@ returns c =
     let rest : List ℕ = flat_map (λ y. codes "|" ++ f y) (take (length pieces - 1) (drop 1 pieces)) in
     let whole : c.push_word.new.text.items ++ rest ≡ c.args.text.now.items ++ join_by f (codes "|") pieces =
     ap (λ (t : List ℕ). t ++ rest) c.in_ok-push_word.ensures ∙ ap (λ (w : List ℕ). (c.args.text.now.items ++ f w) ++ rest) c.letters.ensures
-    ∙ append_assoc c.args.text.now.items (f c.in-Some.first.now) rest ∙ ap (λ (t : List ℕ). c.args.text.now.items ++ t) (sym (joined_pieces f (codes "|") pieces c.in-Some.first.now first)) in
+    ∙ append_assoc c.args.text.now.items (f c.in-Some.first.now) rest
+    ∙ ap (λ (t : List ℕ). c.args.text.now.items ++ t) (sym (joined_pieces f (codes "|") pieces c.in-Some.first.now first)) in
     subst (λ (t : List ℕ). OnOk c.push_rest.result (c.push_rest.new.text.items ≡ t)) whole c.push_rest.ensures

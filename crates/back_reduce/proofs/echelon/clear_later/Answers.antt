@@ -16,7 +16,8 @@ pub loop-later-init : goal.loop-later-init
 loop-later-init c = record {
   leader = c.requires.own;
   zeros = λ k d none. absurd (omega (arith, none));
-  sum = λ modulus. plus_nothing c.args.field.now modulus (IsLaterVector c.args.field.now modulus c.args.leaders.now c.args.column) c.args.row.now c.args.row.now refl;
+  sum = λ modulus. plus_nothing c.args.field.now modulus (IsLaterVector c.args.field.now modulus c.args.leaders.now c.args.column)
+      c.args.row.now c.args.row.now refl;
 }
 
 pub loop-later-preserved : goal.loop-later-preserved
@@ -32,7 +33,8 @@ loop-later-preserved c =
     let pivot = later.row.items in
     let within : index < length leaders = omega arith in
     let at = later.column in
-    let leader : IsLeader p m at pivot = subst (λ (l : Leader). IsLeader p m l.column l.row.items) (sym c.later-item.is) (c.requires.leaders.each index later within) in
+    let leader : IsLeader p m at pivot = subst (λ (l : Leader). IsLeader p m l.column l.row.items) (sym c.later-item.is)
+    (c.requires.leaders.each index later within) in
     let there : Contains leaders later = subst (Contains leaders) (sym c.later-item.is) (Contains-get_or leaders index later within) in
     let after : column < at = c.if-later-column.false in
     let below : at < m = leader_within p m at pivot leader in
@@ -56,10 +58,13 @@ loop-later-preserved c =
             ∙ gone_entry p m at row pivot now.size now.residues leader below other)
         | inr earlier ↦ (
             let less : (get_or leaders k d).column < at =
-            subst (λ (l : Leader). (get_or leaders k d).column < l.column) (sym (get_or_read leaders index later within c.later-item.is d)) (c.requires.leaders.rising k index d (omega (arith, lt, earlier)) within) in
+            subst (λ (l : Leader). (get_or leaders k d).column < l.column) (sym (get_or_read leaders index later within c.later-item.is d))
+            (c.requires.leaders.rising k index d (omega (arith, lt, earlier)) within) in
             kept (get_or leaders k d).column less ∙ c.loop-later.invariant.zeros k d (omega (arith, lt, earlier)) right)
       ];
-      sum = λ modulus. plus_more p modulus (IsLaterVector p modulus leaders column) factor c.args.row.now row next pivot (omega (arith, now.size, leader.size)) sums
-          (IsInSpan-one (K p modulus) ℕ (IsLaterVector p modulus leaders column) (vec p modulus pivot) (record { later = later; there = there; after = after; is = refl }))
+      sum = λ modulus. plus_more p modulus (IsLaterVector p modulus leaders column) factor c.args.row.now row next pivot
+          (omega (arith, now.size, leader.size)) sums
+          (IsInSpan-one (K p modulus) ℕ (IsLaterVector p modulus leaders column) (vec p modulus pivot)
+          (record { later = later; there = there; after = after; is = refl }))
           (c.loop-later.invariant.sum modulus);
     }

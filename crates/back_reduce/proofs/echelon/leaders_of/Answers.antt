@@ -26,8 +26,10 @@ loop-column-preserved g c =
           let shown = ap (λ v. v.items) w.leaders-is in
           let grown = w.in_ok-push.ensures.items in
           record {
-            columns = listed_more holders (λ k. k) (λ (h : Leader). h.column) n after pushed before leader found shown grown c.holder.ensures some refl c.loop-column.invariant.columns;
-            rows = listed_more holders (held_row m value) (λ (h : Leader). h.row.items) n after pushed before leader found shown grown c.holder.ensures some row c.loop-column.invariant.rows;
+            columns = listed_more holders (λ k. k) (λ (h : Leader). h.column) n after pushed before leader found shown grown
+                c.holder.ensures some refl c.loop-column.invariant.columns;
+            rows = listed_more holders (held_row m value) (λ (h : Leader). h.row.items) n after pushed before leader found shown grown
+                c.holder.ensures some row c.loop-column.invariant.rows;
           })
       | else-is_some w ↦ (
           let after = c.if-is_some.leaders.items in
@@ -35,7 +37,8 @@ loop-column-preserved g c =
           let kept = ap (λ v. v.items) w.leaders-is in
           record {
             columns = listed_same holders (λ k. k) (λ (h : Leader). h.column) n after before found kept c.holder.ensures not c.loop-column.invariant.columns;
-            rows = listed_same holders (held_row m value) (λ (h : Leader). h.row.items) n after before found kept c.holder.ensures not c.loop-column.invariant.rows;
+            rows = listed_same holders (held_row m value) (λ (h : Leader). h.row.items) n after before found kept c.holder.ensures not
+                c.loop-column.invariant.rows;
           })
     ]
 
@@ -46,6 +49,8 @@ returns g c =
     let value = g.P.PivotRows.values c.args.pivots.now in
     let end : c.loop-column.column ≡ problem.m = omega (arith, ap (λ (p : Problem). p.m) c.problem.ensures.problem) in
     let leaders = c.loop-column.leaders.items in
-    let columns : map (λ (h : Leader). h.column) leaders ≡ held_columns problem.m holders = c.loop-column.invariant.columns ∙ map-id (held_columns c.loop-column.column holders) ∙ ap (λ (n : ℕ). held_columns n holders) end in
-    let rows : map (λ (h : Leader). h.row.items) leaders ≡ map (held_row problem.m value) (held_columns problem.m holders) = c.loop-column.invariant.rows ∙ ap (λ (n : ℕ). map (held_row problem.m value) (held_columns n holders)) end in
+    let columns : map (λ (h : Leader). h.column) leaders ≡ held_columns problem.m holders = c.loop-column.invariant.columns
+    ∙ map-id (held_columns c.loop-column.column holders) ∙ ap (λ (n : ℕ). held_columns n holders) end in
+    let rows : map (λ (h : Leader). h.row.items) leaders ≡ map (held_row problem.m value) (held_columns problem.m holders) =
+    c.loop-column.invariant.rows ∙ ap (λ (n : ℕ). map (held_row problem.m value) (held_columns n holders)) end in
     leaders_of_pivots problem holders value leaders c.problem.ensures.pivots columns rows

@@ -12,6 +12,9 @@ returns g c =
     let h = c.in_ok-collect.ensures in
     let field : c.map.result.f.1.now ≡ c.args.field.now = ap (λ f. f.1.now) c.map.ensures.f in
     let leaders : c.map.result.f.2.now ≡ c.args.leaders.now = ap (λ f. f.2.now) c.map.ensures.f in
-    let all = gathered (λ z. z.now) (λ v. v.items) (λ own row. IsReducedRow c.map.result.f.1.now c.map.result.f.2.now own.column own.row.items row.items) c.args.leaders.now h.1.0 h.0 c.in_ok-collect.field-0 (h.1.1 ∙ slice) h.1.2 h.2 in
-    subst (λ (p : ℕ). IfOk c.in_ok-collect.field-0 (λ v. AllZip (λ own row. IsReducedRow p c.args.leaders.now own.column own.row.items row.items) c.args.leaders.now v.items)) field
-    (subst (λ (l : List Leader). IfOk c.in_ok-collect.field-0 (λ v. AllZip (λ own row. IsReducedRow c.map.result.f.1.now l own.column own.row.items row.items) c.args.leaders.now v.items)) leaders all)
+    let all = gathered (λ z. z.now) (λ v. v.items) (λ own row. IsReducedRow c.map.result.f.1.now c.map.result.f.2.now own.column
+    own.row.items row.items) c.args.leaders.now h.1.0 h.0 c.in_ok-collect.field-0 (h.1.1 ∙ slice) h.1.2 h.2 in
+    subst (λ (p : ℕ). IfOk c.in_ok-collect.field-0 (λ v. AllZip (λ own row. IsReducedRow p c.args.leaders.now own.column own.row.items
+    row.items) c.args.leaders.now v.items)) field
+    (subst (λ (l : List Leader). IfOk c.in_ok-collect.field-0 (λ v. AllZip
+    (λ own row. IsReducedRow c.map.result.f.1.now l own.column own.row.items row.items) c.args.leaders.now v.items)) leaders all)

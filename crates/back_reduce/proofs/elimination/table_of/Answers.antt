@@ -10,10 +10,12 @@ use Rattle.back_reduce.proofs.elimination.table_of.Goals as goal
 pub insert-requires-clause-table : goal.insert-requires-clause-table
 insert-requires-clause-table c =
     let problem = c.args.problem.now in
-    let size : length c.in_ok-row.row.items ≡ problem.m = ap length c.in_ok-row.ensures ∙ row_size problem.m problem.n problem.cells.items c.loop-r.r problem.shape c.loop-r-test.true in
+    let size : length c.in_ok-row.row.items ≡ problem.m = ap length c.in_ok-row.ensures
+    ∙ row_size problem.m problem.n problem.cells.items c.loop-r.r problem.shape c.loop-r-test.true in
     let P : ℕ → Type 0 = λ p. IsTable p problem.m c.loop-r.table.items in
     let here : IsTable c.args.field.now problem.m c.loop-r.table.items = subst P c.requires c.loop-r.invariant.is_table in
-    let sized : IsTable c.args.field.now (length c.in_ok-row.row.items) c.loop-r.table.items = subst (λ (m : ℕ). IsTable c.args.field.now m c.loop-r.table.items) (sym size) here in
+    let sized : IsTable c.args.field.now (length c.in_ok-row.row.items) c.loop-r.table.items =
+    subst (λ (m : ℕ). IsTable c.args.field.now m c.loop-r.table.items) (sym size) here in
     subst (IsTable c.args.field.now (length c.in_ok-row.row.items)) (sym c.as_mut_slice.ensures.value) sized
 
 pub loop-r-preserved : goal.loop-r-preserved
@@ -31,4 +33,5 @@ loop-r-preserved c =
     (subst (λ (x : List ℕ). IsInserted c.args.field.now r c.as_mut_slice.result.now x after) c.in_ok-row.ensures c.insert.ensures.inserted) in
     let long : length after ≡ c.loop-r.table.len = omega (arith, c.insert.auto.table, c.as_mut_slice.ensures.len) in
     subst (IsEliminated problem (r + 1)) (sym (with_items_is c.loop-r.table after long))
-    (eliminated_more problem r c.loop-r.table.items after c.loop-r-test.true c.loop-r.invariant is_table (subst (λ (p : ℕ). IsInserted p r c.loop-r.table.items row after) (sym c.requires) inserted))
+    (eliminated_more problem r c.loop-r.table.items after c.loop-r-test.true c.loop-r.invariant is_table
+    (subst (λ (p : ℕ). IsInserted p r c.loop-r.table.items row after) (sym c.requires) inserted))

@@ -8,10 +8,12 @@ pub returns-clause-sums : goal.returns-clause-sums
 returns-clause-sums c =
     let row = c.args.row.now in
     let leader = c.args.leader.now in
-    added_from c.args.field.now c.neg-a.result c.args.at (length row - c.args.at) (length leader - c.args.at) row leader c.axpy_lanes.new.y c.requires.row c.requires.leader refl refl c.axpy_lanes.ensures.sums
+    added_from c.args.field.now c.neg-a.result c.args.at (length row - c.args.at) (length leader - c.args.at) row leader c.axpy_lanes.new.y
+    c.requires.row c.requires.leader refl refl c.axpy_lanes.ensures.sums
     ∙ ap (λ (n : ℕ). plus_multiple c.args.field.now n row leader) c.neg-a.ensures
 
 pub returns-clause-residues : goal.returns-clause-residues
 returns-clause-residues c =
     let first = c.requires.row c.args.at 0 (leader_within c.args.field.now (length c.args.row.now) c.args.at c.args.leader.now c.requires.leader) in
-    subst (All (λ r. r < c.args.field.now)) (sym (returns-clause-sums c)) (plus_multiple-residues c.args.field.now _ c.args.row.now c.args.leader.now (omega (arith, first)) (sym c.requires.leader.size))
+    subst (All (λ r. r < c.args.field.now)) (sym (returns-clause-sums c))
+    (plus_multiple-residues c.args.field.now _ c.args.row.now c.args.leader.now (omega (arith, first)) (sym c.requires.leader.size))

@@ -10,7 +10,8 @@ use Rattle.back_reduce.proofs.Vectors.{gone_entry, kept_entry}
 use Rattle.back_reduce.proofs.table.free_column.Goals as goal
 
 -- what is read at a column
-read : (table : List (Option Held)) (at : ℕ) (found : Option Held) (held : Held) → at < length table → found ≡ get_or table at found → found ≡ Some held → held_at table at ≡ Some held
+read : (table : List (Option Held)) (at : ℕ) (found : Option Held) (held : Held) → at < length table → found ≡ get_or table at found →
+    found ≡ Some held → held_at table at ≡ Some held
 read table at found held within e is = sym (get_or_read table at found within e None) ∙ is
 
 pub loop-at-init : goal.loop-at-init
@@ -22,10 +23,12 @@ loop-at-init c = record {
 
 pub clear_entry-requires-clause-leader : goal.clear_entry-requires-clause-leader
 clear_entry-requires-clause-leader c =
-    let there = read c.args.table.now c.loop-at.at c.index-table-at.result c.in-Some.held (omega (arith, c.requires.table.size)) c.index-table-at.is c.in-Some.is in
+    let there = read c.args.table.now c.loop-at.at c.index-table-at.result c.in-Some.held (omega (arith, c.requires.table.size))
+    c.index-table-at.is c.in-Some.is in
     let leader = c.requires.table.leaders c.loop-at.at c.in-Some.held (omega arith) there in
     let size : length c.loop-at.row ≡ length c.args.row.now = omega arith in
-    subst (IsLeader c.args.field.now (length c.loop-at.row) c.loop-at.at) (sym c.as_slice.ensures.value) (subst (λ (n : ℕ). IsLeader c.args.field.now n c.loop-at.at c.in-Some.held.row.items) (sym size) leader)
+    subst (IsLeader c.args.field.now (length c.loop-at.row) c.loop-at.at) (sym c.as_slice.ensures.value)
+    (subst (λ (n : ℕ). IsLeader c.args.field.now n c.loop-at.at c.in-Some.held.row.items) (sym size) leader)
 
 pub loop-at-preserved : goal.loop-at-preserved
 loop-at-preserved c =
@@ -41,9 +44,11 @@ loop-at-preserved c =
     let leader = c.requires.table.leaders at held (omega arith) there in
     let other : get_or row at 0 ≢ 0 = c.if-row-at-eq0.false in
     let factor = negative_of p (get_or row at 0) in
-    let sums : c.clear_entry.new.row ≡ plus_multiple p factor row pivot = c.clear_entry.ensures.sums ∙ ap (plus_multiple p factor row) c.as_slice.ensures.value in
+    let sums : c.clear_entry.new.row ≡ plus_multiple p factor row pivot = c.clear_entry.ensures.sums
+    ∙ ap (plus_multiple p factor row) c.as_slice.ensures.value in
     let kept : (k : ℕ) → k < at → get_or c.clear_entry.new.row k 0 ≡ get_or row k 0 =
-    λ k lt. ap (λ (r : List ℕ). get_or r k 0) sums ∙ kept_entry p (length c.args.row.now) factor at k row pivot size c.loop-at.invariant.residues leader lt (omega (arith, lt, within, size)) in
+    λ k lt. ap (λ (r : List ℕ). get_or r k 0) sums ∙ kept_entry p (length c.args.row.now) factor at k row pivot size
+    c.loop-at.invariant.residues leader lt (omega (arith, lt, within, size)) in
     record {
       residues = c.clear_entry.ensures.residues;
       before = λ k lt. elim (cases_eq k at) [
@@ -51,7 +56,8 @@ loop-at-preserved c =
             ∙ gone_entry p (length c.args.row.now) at row pivot size c.loop-at.invariant.residues leader (omega (arith, within, size)) other
         | inr earlier ↦ kept k (omega (arith, lt, earlier)) ∙ c.loop-at.invariant.before k (omega (arith, lt, earlier))
       ];
-      reduced = λ modulus. plus_more p modulus (IsHeldVector p modulus table) factor c.args.row.now row c.clear_entry.new.row pivot (omega (arith, size, leader.size)) sums
+      reduced = λ modulus. plus_more p modulus (IsHeldVector p modulus table) factor c.args.row.now row c.clear_entry.new.row pivot
+          (omega (arith, size, leader.size)) sums
           (own_rows p modulus table at held there) (c.loop-at.invariant.reduced modulus);
     }
 

@@ -6,16 +6,18 @@ use Rattle.bergman_cli.proofs.chains.chains_answer.Goals as goal
 pub returns-in-Err-Limit : goal.returns-in-Err-Limit
 returns-in-Err-Limit g c =
     let at = c.in-Err-Limit in
-    refused_chains c.args.job.now c.args.given.now.alphabet c.args.given.now.relations _ c.requires.limits c.args.field.now c.requires.modulus c.limit.result _ _ _ c.limit.ensures
+    refused_chains c.args.job.now c.args.given.now.alphabet c.args.given.now.relations _ c.requires.limits c.args.field.now
+    c.requires.modulus c.limit.result _ _ _ c.limit.ensures
     (at.ensures.limit at.kind at.degree at.value (ap Err at.field-0-is))
 
 pub chains-requires-clause-factor_free : goal.chains-requires-clause-factor_free
-chains-requires-clause-factor_free g c = c.lower_law.ensures.factors c.args.field.now c.args.given.now.alphabet.weights c.args.given.now.relations c.setting_law.ensures (c.in-Ok.basis.done + 1) c.in-Ok.basis (record {
-  kept = c.in-Ok.ensures.kept;
-  next = refl;
-  same_weights = c.in-Ok.ensures.weights;
-  reduced = c.in-Ok.ensures.reduced;
-})
+chains-requires-clause-factor_free g c = c.lower_law.ensures.factors c.args.field.now c.args.given.now.alphabet.weights
+    c.args.given.now.relations c.setting_law.ensures (c.in-Ok.basis.done + 1) c.in-Ok.basis (record {
+      kept = c.in-Ok.ensures.kept;
+      next = refl;
+      same_weights = c.in-Ok.ensures.weights;
+      reduced = c.in-Ok.ensures.reduced;
+    })
 
 pub returns-in-Ok-chains : goal.returns-in-Ok-chains
 returns-in-Ok-chains g c =
@@ -29,6 +31,7 @@ pub returns-in-Err-TooMany : goal.returns-in-Err-TooMany
 returns-in-Err-TooMany g c =
     let run = c.in-Ok.ensures in
     let at = c.in-Err-TooMany in
-    many_chains c.args.job.now c.args.given.now.alphabet c.args.given.now.relations _ c.requires.limits c.args.field.now c.requires.modulus c.setting_law.ensures
+    many_chains c.args.job.now c.args.given.now.alphabet c.args.given.now.relations _ c.requires.limits c.args.field.now c.requires.modulus
+    c.setting_law.ensures
     c.in-Ok.basis run.weights run.kept run.reduced run.done run.within c.chain_laws.ensures.minimal c.lower_law.ensures.lower _ at.degree _ _ refl
     (ap (λ (n : ℕ). n + 1) c.from.ensures) (c.from_vec-in-Err-TooMany.ensures ∙ c.new.ensures.items) (at.ensures.many at.degree (ap Err at.field-0-is))

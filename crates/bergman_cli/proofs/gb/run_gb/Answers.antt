@@ -10,28 +10,40 @@ print_job-requires-clause-printable g c κs within = λ traces.
 
 pub returns-in-Ok-clause-told : goal.returns-in-Ok-clause-told
 returns-in-Ok-clause-told g c =
-    told_done c.args.field.now c.args.given.now _ c.asked_of-asked.result c.args.job.now c.requires.modulus (g.E.DegreeEngine.may_account c.args.engine.now) c.requires.engine c.asked_of-asked.ensures c.setting_law.ensures
-    (g.K.Sink.held c.args.out.now) (g.K.Sink.held c.print_job.new.out) (g.K.Sink.room c.args.out.now) (g.K.Sink.faults c.args.out.now) (g.K.Sink.faults c.print_job.new.out)
-    (Tells (g.T.Sink.held c.args.err.now) (g.T.Sink.held c.print_job.new.err) (g.T.Sink.faults c.args.err.now) (g.T.Sink.faults c.print_job.new.err) c.args.failed.now c.print_job.new.failed)
+    told_done c.args.field.now c.args.given.now _ c.asked_of-asked.result c.args.job.now c.requires.modulus
+    (g.E.DegreeEngine.may_account c.args.engine.now) c.requires.engine c.asked_of-asked.ensures c.setting_law.ensures
+    (g.K.Sink.held c.args.out.now) (g.K.Sink.held c.print_job.new.out) (g.K.Sink.room c.args.out.now) (g.K.Sink.faults c.args.out.now)
+    (g.K.Sink.faults c.print_job.new.out)
+    (Tells (g.T.Sink.held c.args.err.now) (g.T.Sink.held c.print_job.new.err) (g.T.Sink.faults c.args.err.now)
+    (g.T.Sink.faults c.print_job.new.err) c.args.failed.now c.print_job.new.failed)
     c.in-Ok.ensures.told
 
 pub returns-in-Err-Limit-clause-told : goal.returns-in-Err-Limit-clause-told
 returns-in-Err-Limit-clause-told g c =
-    told_limit c.args.field.now c.args.given.now _ c.asked_of-asked.result c.args.job.now c.requires.modulus (g.E.DegreeEngine.may_account c.args.engine.now) c.requires.engine c.asked_of-asked.ensures c.setting_law.ensures
-    (g.K.Sink.held c.args.out.now) (g.K.Sink.held c.print_job.new.out) (g.K.Sink.room c.args.out.now) (g.K.Sink.faults c.args.out.now) (g.K.Sink.faults c.print_job.new.out)
-    (Tells (g.T.Sink.held c.args.err.now) (g.T.Sink.held c.print_job.new.err) (g.T.Sink.faults c.args.err.now) (g.T.Sink.faults c.print_job.new.err) c.args.failed.now c.print_job.new.failed)
+    told_limit c.args.field.now c.args.given.now _ c.asked_of-asked.result c.args.job.now c.requires.modulus
+    (g.E.DegreeEngine.may_account c.args.engine.now) c.requires.engine c.asked_of-asked.ensures c.setting_law.ensures
+    (g.K.Sink.held c.args.out.now) (g.K.Sink.held c.print_job.new.out) (g.K.Sink.room c.args.out.now) (g.K.Sink.faults c.args.out.now)
+    (g.K.Sink.faults c.print_job.new.out)
+    (Tells (g.T.Sink.held c.args.err.now) (g.T.Sink.held c.print_job.new.err) (g.T.Sink.faults c.args.err.now)
+    (g.T.Sink.faults c.print_job.new.err) c.args.failed.now c.print_job.new.failed)
     c.in-Err-Limit.kind c.in-Err-Limit.degree c.in-Err-Limit.value c.in-Err-Limit.field-0 c.in-Err-Limit.field-0-is c.in-Err-Limit.ensures.undone
 
 pub returns-in-Err-WriteFault-clause-told : goal.returns-in-Err-WriteFault-clause-told
 returns-in-Err-WriteFault-clause-told g c =
-    told_write c.args.field.now c.args.given.now _ c.asked_of-asked.result c.args.job.now c.requires.modulus (g.E.DegreeEngine.may_account c.args.engine.now) c.requires.engine c.asked_of-asked.ensures c.setting_law.ensures
-    (g.K.Sink.held c.args.out.now) (g.K.Sink.held c.print_job.new.out) (g.K.Sink.room c.args.out.now) (g.K.Sink.faults c.args.out.now) (g.K.Sink.faults c.print_job.new.out)
-    (Tells (g.T.Sink.held c.args.err.now) (g.T.Sink.held c.print_job.new.err) (g.T.Sink.faults c.args.err.now) (g.T.Sink.faults c.print_job.new.err) c.args.failed.now c.print_job.new.failed)
+    told_write c.args.field.now c.args.given.now _ c.asked_of-asked.result c.args.job.now c.requires.modulus
+    (g.E.DegreeEngine.may_account c.args.engine.now) c.requires.engine c.asked_of-asked.ensures c.setting_law.ensures
+    (g.K.Sink.held c.args.out.now) (g.K.Sink.held c.print_job.new.out) (g.K.Sink.room c.args.out.now) (g.K.Sink.faults c.args.out.now)
+    (g.K.Sink.faults c.print_job.new.out)
+    (Tells (g.T.Sink.held c.args.err.now) (g.T.Sink.held c.print_job.new.err) (g.T.Sink.faults c.args.err.now)
+    (g.T.Sink.faults c.print_job.new.err) c.args.failed.now c.print_job.new.failed)
     c.in-Err-WriteFault.field-0 c.in-Err-WriteFault.field-0-is c.in-Err-WriteFault.ensures.undone
 
 pub returns-in-Err-NoMemory-clause-told : goal.returns-in-Err-NoMemory-clause-told
 returns-in-Err-NoMemory-clause-told g c =
-    told_memory c.args.field.now c.args.given.now _ c.asked_of-asked.result c.args.job.now c.requires.modulus (g.E.DegreeEngine.may_account c.args.engine.now) c.requires.engine c.asked_of-asked.ensures c.setting_law.ensures
-    (g.K.Sink.held c.args.out.now) (g.K.Sink.held c.print_job.new.out) (g.K.Sink.room c.args.out.now) (g.K.Sink.faults c.args.out.now) (g.K.Sink.faults c.print_job.new.out)
-    (Tells (g.T.Sink.held c.args.err.now) (g.T.Sink.held c.print_job.new.err) (g.T.Sink.faults c.args.err.now) (g.T.Sink.faults c.print_job.new.err) c.args.failed.now c.print_job.new.failed)
+    told_memory c.args.field.now c.args.given.now _ c.asked_of-asked.result c.args.job.now c.requires.modulus
+    (g.E.DegreeEngine.may_account c.args.engine.now) c.requires.engine c.asked_of-asked.ensures c.setting_law.ensures
+    (g.K.Sink.held c.args.out.now) (g.K.Sink.held c.print_job.new.out) (g.K.Sink.room c.args.out.now) (g.K.Sink.faults c.args.out.now)
+    (g.K.Sink.faults c.print_job.new.out)
+    (Tells (g.T.Sink.held c.args.err.now) (g.T.Sink.held c.print_job.new.err) (g.T.Sink.faults c.args.err.now)
+    (g.T.Sink.faults c.print_job.new.err) c.args.failed.now c.print_job.new.failed)
     c.in-Err-NoMemory.field-0 c.in-Err-NoMemory.field-0-is c.in-Err-NoMemory.ensures.undone

@@ -10,33 +10,41 @@ use Rattle.bergman_cli.proofs.make.make_answer.Goals as goal
 pub returns-in-Err-Limit : goal.returns-in-Err-Limit
 returns-in-Err-Limit g c =
     let at = c.in-Err-Limit in
-    refused_outcome c.args.job.now c.args.given.now.alphabet c.args.given.now.relations _ c.requires.limits c.args.field.now c.requires.modulus c.limit.result _ _ _ c.limit.ensures
+    refused_outcome c.args.job.now c.args.given.now.alphabet c.args.given.now.relations _ c.requires.limits c.args.field.now
+    c.requires.modulus c.limit.result _ _ _ c.limit.ensures
     (at.ensures.limit at.kind at.degree at.value (ap Err at.field-0-is))
 
 pub series-requires-clause-factor_free : goal.series-requires-clause-factor_free
-series-requires-clause-factor_free g c = c.lower_law.ensures.factors c.args.field.now c.args.given.now.alphabet.weights c.args.given.now.relations c.setting_law.ensures (c.in-Ok.basis.done + 1) c.in-Ok.basis (record {
-  kept = c.in-Ok.ensures.kept;
-  next = refl;
-  same_weights = c.in-Ok.ensures.weights;
-  reduced = c.in-Ok.ensures.reduced;
-})
+series-requires-clause-factor_free g c = c.lower_law.ensures.factors c.args.field.now c.args.given.now.alphabet.weights
+    c.args.given.now.relations c.setting_law.ensures (c.in-Ok.basis.done + 1) c.in-Ok.basis (record {
+      kept = c.in-Ok.ensures.kept;
+      next = refl;
+      same_weights = c.in-Ok.ensures.weights;
+      reduced = c.in-Ok.ensures.reduced;
+    })
 
 pub returns-in-Ok-series : goal.returns-in-Ok-series
 returns-in-Ok-series g c =
     let basis = c.in-Ok.basis in
     let run = c.in-Ok.ensures in
     let numbers = c.in-Ok-series.numbers.items in
-    let counts = subst (λ (limit : ℕ). AreCounts basis.weights basis.elements limit (c.args.job.now.bound + 1) numbers) (ap (λ (l : Limits). l.normal_words) c.standard.ensures.value) c.in-Ok-series.ensures.counts in
-    summary_outcome c.args.job.now c.args.given.now.alphabet c.args.given.now.relations _ c.requires.limits c.args.field.now c.requires.modulus c.count_law.ensures c.setting_law.ensures
+    let counts = subst (λ (limit : ℕ). AreCounts basis.weights basis.elements limit (c.args.job.now.bound + 1) numbers)
+    (ap (λ (l : Limits). l.normal_words) c.standard.ensures.value) c.in-Ok-series.ensures.counts in
+    summary_outcome c.args.job.now c.args.given.now.alphabet c.args.given.now.relations _ c.requires.limits c.args.field.now
+    c.requires.modulus c.count_law.ensures c.setting_law.ensures
     basis run.weights run.kept run.reduced run.done run.within _ numbers c.index-coefficient.result.now c.from_vec.result counts
     (c.index-coefficient.ensures ∙ get_or_default_zero numbers c.args.job.now.bound c.index-coefficient.result.now (omega (arith, counts.size))) refl
-    (c.from_vec.ensures ∙ c.in_ok-text-in-Ok-series.ensures ∙ ap (λ (rs : List (List Term)). summary_text c.args.job.now.number (length rs) basis.elements c.args.job.now.bound c.index-coefficient.result.now) c.as_slice-relations.ensures)
+    (c.from_vec.ensures ∙ c.in_ok-text-in-Ok-series.ensures ∙ ap (λ (rs : List (List Term)). summary_text c.args.job.now.number (length rs)
+    basis.elements c.args.job.now.bound c.index-coefficient.result.now) c.as_slice-relations.ensures)
 
 pub returns-in-Err-Limit-series : goal.returns-in-Err-Limit-series
 returns-in-Err-Limit-series g c =
     let basis = c.in-Ok.basis in
     let run = c.in-Ok.ensures in
     let at = c.in-Err-Limit-series in
-    let large = subst (λ (limit : ℕ). IsFirstLarge basis.weights basis.elements limit c.args.job.now.bound at.degree at.value at.field-0-2) (ap (λ (l : Limits). l.normal_words) c.standard.ensures.value) (at.ensures.limit at.degree at.value at.field-0-2 (ap Err at.field-0-is)) in
-    crowded_outcome c.args.job.now c.args.given.now.alphabet c.args.given.now.relations _ c.requires.limits c.args.field.now c.requires.modulus c.count_law.ensures c.setting_law.ensures
+    let large = subst (λ (limit : ℕ). IsFirstLarge basis.weights basis.elements limit c.args.job.now.bound at.degree at.value at.field-0-2)
+    (ap (λ (l : Limits). l.normal_words) c.standard.ensures.value)
+    (at.ensures.limit at.degree at.value at.field-0-2 (ap Err at.field-0-is)) in
+    crowded_outcome c.args.job.now c.args.given.now.alphabet c.args.given.now.relations _ c.requires.limits c.args.field.now
+    c.requires.modulus c.count_law.ensures c.setting_law.ensures
     basis run.weights run.kept run.reduced run.done run.within c.limit-in-Err-Limit-series.result _ _ _ c.limit-in-Err-Limit-series.ensures large

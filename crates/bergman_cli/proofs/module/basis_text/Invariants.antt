@@ -3,4 +3,5 @@ use Rattle.bergman_cli.proofs.ModuleTexts.{IsTextBefore, lists_of}
 use Rattle.bergman_cli.proofs.module.basis_text.Given as goal
 
 abbrev pub invariant-loop-part : goal.invariant-loop-part
-invariant-loop-part l = IsTextBefore l.given.alphabet.names l.field l.degrees (basis_text l.given.alphabet.names l.field (lists_of l.degrees)) l.part-index l.text.items
+invariant-loop-part l = IsTextBefore l.given.alphabet.names l.field l.degrees
+    (basis_text l.given.alphabet.names l.field (lists_of l.degrees)) l.part-index l.text.items

@@ -20,7 +20,9 @@ returns-then-degree_of-bound c =
     let above : bound < c.degree_of.result = search rules in
     record {
       within = c.loop-place-test.true;
-      here = subst (IsAbove weights bound) (c.index-questions-place.is ∙ get_or_default c.args.questions.now c.loop-place.place f [] c.loop-place-test.true) (degree_above c.degree_of.result bound (lead_degree weights f) c.degree_of.ensures above);
+      here = subst (IsAbove weights bound) (c.index-questions-place.is
+          ∙ get_or_default c.args.questions.now c.loop-place.place f [] c.loop-place-test.true)
+          (degree_above c.degree_of.result bound (lead_degree weights f) c.degree_of.ensures above);
       before = c.loop-place.invariant;
     }
 
@@ -32,5 +34,6 @@ loop-place-preserved c =
     let place = c.loop-place.place in
     let f = c.index-questions-place.result in
     let below : c.degree_of.result ≤ bound = search rules in
-    none_next (IsAbove weights bound) questions place f (c.index-questions-place.is ∙ get_or_default questions place f [] c.loop-place-test.true) c.loop-place.invariant
+    none_next (IsAbove weights bound) questions place f (c.index-questions-place.is
+    ∙ get_or_default questions place f [] c.loop-place-test.true) c.loop-place.invariant
     (not_above c.degree_of.result bound (lead_degree weights f) c.degree_of.ensures c.requires.bound below)

@@ -9,13 +9,16 @@ pub returns-clause-ended : goal.returns-clause-ended
 returns-clause-ended g c = end_own (map string_bytes c.args.words.now) _ _ _ _ _ _ _ _ _ c.run_words-status.result c.run_words-status.ensures.end
 
 pub returns-clause-usage : goal.returns-clause-usage
-returns-clause-usage g c = λ fault. usage_exactly (map string_bytes c.args.words.now) _ _ _ _ _ _ _ _ _ (c.words_law.ensures (map string_bytes c.args.words.now)) fault c.run_words-status.result c.run_words-status.ensures.end
+returns-clause-usage g c = λ fault. usage_exactly (map string_bytes c.args.words.now) _ _ _ _ _ _ _ _ _
+    (c.words_law.ensures (map string_bytes c.args.words.now)) fault c.run_words-status.result c.run_words-status.ensures.end
 
 pub returns-clause-command : goal.returns-clause-command
-returns-clause-command g c = command_exactly (map string_bytes c.args.words.now) _ _ _ _ _ _ _ _ _ (c.words_law.ensures (map string_bytes c.args.words.now)) c.run_words-status.result c.run_words-status.ensures.end
+returns-clause-command g c = command_exactly (map string_bytes c.args.words.now) _ _ _ _ _ _ _ _ _
+    (c.words_law.ensures (map string_bytes c.args.words.now)) c.run_words-status.result c.run_words-status.ensures.end
 
 pub returns-clause-engine : goal.returns-clause-engine
-returns-clause-engine g c = engine_exactly (map string_bytes c.args.words.now) _ _ _ _ _ _ _ _ _ (c.words_law.ensures (map string_bytes c.args.words.now)) c.run_words-status.result c.run_words-status.ensures.end
+returns-clause-engine g c = engine_exactly (map string_bytes c.args.words.now) _ _ _ _ _ _ _ _ _
+    (c.words_law.ensures (map string_bytes c.args.words.now)) c.run_words-status.result c.run_words-status.ensures.end
 
 pub returns-clause-input : goal.returns-clause-input
 returns-clause-input g c = end_input (map string_bytes c.args.words.now) _ _ _ _ _ _ _ _ _ c.run_words-status.result c.run_words-status.ensures.end
@@ -31,9 +34,14 @@ returns-clause-memory g c = end_memory (map string_bytes c.args.words.now) _ _ _
 
 pub returns-clause-told : goal.returns-clause-told
 returns-clause-told g c =
-    let told = c.run_words-status.ensures.told in
-    (told.0, told.1, told_end _ _ _ _ false c.tell_status.new.failed _ refl (tells_behind _ _ _ _ _ _ told.0 (fault_line c.run_words-status.result) false _ _ told.2 c.tell_status.ensures))
+    let told = c.run_words-status.ensures.told in (
+      told.0,
+      told.1,
+      told_end _ _ _ _ false c.tell_status.new.failed _ refl
+          (tells_behind _ _ _ _ _ _ told.0 (fault_line c.run_words-status.result) false _ _ told.2 c.tell_status.ensures),
+    )
 
 pub returns-clause-complete : goal.returns-clause-complete
 returns-clause-complete g c =
-    completes (map string_bytes c.args.words.now) _ _ _ _ _ _ _ _ _ (c.words_law.ensures (map string_bytes c.args.words.now)) c.reading_laws.ensures.reading c.run_words-status.result c.run_words-status.ensures.end
+    completes (map string_bytes c.args.words.now) _ _ _ _ _ _ _ _ _ (c.words_law.ensures (map string_bytes c.args.words.now))
+    c.reading_laws.ensures.reading c.run_words-status.result c.run_words-status.ensures.end

@@ -11,5 +11,9 @@ pub returns-clause-told : goal.returns-clause-told
 returns-clause-told g c =
     let told = c.work.ensures.told in
     let given = c.in-Ok-read_given.given in
-    let setting = subst (λ (p : ℕ). IsSetting p given.alphabet.weights given.relations) c.in-Ok.ensures c.setting_law.ensures in
-    (told.0, λ words is. work_trace words _ _ _ _ _ c.args.job.now is given.alphabet given.relations c.in-Ok-read_given.ensures.given setting told.0 c.work.result told.1, told.2)
+    let setting = subst (λ (p : ℕ). IsSetting p given.alphabet.weights given.relations) c.in-Ok.ensures c.setting_law.ensures in (
+      told.0,
+      λ words is. work_trace words _ _ _ _ _ c.args.job.now is given.alphabet given.relations c.in-Ok-read_given.ensures.given
+          setting told.0 c.work.result told.1,
+      told.2,
+    )

@@ -12,30 +12,39 @@ write_answer-requires g c =
     let job = c.args.job.now in
     let given = c.args.given.now in
     let answer = c.in-Ok.answer in
-    due_own job given.alphabet given.relations job.command answer.status (outcome_due job given.alphabet given.relations job.command answer.status answer.text c.in-Ok.ensures)
+    due_own job given.alphabet given.relations job.command answer.status
+    (outcome_due job given.alphabet given.relations job.command answer.status answer.text c.in-Ok.ensures)
 
 pub returns-in-Ok-clause-end : goal.returns-in-Ok-clause-end
 returns-in-Ok-clause-end g c =
     let job = c.args.job.now in
     let other : job.command ≢ Gb = search rules in
     let answer = c.in-Ok.answer in
-    answer_ends job c.args.given.now.alphabet c.args.given.now.relations _ _ _ _ _ job.command other answer.status answer.text c.in-Ok.ensures c.write_answer.result c.write_answer.ensures.end
+    answer_ends job c.args.given.now.alphabet c.args.given.now.relations _ _ _ _ _ job.command other answer.status answer.text
+    c.in-Ok.ensures c.write_answer.result c.write_answer.ensures.end
 
 pub returns-in-Ok-clause-nothing : goal.returns-in-Ok-clause-nothing
 returns-in-Ok-clause-nothing g c = λ none.
     let job = c.args.job.now in
     let answer = c.in-Ok.answer in
     let same = answered_status answer.status answer.text _ _ _ _ _ c.write_answer.result c.write_answer.ensures.end none in
-    c.write_answer.ensures.nothing (quiet job c.args.given.now.alphabet c.args.given.now.relations job.command answer.status answer.text c.in-Ok.ensures (subst PrintsNothing same none))
+    c.write_answer.ensures.nothing (quiet job c.args.given.now.alphabet c.args.given.now.relations job.command answer.status answer.text
+    c.in-Ok.ensures (subst PrintsNothing same none))
 
 pub returns-in-Ok-clause-told : goal.returns-in-Ok-clause-told
 returns-in-Ok-clause-told g c =
     let job = c.args.job.now in
-    let other : job.command ≢ Gb = search rules in
-    ([], no_trace job c.args.given.now.alphabet c.args.given.now.relations _ _ _ [] job.command c.write_answer.result other refl, tells_none (g.T.Sink.held c.args.err.now) (g.T.Sink.faults c.args.err.now) c.args.failed.now)
+    let other : job.command ≢ Gb = search rules in (
+      [],
+      no_trace job c.args.given.now.alphabet c.args.given.now.relations _ _ _ [] job.command c.write_answer.result other refl,
+      tells_none (g.T.Sink.held c.args.err.now) (g.T.Sink.faults c.args.err.now) c.args.failed.now,
+    )
 
 pub returns-in-Err-clause-told : goal.returns-in-Err-clause-told
 returns-in-Err-clause-told g c =
     let job = c.args.job.now in
-    let other : job.command ≢ Gb = search rules in
-    ([], no_trace job c.args.given.now.alphabet c.args.given.now.relations _ _ _ [] job.command _ other refl, tells_none (g.T.Sink.held c.args.err.now) (g.T.Sink.faults c.args.err.now) c.args.failed.now)
+    let other : job.command ≢ Gb = search rules in (
+      [],
+      no_trace job c.args.given.now.alphabet c.args.given.now.relations _ _ _ [] job.command _ other refl,
+      tells_none (g.T.Sink.held c.args.err.now) (g.T.Sink.faults c.args.err.now) c.args.failed.now,
+    )

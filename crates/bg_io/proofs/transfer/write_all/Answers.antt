@@ -7,7 +7,13 @@ loop-done-preserved g c =
     let i = c.loop-done.invariant in
     record {
       within = search rules;
-      gained = Appends-more _ _ _ _ _ _ i.gained (rw (whole_rest c.in-Ok.count c.loop-done.done c.args.bytes.now (omega (arith, c.in-Ok.ensures.bound.0, length-take (length c.args.bytes.now - c.loop-done.done) (drop c.loop-done.done c.args.bytes.now)))) at c.in-Ok.ensures.bytes);
+      gained = Appends-more _ _ _ _ _ _ i.gained (rw (whole_rest c.in-Ok.count c.loop-done.done c.args.bytes.now
+          (omega (
+            arith,
+            c.in-Ok.ensures.bound.0,
+            length-take (length c.args.bytes.now - c.loop-done.done)
+                (drop c.loop-done.done c.args.bytes.now),
+          ))) at c.in-Ok.ensures.bytes);
       room = RoomFalls-more _ _ _ _ _ i.room c.in-Ok.ensures.room;
       kept = search rules;
     }

@@ -24,7 +24,8 @@ use Rattle.cofactors.proofs.TripleLists.{degree_of_lead}
 use Rattle.cofactors.proofs.certificate.normal_form.Goals as goal
 
 -- the question as an element
-element_of : (p : ℕ) (weights own : List ℕ) (f : List Term) → own ≡ weights → IsPolynomial f → HasResidues p f → UsesLetters (length own) f → HasOneDegree own f → IsElement p weights (lead_degree weights f) f
+element_of : (p : ℕ) (weights own : List ℕ) (f : List Term) → own ≡ weights → IsPolynomial f → HasResidues p f → UsesLetters (length own) f
+    → HasOneDegree own f → IsElement p weights (lead_degree weights f) f
 element_of p weights own f e form residues letters one = record {
   form = form;
   residues = residues;
@@ -40,7 +41,8 @@ begun_row p fs q e xs is none = subst (IsTracked p fs q) (λ j. record { element
 })
 
 -- the lists of triples are one
-same_triples : (weights own : List ℕ) (relations : List (List Term)) (q : List Term) (n : ℕ) (ts : List Product) → own ≡ weights → lead_degree weights q ≤ 64 → n ≡ min (lead_degree own q) 64 → ts ≡ triples own relations n
+same_triples : (weights own : List ℕ) (relations : List (List Term)) (q : List Term) (n : ℕ) (ts : List Product) → own ≡ weights →
+    lead_degree weights q ≤ 64 → n ≡ min (lead_degree own q) 64 → ts ≡ triples own relations n
     → ts ≡ triples weights relations (lead_degree weights q)
 same_triples weights own relations q n ts e small is listed =
     let same : lead_degree own q ≡ lead_degree weights q = ap (λ (ws : List ℕ). lead_degree ws q) e in
@@ -53,7 +55,14 @@ is_free-requires c =
     let q = c.args.question.now in
     let same : lead_degree c.args.basis.now.weights q ≡ lead_degree weights q = ap (λ (ws : List ℕ). lead_degree ws q) c.requires.weights in
     record {
-      small = λ k d lt. omega (arith, length-le-degree_of weights c.setting_law.ensures.are_weights (get_or q k d).word, degree_of_lead weights q c.requires.one_degree k d lt, same, c.requires.done, c.done-done.ensures.kept.degrees);
+      small = λ k d lt. omega (
+        arith,
+        length-le-degree_of weights c.setting_law.ensures.are_weights (get_or q k d).word,
+        degree_of_lead weights q c.requires.one_degree k d lt,
+        same,
+        c.requires.done,
+        c.done-done.ensures.kept.degrees,
+      );
     }
 
 pub returns-then-is_free-clause-certificate : goal.returns-then-is_free-clause-certificate
@@ -65,10 +74,13 @@ returns-then-is_free-clause-certificate c =
     let q = c.args.question.now in
     let d = lead_degree weights q in
     let st : IsSetting p weights relations = subst (λ (ws : List ℕ). IsSetting p ws relations) (sym c.requires.weights) c.setting_law.ensures in
-    let ef = element_of p weights c.args.presentation.now.alphabet.weights q (sym c.requires.weights) c.terms-terms.ensures.form c.requires.residues c.requires.letters c.requires.one_degree in
-    let lower = c.lower_law.ensures.lower p weights relations st (basis.done + 1) basis (record { kept = c.done-done.ensures.kept; next = refl; same_weights = refl; reduced = c.requires.reduced }) in
+    let ef = element_of p weights c.args.presentation.now.alphabet.weights q (sym c.requires.weights) c.terms-terms.ensures.form
+    c.requires.residues c.requires.letters c.requires.one_degree in
+    let lower = c.lower_law.ensures.lower p weights relations st (basis.done + 1) basis
+    (record { kept = c.done-done.ensures.kept; next = refl; same_weights = refl; reduced = c.requires.reduced }) in
     let free : All (λ (t : Term). IsFree c.args.index.now t.word) q = c.is_free.ensures.0 (search rules) in
-    let none : All (λ (s : Term). IsLeadingWord p weights relations d s.word → ⊥) q = All-from_members (λ (s : Term). IsLeadingWord p weights relations d s.word → ⊥) q (λ s m.
+    let none : All (λ (s : Term). IsLeadingWord p weights relations d s.word → ⊥) q =
+    All-from_members (λ (s : Term). IsLeadingWord p weights relations d s.word → ⊥) q (λ s m.
     let over = All-contains (λ (t : Term). IsOver (length weights) t.word) q s ef.letters m in
     let degree = All-contains (λ (t : Term). degree_of weights t.word ≡ d) q s ef.degree m in
     let listed = subst (λ (n : ℕ). Contains (words_of_degree weights n) s.word) degree (listed_word weights st.are_weights s.word over) in
@@ -76,7 +88,8 @@ returns-then-is_free-clause-certificate c =
     (normal_from_free basis.elements c.args.index.now s.word c.requires.index (All-contains (λ (t : Term). IsFree c.args.index.now t.word) q s free m))) in
     let same = c.in_ok-copy.ensures in
     let empty : c.from_vec.result ≡ [] = c.from_vec.ensures ∙ c.new.ensures.items in
-    subst (IsCertificate p weights relations d q) (λ j. record { normal = sym same j; products = sym empty j }) (certificate_of_normal p weights relations st d q ef none)
+    subst (IsCertificate p weights relations d q) (λ j. record { normal = sym same j; products = sym empty j })
+    (certificate_of_normal p weights relations st d q ef none)
 
 pub returns-then-is_free-clause-member : goal.returns-then-is_free-clause-member
 returns-then-is_free-clause-member c =
@@ -85,7 +98,8 @@ returns-then-is_free-clause-member c =
     let relations = c.args.presentation.now.relations in
     let q = c.args.question.now in
     let st : IsSetting p weights relations = subst (λ (ws : List ℕ). IsSetting p ws relations) (sym c.requires.weights) c.setting_law.ensures in
-    let ef = element_of p weights c.args.presentation.now.alphabet.weights q (sym c.requires.weights) c.terms-terms.ensures.form c.requires.residues c.requires.letters c.requires.one_degree in
+    let ef = element_of p weights c.args.presentation.now.alphabet.weights q (sym c.requires.weights) c.terms-terms.ensures.form
+    c.requires.residues c.requires.letters c.requires.one_degree in
     tells_members p weights relations st (lead_degree weights q) q c.in_ok-copy.field-0 ef (returns-then-is_free-clause-certificate c).is_normal
 
 pub leaders_of-requires-clause-numbers : goal.leaders_of-requires-clause-numbers
@@ -97,7 +111,9 @@ leaders_of-requires-clause-numbers c =
     let q = c.args.question.now in
     let d = lead_degree weights q in
     let st : IsSetting p weights relations = subst (λ (ws : List ℕ). IsSetting p ws relations) (sym c.requires.weights) c.setting_law.ensures in
-    let listed = same_triples weights own relations q c.lead_degree_within-degree.result c.in_ok-triples.triples.items (sym c.requires.weights) (omega (arith, c.requires.done, c.done-done.ensures.kept.degrees)) c.lead_degree_within-degree.ensures c.in_ok-triples.ensures in
+    let listed = same_triples weights own relations q c.lead_degree_within-degree.result c.in_ok-triples.triples.items
+    (sym c.requires.weights) (omega (arith, c.requires.done, c.done-done.ensures.kept.degrees)) c.lead_degree_within-degree.ensures
+    c.in_ok-triples.ensures in
     let Numbered = λ (s : Product). (0 < s.relation) × (s.relation ≤ length relations) in
     subst (All Numbered) (sym (c.as_slice.ensures.value ∙ listed)) (All-from_members Numbered (triples weights relations d) (numbered p weights relations st d))
 
@@ -115,10 +131,14 @@ products_of-requires-clause-places c =
     let t = c.in_ok-element.field-0 in
     let st : IsSetting p weights relations = subst (λ (ws : List ℕ). IsSetting p ws relations) (sym c.requires.weights) c.setting_law.ensures in
     let ef = element_of p weights own q (sym c.requires.weights) c.terms-terms.ensures.form c.requires.residues c.requires.letters c.requires.one_degree in
-    let listed = same_triples weights own relations q c.lead_degree_within-degree.result c.in_ok-triples.triples.items (sym c.requires.weights) (omega (arith, c.requires.done, c.done-done.ensures.kept.degrees)) c.lead_degree_within-degree.ensures c.in_ok-triples.ensures in
+    let listed = same_triples weights own relations q c.lead_degree_within-degree.result c.in_ok-triples.triples.items
+    (sym c.requires.weights) (omega (arith, c.requires.done, c.done-done.ensures.kept.degrees)) c.lead_degree_within-degree.ensures
+    c.in_ok-triples.ensures in
     let begun = begun_row p fs q c.in_ok-copy-2.field-0 c.from_vec-2.result c.in_ok-copy-2.ensures (c.from_vec-2.ensures ∙ c.new-2.ensures.items) in
-    let tracked_leaders = subst (λ (qs : List Product). All (IsTracked p (map (triple_terms relations) qs) []) leaders) (c.as_slice.ensures.value ∙ listed) c.in_ok-leaders.ensures.tracked in
-    let tracked : IsTracked p fs q t = c.in_ok-element.ensures.tracked fs q (subst (All (IsTracked p fs [])) (sym c.as_slice-2.ensures.value) tracked_leaders) begun in
+    let tracked_leaders = subst (λ (qs : List Product). All (IsTracked p (map (triple_terms relations) qs) []) leaders)
+    (c.as_slice.ensures.value ∙ listed) c.in_ok-leaders.ensures.tracked in
+    let tracked : IsTracked p fs q t = c.in_ok-element.ensures.tracked fs q
+    (subst (All (IsTracked p fs [])) (sym c.as_slice-2.ensures.value) tracked_leaders) begun in
     let places : HasPlaces (length all) t.factors = places_of p weights relations st d q ef t tracked in
     let given : c.as_slice-3.result.now ≡ all = c.as_slice-3.ensures.value ∙ listed in
     let factors : c.as_slice-4.result.now ≡ t.factors = c.as_slice-4.ensures in
@@ -138,15 +158,22 @@ returns-clause-certificate c =
     let t = c.in_ok-element.field-0 in
     let st : IsSetting p weights relations = subst (λ (ws : List ℕ). IsSetting p ws relations) (sym c.requires.weights) c.setting_law.ensures in
     let ef = element_of p weights own q (sym c.requires.weights) c.terms-terms.ensures.form c.requires.residues c.requires.letters c.requires.one_degree in
-    let listed = same_triples weights own relations q c.lead_degree_within-degree.result c.in_ok-triples.triples.items (sym c.requires.weights) (omega (arith, c.requires.done, c.done-done.ensures.kept.degrees)) c.lead_degree_within-degree.ensures c.in_ok-triples.ensures in
+    let listed = same_triples weights own relations q c.lead_degree_within-degree.result c.in_ok-triples.triples.items
+    (sym c.requires.weights) (omega (arith, c.requires.done, c.done-done.ensures.kept.degrees)) c.lead_degree_within-degree.ensures
+    c.in_ok-triples.ensures in
     let begun = begun_row p fs q c.in_ok-copy-2.field-0 c.from_vec-2.result c.in_ok-copy-2.ensures (c.from_vec-2.ensures ∙ c.new-2.ensures.items) in
-    let tracked_leaders = subst (λ (qs : List Product). All (IsTracked p (map (triple_terms relations) qs) []) leaders) (c.as_slice.ensures.value ∙ listed) c.in_ok-leaders.ensures.tracked in
-    let spanned = subst (λ (qs : List Product). All (λ (f : List Term). IsPlusSpan p leaders f []) (map (triple_terms relations) qs)) (c.as_slice.ensures.value ∙ listed) c.in_ok-leaders.ensures.spanned in
-    let tracked : IsTracked p fs q t = c.in_ok-element.ensures.tracked fs q (subst (All (IsTracked p fs [])) (sym c.as_slice-2.ensures.value) tracked_leaders) begun in
-    let zero : IsZeroAtLeads leaders t.element = subst (λ (rs : List Row). IsZeroAtLeads rs t.element) c.as_slice-2.ensures.value c.in_ok-element.ensures.zero in
+    let tracked_leaders = subst (λ (qs : List Product). All (IsTracked p (map (triple_terms relations) qs) []) leaders)
+    (c.as_slice.ensures.value ∙ listed) c.in_ok-leaders.ensures.tracked in
+    let spanned = subst (λ (qs : List Product). All (λ (f : List Term). IsPlusSpan p leaders f []) (map (triple_terms relations) qs))
+    (c.as_slice.ensures.value ∙ listed) c.in_ok-leaders.ensures.spanned in
+    let tracked : IsTracked p fs q t = c.in_ok-element.ensures.tracked fs q
+    (subst (All (IsTracked p fs [])) (sym c.as_slice-2.ensures.value) tracked_leaders) begun in
+    let zero : IsZeroAtLeads leaders t.element = subst (λ (rs : List Row). IsZeroAtLeads rs t.element) c.as_slice-2.ensures.value
+    c.in_ok-element.ensures.zero in
     let given : c.as_slice-3.result.now ≡ all = c.as_slice-3.ensures.value ∙ listed in
     let factors : c.as_slice-4.result.now ≡ t.factors = c.as_slice-4.ensures in
-    let products : c.from_vec-3.result ≡ negative_products p all t.factors = c.from_vec-3.ensures ∙ c.in_ok-products.ensures ∙ (λ j. negative_products p (given j) (factors j)) in
+    let products : c.from_vec-3.result ≡ negative_products p all t.factors = c.from_vec-3.ensures ∙ c.in_ok-products.ensures
+    ∙ (λ j. negative_products p (given j) (factors j)) in
     subst (λ (ps : List Product). IsCertificate p weights relations d q (record { normal = t.element; products = ps })) (sym products)
     (certificate_from_row p weights relations st d q ef leaders c.in_ok-leaders.ensures.leaders spanned t c.in_ok-element.ensures.row tracked zero)
 
@@ -157,5 +184,6 @@ returns-clause-member c =
     let relations = c.args.presentation.now.relations in
     let q = c.args.question.now in
     let st : IsSetting p weights relations = subst (λ (ws : List ℕ). IsSetting p ws relations) (sym c.requires.weights) c.setting_law.ensures in
-    let ef = element_of p weights c.args.presentation.now.alphabet.weights q (sym c.requires.weights) c.terms-terms.ensures.form c.requires.residues c.requires.letters c.requires.one_degree in
+    let ef = element_of p weights c.args.presentation.now.alphabet.weights q (sym c.requires.weights) c.terms-terms.ensures.form
+    c.requires.residues c.requires.letters c.requires.one_degree in
     tells_members p weights relations st (lead_degree weights q) q c.in_ok-element.field-0.element ef (returns-clause-certificate c).is_normal

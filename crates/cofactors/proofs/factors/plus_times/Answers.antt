@@ -21,7 +21,8 @@ pub loop-first_left-preserved : goal.loop-first_left-preserved
 loop-first_left-preserved c =
     let order : firsts_cmp c.loop-first_left.first_left.now c.loop-first_left.second_left.now ≡ Equal = sym c.order_of_firsts.ensures ∙ c.in-Equal.is in
     let some : 0 < c.args.field.now = omega (arith, c.requires.a_residue) in
-    let total = c.add-total.ensures ∙ ap (λ (n : ℕ). ((first_of c.loop-first_left.first_left.now).residue + n) % c.args.field.now) c.mul-added-in-Equal.ensures in
+    let total = c.add-total.ensures ∙ ap (λ (n : ℕ). ((first_of c.loop-first_left.first_left.now).residue + n) % c.args.field.now)
+    c.mul-added-in-Equal.ensures in
     rw c.in_ok-push_factor-in-Equal.ensures (step_both _ _ _ _ _ _ _ c.add-total.result some order total c.loop-first_left.invariant)
 
 pub returns-clause-sum : goal.returns-clause-sum

@@ -44,11 +44,16 @@ returns-in-Ok-clause-leaders c =
     let given = c.as_slice.ensures.value in
     let word = c.letters.ensures in
     let before : All (λ (r : Row). IsLetterwiseGreater (lead_word r) w) (take i rows) =
-    subst (λ (v : List ℕ). All (λ (r : Row). IsLetterwiseGreater (lead_word r) v) (take i rows)) word (subst (λ (rs : List Row). All (λ (r : Row). IsLetterwiseGreater (lead_word r) c.letters.result.now) (take i rs)) given c.place_of-at.ensures.before) in
+    subst (λ (v : List ℕ). All (λ (r : Row). IsLetterwiseGreater (lead_word r) v) (take i rows)) word
+    (subst (λ (rs : List Row). All (λ (r : Row). IsLetterwiseGreater (lead_word r) c.letters.result.now) (take i rs)) given
+    c.place_of-at.ensures.before) in
     let behind : All (λ (r : Row). IsLetterwiseGreater (lead_word r) w → ⊥) (drop i rows) =
-    subst (λ (v : List ℕ). All (λ (r : Row). IsLetterwiseGreater (lead_word r) v → ⊥) (drop i rows)) word (subst (λ (rs : List Row). All (λ (r : Row). IsLetterwiseGreater (lead_word r) c.letters.result.now → ⊥) (drop i rs)) given c.place_of-at.ensures.behind) in
+    subst (λ (v : List ℕ). All (λ (r : Row). IsLetterwiseGreater (lead_word r) v → ⊥) (drop i rows)) word
+    (subst (λ (rs : List Row). All (λ (r : Row). IsLetterwiseGreater (lead_word r) c.letters.result.now → ⊥) (drop i rs)) given
+    c.place_of-at.ensures.behind) in
     let smaller_behind : All (λ (r : Row). IsLetterwiseGreater w (lead_word r)) (drop i rows) =
-    λ k d lt. lead_greater row.element w (lead_word (get_or (drop i rows) k d)) c.in-Some.ensures c.requires.row.form (All-drop (λ (r : Row). total_at row.element (lead_word r) ≡ 0) i rows c.requires.zero k d lt) (behind k d lt) in
+    λ k d lt. lead_greater row.element w (lead_word (get_or (drop i rows) k d)) c.in-Some.ensures c.requires.row.form
+    (All-drop (λ (r : Row). total_at row.element (lead_word r) ≡ 0) i rows c.requires.zero k d lt) (behind k d lt) in
     subst (AreLeaders p) (sym c.in-Ok.ensures.items) (record {
       each = All-insert (IsRow p) rows i leader c.requires.leaders.each c.in_ok-leader.ensures.row;
       monic = All-insert (λ (r : Row). IsMonic r.element) rows i leader c.requires.leaders.monic c.in_ok-leader.ensures.monic;
@@ -58,7 +63,8 @@ returns-in-Ok-clause-leaders c =
     })
 
 pub returns-in-Ok-clause-kept : goal.returns-in-Ok-clause-kept
-returns-in-Ok-clause-kept c = λ r m. subst (λ (rs : List Row). Contains rs r) (sym c.in-Ok.ensures.items) (Contains-insert_kept c.args.leaders.now.items c.place_of-at.result c.in_ok-leader.leader r m)
+returns-in-Ok-clause-kept c = λ r m. subst (λ (rs : List Row). Contains rs r) (sym c.in-Ok.ensures.items)
+    (Contains-insert_kept c.args.leaders.now.items c.place_of-at.result c.in_ok-leader.leader r m)
 
 pub returns-in-Ok-clause-spanned : goal.returns-in-Ok-clause-spanned
 returns-in-Ok-clause-spanned c =
@@ -66,7 +72,8 @@ returns-in-Ok-clause-spanned c =
     let multiple = c.in_ok-leader.ensures.multiple in
     let new : List Row = c.insert.new.self.items in
     let part : ℕ × Row = (multiple.0, leader) in
-    let member : Contains new leader = subst (λ (rs : List Row). Contains rs leader) (sym c.in-Ok.ensures.items) (Contains-insert_here c.args.leaders.now.items c.place_of-at.result leader) in
+    let member : Contains new leader = subst (λ (rs : List Row). Contains rs leader) (sym c.in-Ok.ensures.items)
+    (Contains-insert_here c.args.leaders.now.items c.place_of-at.result leader) in
     record {
       parts = part ∷ [];
       among = All-cons (λ (x : ℕ × Row). Contains new x.1) part [] member (All-nil (λ (x : ℕ × Row). Contains new x.1));

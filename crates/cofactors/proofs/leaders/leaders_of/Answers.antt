@@ -41,9 +41,11 @@ times-requires c =
     let Numbered = λ (x : Product). (0 < x.relation) × (x.relation ≤ length relations) in
     let numbered : Numbered q = subst Numbered (sym c.index-triples-place.is) (c.requires.numbers c.loop-place.place q c.loop-place-test.true) in
     let r = c.index-as_slice-triple.result in
-    let is : r ≡ get_or relations (q.relation - 1) r = c.index-as_slice-triple.is ∙ ap (λ (rs : List (List Term)). get_or rs (q.relation - 1) r) c.as_slice.ensures in
+    let is : r ≡ get_or relations (q.relation - 1) r = c.index-as_slice-triple.is
+    ∙ ap (λ (rs : List (List Term)). get_or rs (q.relation - 1) r) c.as_slice.ensures in
     let within : q.relation - 1 < length relations = omega (arith, numbered.0, numbered.1) in
-    c.element_laws.ensures.no_prefix weights c.len-letters.ensures.alphabet.weights r (subst (HasOneDegree weights) (sym is) (c.args.presentation.now.one_degree (q.relation - 1) r within))
+    c.element_laws.ensures.no_prefix weights c.len-letters.ensures.alphabet.weights r
+    (subst (HasOneDegree weights) (sym is) (c.args.presentation.now.one_degree (q.relation - 1) r within))
 
 pub row_of-requires : goal.row_of-requires
 row_of-requires c =
@@ -53,11 +55,13 @@ row_of-requires c =
     let Numbered = λ (x : Product). (0 < x.relation) × (x.relation ≤ length relations) in
     let numbered : Numbered q = subst Numbered (sym c.index-triples-place.is) (c.requires.numbers c.loop-place.place q c.loop-place-test.true) in
     let r = c.index-as_slice-triple.result in
-    let is : r ≡ get_or relations (q.relation - 1) r = c.index-as_slice-triple.is ∙ ap (λ (rs : List (List Term)). get_or rs (q.relation - 1) r) c.as_slice.ensures in
+    let is : r ≡ get_or relations (q.relation - 1) r = c.index-as_slice-triple.is
+    ∙ ap (λ (rs : List (List Term)). get_or rs (q.relation - 1) r) c.as_slice.ensures in
     let within : q.relation - 1 < length relations = omega (arith, numbered.0, numbered.1) in
     record {
       residues = subst (HasResidues p) (sym c.in_ok-element.ensures.product)
-          (HasResidues-product p c.letters.result.now r c.letters-in-loop-place.result.now (subst (HasResidues p) (sym is) (c.requires.relations (q.relation - 1) r within)));
+          (HasResidues-product p c.letters.result.now r c.letters-in-loop-place.result.now
+          (subst (HasResidues p) (sym is) (c.requires.relations (q.relation - 1) r within)));
     }
 
 pub loop-place-preserved : goal.loop-place-preserved
@@ -72,10 +76,12 @@ loop-place-preserved c =
     let Numbered = λ (x : Product). (0 < x.relation) × (x.relation ≤ length relations) in
     let numbered : Numbered q = subst Numbered (sym c.index-triples-place.is) (c.requires.numbers i q c.loop-place-test.true) in
     let r = c.index-as_slice-triple.result in
-    let is : r ≡ get_or relations (q.relation - 1) r = c.index-as_slice-triple.is ∙ ap (λ (rs : List (List Term)). get_or rs (q.relation - 1) r) c.as_slice.ensures in
+    let is : r ≡ get_or relations (q.relation - 1) r = c.index-as_slice-triple.is
+    ∙ ap (λ (rs : List (List Term)). get_or rs (q.relation - 1) r) c.as_slice.ensures in
     let in_relations : q.relation - 1 < length relations = omega (arith, numbered.0, numbered.1) in
     let at : r ≡ relation_at relations q.relation = is ∙ get_or_default relations (q.relation - 1) r [] in_relations in
-    let element : c.in_ok-element.element ≡ f q = c.in_ok-element.ensures.product ∙ (λ j. product (c.letters.ensures j) (at j) (c.letters-in-loop-place.ensures j)) in
+    let element : c.in_ok-element.element ≡ f q = c.in_ok-element.ensures.product
+    ∙ (λ j. product (c.letters.ensures j) (at j) (c.letters-in-loop-place.ensures j)) in
     let size : length fs ≡ length triples = length-map triples f in
     let within : i < length fs = omega (arith, size, c.loop-place-test.true) in
     let here : get_or fs i [] ≡ f q = get_or-map f triples i q [] c.loop-place-test.true ∙ ap f (sym c.index-triples-place.is) in
@@ -87,9 +93,11 @@ loop-place-preserved c =
     let tracked_old = c.loop-place.invariant.tracked in
     let tracked_row : IsTracked p fs [] row = c.in_ok-row.ensures.tracked fs within (here ∙ sym element) in
     let tracked_left : IsTracked p fs [] left = c.in_ok-left.ensures.tracked fs [] (subst (All (IsTracked p fs [])) (sym given) tracked_old) tracked_row in
-    let spanned_row : IsPlusSpan p old row.element left.element = subst (λ (rs : List Row). IsPlusSpan p rs row.element left.element) given c.in_ok-left.ensures.spanned in
+    let spanned_row : IsPlusSpan p old row.element left.element = subst (λ (rs : List Row). IsPlusSpan p rs row.element left.element) given
+    c.in_ok-left.ensures.spanned in
     let kept = c.in_ok-insert.ensures.kept in
-    let spanned_new : IsPlusSpan p new row.element [] = span-trans p new row.element left.element (span-more p old new kept row.element left.element spanned_row) c.in_ok-insert.ensures.spanned in
+    let spanned_new : IsPlusSpan p new row.element [] = span-trans p new row.element left.element
+    (span-more p old new kept row.element left.element spanned_row) c.in_ok-insert.ensures.spanned in
     let spanned_here : IsPlusSpan p new (f q) [] = subst (λ (g : List Term). IsPlusSpan p new g []) (c.in_ok-row.ensures.element ∙ element) spanned_new in
     let more : take (i + 1) fs ≡ take i fs ++ f q ∷ [] = take_more fs i [] within ∙ ap (λ (g : List Term). take i fs ++ g ∷ []) here in
     record {
@@ -97,5 +105,6 @@ loop-place-preserved c =
       tracked = c.in_ok-insert.ensures.tracked fs tracked_old tracked_left;
       spanned = subst (All (λ (g : List Term). IsPlusSpan p new g [])) (sym more)
           (All-push (λ (g : List Term). IsPlusSpan p new g []) (take i fs) (f q)
-          (All-weaker (λ (g : List Term). IsPlusSpan p old g []) (λ (g : List Term). IsPlusSpan p new g []) (λ g h. span-more p old new kept g [] h) (take i fs) c.loop-place.invariant.spanned) spanned_here);
+          (All-weaker (λ (g : List Term). IsPlusSpan p old g []) (λ (g : List Term). IsPlusSpan p new g [])
+          (λ g h. span-more p old new kept g [] h) (take i fs) c.loop-place.invariant.spanned) spanned_here);
     }

@@ -14,16 +14,22 @@ use Rattle.cofactors.proofs.row.cleared.Goals as goal
 pub loop-leader-init : goal.loop-leader-init
 loop-leader-init c = record {
   row = c.requires.row;
-  spanned = record { parts = []; among = All-nil (λ (x : ℕ × Row). Contains c.args.leaders.now x.1); sum = λ w. ap (λ (f : List Term). total_at f w % c.args.field.now) (sym (append-nil c.args.row.element)) };
+  spanned = record {
+    parts = [];
+    among = All-nil (λ (x : ℕ × Row). Contains c.args.leaders.now x.1);
+    sum = λ w. ap (λ (f : List Term). total_at f w % c.args.field.now) (sym (append-nil c.args.row.element));
+  };
   tracked = λ fs base h k. k;
   zero = All-nil (λ (r : Row). total_at c.args.row.element (lead_word r) ≡ 0);
 }
 
 pub without_lead-requires-clause-leader : goal.without_lead-requires-clause-leader
-without_lead-requires-clause-leader c = All-contains (IsRow c.args.field.now) c.args.leaders.now c.leader-item.result c.requires.leaders.each (c.loop-leader.leader-index, c.loop-leader-test.true, sym c.leader-item.is)
+without_lead-requires-clause-leader c = All-contains (IsRow c.args.field.now) c.args.leaders.now c.leader-item.result
+    c.requires.leaders.each (c.loop-leader.leader-index, c.loop-leader-test.true, sym c.leader-item.is)
 
 pub without_lead-requires-clause-monic : goal.without_lead-requires-clause-monic
-without_lead-requires-clause-monic c = All-contains (λ (r : Row). IsMonic r.element) c.args.leaders.now c.leader-item.result c.requires.leaders.monic (c.loop-leader.leader-index, c.loop-leader-test.true, sym c.leader-item.is)
+without_lead-requires-clause-monic c = All-contains (λ (r : Row). IsMonic r.element) c.args.leaders.now c.leader-item.result
+    c.requires.leaders.monic (c.loop-leader.leader-index, c.loop-leader-test.true, sym c.leader-item.is)
 
 pub without_lead-requires-clause-row : goal.without_lead-requires-clause-row
 without_lead-requires-clause-row c = c.loop-leader.invariant.row
@@ -47,7 +53,9 @@ loop-leader-preserved c =
     record {
       row = c.in_ok-left.ensures.row;
       spanned = plus-spanned p plus.0 leader before after plus.1 some leaders c.args.row.element member c.loop-leader.invariant.spanned;
-      tracked = λ fs base h k. plus-tracked p plus.0 leader before after plus.1 fs base (All-contains (IsTracked p fs []) leaders leader h member) (c.loop-leader.invariant.tracked fs base h k);
+      tracked = λ fs base h k. plus-tracked p plus.0 leader before after plus.1 fs base
+          (All-contains (IsTracked p fs []) leaders leader h member) (c.loop-leader.invariant.tracked fs base h k);
       zero = subst (λ (rs : List Row). IsZeroAtLeads rs after.element) (sym more)
-          (zero-push p plus.0 leader before after plus.1 some c.in_ok-left.ensures.row own (take i leaders) greater c.loop-leader.invariant.zero c.in_ok-left.ensures.zero);
+          (zero-push p plus.0 leader before after plus.1 some c.in_ok-left.ensures.row own (take i leaders) greater
+          c.loop-leader.invariant.zero c.in_ok-left.ensures.zero);
     }

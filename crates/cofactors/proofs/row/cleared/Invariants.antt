@@ -7,6 +7,7 @@ abbrev pub invariant-loop-leader : goal.invariant-loop-leader
 invariant-loop-leader l = record {
   row : IsRow l.field l.left;
   spanned : IsPlusSpan l.field l.leaders l.fn.row.element l.left.element;
-  tracked : (fs : List (List Term)) (base : List Term) → All (IsTracked l.field fs []) l.leaders → IsTracked l.field fs base l.fn.row → IsTracked l.field fs base l.left;
+  tracked : (fs : List (List Term)) (base : List Term) → All (IsTracked l.field fs []) l.leaders → IsTracked l.field fs base l.fn.row →
+      IsTracked l.field fs base l.left;
   zero : IsZeroAtLeads (take l.leader-index l.leaders) l.left.element;
 }

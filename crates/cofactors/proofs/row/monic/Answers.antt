@@ -40,15 +40,18 @@ returns-clause-tracked c = λ fs h.
     let e = c.in_ok-element.ensures in
     let a = c.inv-a.result in
     let t = c.index-terms-0.result in
-    let first : total_at f (lead_or_none f) ≡ t.coefficient = first_coefficient f t c.requires.other c.requires.row.form (c.index-terms-0.is ∙ ap (λ (g : List Term). get_or g 0 t) c.terms.ensures.value) in
+    let first : total_at f (lead_or_none f) ≡ t.coefficient = first_coefficient f t c.requires.other c.requires.row.form
+    (c.index-terms-0.is ∙ ap (λ (g : List Term). get_or g 0 t) c.terms.ensures.value) in
     let one : (total_at f (lead_or_none f) * a) % p ≡ 1 % p =
     ap (λ (n : ℕ). (n * a) % p) (first ∙ ap (λ (x : Term). x.coefficient) c.index-terms-0.is)
     ∙ sym (mod-mod ((get_or c.terms.result.now 0 t).coefficient * a) p) ∙ ap (λ (n : ℕ). n % p) c.inv-a.ensures.one in
     let given : c.as_slice.result.now ≡ c.args.row.now.factors = c.as_slice.ensures in
     let made : c.from_vec.result ≡ c.in_ok-factors.factors.items = c.from_vec.ensures in
     record {
-      places = subst (HasPlaces (length fs)) (sym made) (c.in_ok-factors.ensures.places (length fs) (All-nil (λ (x : Factor). x.place < length fs)) (subst (HasPlaces (length fs)) (sym given) h.places));
+      places = subst (HasPlaces (length fs)) (sym made) (c.in_ok-factors.ensures.places (length fs)
+          (All-nil (λ (x : Factor). x.place < length fs)) (subst (HasPlaces (length fs)) (sym given) h.places));
       sum = monic_sum p f m e.form e.monic e.multiple (same_lead m f e.words) a (combined fs c.args.row.now.factors) (combined fs c.from_vec.result) one h.sum
           (subst (λ (xs : List Factor). IsSame p (combined fs xs) (scaled a (combined fs c.args.row.now.factors))) (sym made)
-          (subst (λ (xs : List Factor). IsSame p (combined fs c.in_ok-factors.factors.items) (scaled a (combined fs xs))) given (c.in_ok-factors.ensures.sum fs)));
+          (subst (λ (xs : List Factor). IsSame p (combined fs c.in_ok-factors.factors.items) (scaled a (combined fs xs))) given
+          (c.in_ok-factors.ensures.sum fs)));
     }

@@ -5,4 +5,5 @@ use Rattle.cofactors.specs.ProductList.{numbers_below, round_triples}
 use Rattle.cofactors.proofs.triples.count_at.Given as goal
 
 abbrev pub invariant-loop-before : goal.invariant-loop-before
-invariant-loop-before l = (i : ℕ) → l.count ≡ min (length (flat_map (round_triples l.alphabet.weights i (l.d - lead_degree l.alphabet.weights l.relation)) (numbers_below l.before))) (2 ^ 64 - 1)
+invariant-loop-before l = (i : ℕ) → l.count ≡ min (length (flat_map
+    (round_triples l.alphabet.weights i (l.d - lead_degree l.alphabet.weights l.relation)) (numbers_below l.before))) (2 ^ 64 - 1)

@@ -17,9 +17,13 @@ loop-behind-preserved c =
     let size = c.in_ok-lists.ensures.size in
     let old = c.loop-behind.found.items in
     let rest = flat_map (round_triples weights i n) (numbers_below (n + 1 - (b + 1))) in
-    let lefts : c.as_slice-lefts.result.now ≡ list_at lists (n - b) = c.as_slice-lefts.ensures ∙ get_or_read lists (n - b) c.index.result.now (omega (arith, size, c.loop-behind-test.true)) c.index.ensures [] in
-    let rights : c.as_slice-rights.result.now ≡ list_at lists b = c.as_slice-rights.ensures ∙ get_or_read lists b c.index-in-loop-behind.result.now (omega (arith, size, c.loop-behind-test.true)) c.index-in-loop-behind.ensures [] in
+    let lefts : c.as_slice-lefts.result.now ≡ list_at lists (n - b) = c.as_slice-lefts.ensures
+    ∙ get_or_read lists (n - b) c.index.result.now (omega (arith, size, c.loop-behind-test.true)) c.index.ensures [] in
+    let rights : c.as_slice-rights.result.now ≡ list_at lists b = c.as_slice-rights.ensures
+    ∙ get_or_read lists b c.index-in-loop-behind.result.now (omega (arith, size, c.loop-behind-test.true))
+    c.index-in-loop-behind.ensures [] in
     let rounds = rounds_listed weights i n (n - b) b lists c.in_ok-lists.ensures (omega (arith, c.loop-behind-test.true)) in
-    ap (λ (qs : List Product). qs ++ rest) (c.in_ok-push_rounds.ensures ∙ (λ j. old ++ flat_map (λ u. map (triple i u) (rights j)) (lefts j)) ∙ ap (λ (qs : List Product). old ++ qs) rounds)
+    ap (λ (qs : List Product). qs ++ rest) (c.in_ok-push_rounds.ensures
+    ∙ (λ j. old ++ flat_map (λ u. map (triple i u) (rights j)) (lefts j)) ∙ ap (λ (qs : List Product). old ++ qs) rounds)
     ∙ one_fewer (round_triples weights i n) old (n - b) (n + 1 - b) (n + 1 - (b + 1)) (omega (arith, c.loop-behind-test.true)) (omega arith)
     ∙ c.loop-behind.invariant

@@ -16,10 +16,12 @@ loop-word-preserved c =
     let words = c.args.words.now in
     let before = map string_bytes (take c.loop-word.word-index words) in
     let word = c.as_bytes.ensures.value ∙ ap string_bytes c.word-item.is in
-    let more = draft_more c.args.command before c.loop-word.draft.values c.loop-word.invariant.draft c.take.new.self.values c.as_bytes.result.now c.in_ok-take.ensures in
+    let more = draft_more c.args.command before c.loop-word.draft.values c.loop-word.invariant.draft c.take.new.self.values
+    c.as_bytes.result.now c.in_ok-take.ensures in
     let all = sym (map-take-more string_bytes words c.loop-word.word-index c.word-item.result c.loop-word-test.true) in
     record {
-      draft = subst (λ (ws : List (List ℕ)). IsDraft c.args.command ws c.take.new.self.values) all (subst (λ (w : List ℕ). IsDraft c.args.command (before ++ w ∷ []) c.take.new.self.values) word more);
+      draft = subst (λ (ws : List (List ℕ)). IsDraft c.args.command ws c.take.new.self.values) all
+          (subst (λ (w : List ℕ). IsDraft c.args.command (before ++ w ∷ []) c.take.new.self.values) word more);
       counted = omega (arith, c.loop-word.invariant.counted);
     }
 
@@ -30,8 +32,15 @@ returns-in_err-take c =
     let item = string_bytes (get_or words c.loop-word.word-index c.word-item.result) in
     let word = c.as_bytes.ensures.value ∙ ap string_bytes c.word-item.is in
     let fault = c.in_err-take.field-0.0 in
-    let number : c.loop-word.number ≡ length before + 2 = omega (arith, c.loop-word.invariant.counted, length-map (take c.loop-word.word-index words) string_bytes, length-take c.loop-word.word-index words, c.loop-word-test.true) in
-    let refused = refused_so c.args.command before c.loop-word.draft.values c.loop-word.invariant.draft c.as_bytes.result.now c.loop-word.number fault number c.in_err-take.ensures in
+    let number : c.loop-word.number ≡ length before + 2 = omega (
+      arith,
+      c.loop-word.invariant.counted,
+      length-map (take c.loop-word.word-index words) string_bytes,
+      length-take c.loop-word.word-index words,
+      c.loop-word-test.true,
+    ) in
+    let refused = refused_so c.args.command before c.loop-word.draft.values c.loop-word.invariant.draft c.as_bytes.result.now
+    c.loop-word.number fault number c.in_err-take.ensures in
     let parts = map-split string_bytes words c.loop-word.word-index c.word-item.result c.loop-word-test.true in
     let first : IsFirstRefusal c.args.command (map string_bytes words) fault = record {
       before = before;
@@ -48,4 +57,11 @@ overflow_add-number c =
     let words = c.args.words.now in
     let before = map string_bytes (take c.loop-word.word-index words) in
     let most : length before ≤ 12 = few c.args.command before c.loop-word.draft.values c.loop-word.invariant.draft in
-    omega (arith, most, c.loop-word.invariant.counted, length-map (take c.loop-word.word-index words) string_bytes, length-take c.loop-word.word-index words, c.loop-word-test.true)
+    omega (
+      arith,
+      most,
+      c.loop-word.invariant.counted,
+      length-map (take c.loop-word.word-index words) string_bytes,
+      length-take c.loop-word.word-index words,
+      c.loop-word-test.true,
+    )

@@ -13,7 +13,11 @@ returns-in-Some-missing c =
       command = command;
       rest = rest;
       words_are = ap (map string_bytes) c.in-Some.ensures.cases.0 ∙ (λ i. first i ∷ rest);
-      fault_is = (c.in_ok-draft.ensures.taken, missing_is command rest c.in_ok-draft.draft.values c.in_ok-draft.ensures (required_of command) c.in-Some-missing.key c.in-Some-missing.ensures);
+      fault_is = (
+        c.in_ok-draft.ensures.taken,
+        missing_is command rest c.in_ok-draft.draft.values c.in_ok-draft.ensures
+            (required_of command) c.in-Some-missing.key c.in-Some-missing.ensures,
+      );
     }
 
 pub returns-in-None : goal.returns-in-None

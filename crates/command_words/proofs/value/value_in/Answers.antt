@@ -21,7 +21,8 @@ pub returns-in-Engine : goal.returns-in-Engine
 returns-in-Engine c = value_of_key c.args.key keys.Engine c.args.text.now c.engine_in.result c.in-Engine.is c.engine_in.ensures
 
 pub returns-in-Schedule : goal.returns-in-Schedule
-returns-in-Schedule c = value_of_key c.args.key keys.Schedule c.args.text.now c.number_from-in-Schedule.result c.in-Schedule.is c.number_from-in-Schedule.ensures
+returns-in-Schedule c = value_of_key c.args.key keys.Schedule c.args.text.now c.number_from-in-Schedule.result c.in-Schedule.is
+    c.number_from-in-Schedule.ensures
 
 pub returns-in-Number : goal.returns-in-Number
 returns-in-Number c = value_of_key c.args.key keys.Number c.args.text.now c.number_from-in-Number.result c.in-Number.is c.number_from-in-Number.ensures

@@ -9,13 +9,15 @@ pub returns-in_err-matrix-clause-limit : goal.returns-in_err-matrix-clause-limit
 returns-in_err-matrix-clause-limit g c =
     let Q = IsQuantity c.args.field.now c.args.presentation.now.alphabet.weights c.args.presentation.now.relations c.args.below.now c.args.d in
     let limits = c.args.limits.now in
-    handed_first Q c.args.d (matrix_limits limits) ((Terms, limits.terms) ∷ []) _ _ refl c.from_residual.result c.from_residual.ensures.1 c.in_err-matrix.ensures.limit
+    handed_first Q c.args.d (matrix_limits limits) ((Terms, limits.terms) ∷ []) _ _ refl c.from_residual.result c.from_residual.ensures.1
+    c.in_err-matrix.ensures.limit
 
 pub returns-in_err-elements-clause-limit : goal.returns-in_err-elements-clause-limit
 returns-in_err-elements-clause-limit g c =
     let Q = IsQuantity c.args.field.now c.args.presentation.now.alphabet.weights c.args.presentation.now.relations c.args.below.now c.args.d in
     let limits = c.args.limits.now in
-    handed_behind Q c.args.d (matrix_limits limits) ((Terms, limits.terms) ∷ []) _ _ refl c.from_residual-in_err-elements.result c.from_residual-in_err-elements.ensures.1 c.in_ok-matrix.ensures.within c.in_err-elements.ensures.limit
+    handed_behind Q c.args.d (matrix_limits limits) ((Terms, limits.terms) ∷ []) _ _ refl c.from_residual-in_err-elements.result
+    c.from_residual-in_err-elements.ensures.1 c.in_ok-matrix.ensures.within c.in_err-elements.ensures.limit
 
 pub returns-clause-account : goal.returns-clause-account
 returns-clause-account g c =

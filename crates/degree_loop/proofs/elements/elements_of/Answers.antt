@@ -18,9 +18,16 @@ elements_on-requires-clause-columns g c =
     let below = c.args.below.now in
     let closed = c.args.closed.now in
     let m = c.requires.matrix in
-    let lower = c.lower_law.ensures.lower p weights relations c.setting_law.ensures c.args.d below (record { kept = c.done-done.ensures.kept; next = sym c.requires.next; same_weights = c.requires.weights; reduced = c.requires.reduced }) in
+    let lower = c.lower_law.ensures.lower p weights relations c.setting_law.ensures c.args.d below
+    (record {
+      kept = c.done-done.ensures.kept;
+      next = sym c.requires.next;
+      same_weights = c.requires.weights;
+      reduced = c.requires.reduced;
+    }) in
     subst (AreColumnWords weights) (sym (c.contested.ensures))
-    (column_words p weights relations c.setting_law.ensures c.args.d below.elements lower m.rows m.are_closed.are_rows closed.columns m.are_closed.are_columns closed.reducers m.are_closed.are_reducers c.requires.small)
+    (column_words p weights relations c.setting_law.ensures c.args.d below.elements lower m.rows m.are_closed.are_rows closed.columns
+    m.are_closed.are_columns closed.reducers m.are_closed.are_reducers c.requires.small)
 
 pub elements_on-requires-clause-rows : goal.elements_on-requires-clause-rows
 elements_on-requires-clause-rows g c =
@@ -29,9 +36,12 @@ elements_on-requires-clause-rows g c =
     let problem = g.P.PivotRows.given c.args.pivots.now in
     let items = λ (v : Vec ℕ Global). v.items in
     let echelon = c.in_ok-echelon.echelon.items in
-    let form = form_of p c.args.presentation.now.alphabet.weights c.args.presentation.now.relations c.args.below.now.elements c.args.d closed problem c.requires.matrix (map items echelon) c.in_ok-echelon.ensures in
+    let form = form_of p c.args.presentation.now.alphabet.weights c.args.presentation.now.relations c.args.below.now.elements c.args.d
+    closed problem c.requires.matrix (map items echelon) c.in_ok-echelon.ensures in
     let columns : c.contested.result.now ≡ contested_words closed.columns closed.reducers = c.contested.ensures in
-    let rows : All (λ (v : Vec ℕ Global). IsRow p (length c.contested.result.now) v.items) echelon = subst (λ (ws : List (List ℕ)). All (λ (v : Vec ℕ Global). IsRow p (length ws) v.items) echelon) (sym columns) (all_under (IsRow p (length (contested_words closed.columns closed.reducers))) items echelon form.each) in
+    let rows : All (λ (v : Vec ℕ Global). IsRow p (length c.contested.result.now) v.items) echelon =
+    subst (λ (ws : List (List ℕ)). All (λ (v : Vec ℕ Global). IsRow p (length ws) v.items) echelon) (sym columns)
+    (all_under (IsRow p (length (contested_words closed.columns closed.reducers))) items echelon form.each) in
     subst (All (λ (v : Vec ℕ Global). IsRow p (length c.contested.result.now) v.items)) (sym c.as_slice.ensures.value) rows
 
 pub returns-then-count-from-clause-limit : goal.returns-then-count-from-clause-limit
@@ -42,17 +52,25 @@ returns-then-count-from-clause-limit g c = λ kind degree value e.
     let below = c.args.below.now in
     let closed = c.args.closed.now in
     let problem = g.P.PivotRows.given c.args.pivots.now in
-    let lower = c.lower_law.ensures.lower p weights relations c.setting_law.ensures c.args.d below (record { kept = c.done-done.ensures.kept; next = sym c.requires.next; same_weights = c.requires.weights; reduced = c.requires.reduced }) in
+    let lower = c.lower_law.ensures.lower p weights relations c.setting_law.ensures c.args.d below
+    (record {
+      kept = c.done-done.ensures.kept;
+      next = sym c.requires.next;
+      same_weights = c.requires.weights;
+      reduced = c.requires.reduced;
+    }) in
     let elements = c.in_ok-elements.elements.items in
     let items = λ (v : Vec ℕ Global). v.items in
     let columns : c.contested.result.now ≡ contested_words closed.columns closed.reducers = c.contested.ensures in
     let made : elements ≡ map (λ (v : Vec ℕ Global). element_on c.contested.result.now v.items) c.in_ok-echelon.echelon.items =
     c.in_ok-elements.ensures ∙ ap (map (λ (v : Vec ℕ Global). element_on c.contested.result.now v.items)) c.as_slice.ensures.value in
-    let basis = basis_of p weights relations below.elements c.args.d closed problem c.requires.matrix items c.rows_law.ensures.basis c.setting_law.ensures lower c.in_ok-echelon.echelon.items c.in_ok-echelon.ensures
+    let basis = basis_of p weights relations below.elements c.args.d closed problem c.requires.matrix items c.rows_law.ensures.basis
+    c.setting_law.ensures lower c.in_ok-echelon.echelon.items c.in_ok-echelon.ensures
     c.contested.result.now columns elements made in
     let count : c.saturating_add-count.result ≡ min (min (terms_in below.elements) (2 ^ 64 - 1) + min (terms_in elements) (2 ^ 64 - 1)) (2 ^ 64 - 1) =
     omega (arith, c.saturating_add-count.ensures, c.terms_below.ensures, c.terms_of.ensures, ap terms_in c.as_slice-2.ensures.value) in
-    terms_pass p weights relations below c.args.d c.args.most c.saturating_add-count.result elements basis (omega (arith, c.ranges.most.fits)) count (omega (arith, c.if-count-from.true, c.from.ensures)) kind degree value _ refl e
+    terms_pass p weights relations below c.args.d c.args.most c.saturating_add-count.result elements basis
+    (omega (arith, c.ranges.most.fits)) count (omega (arith, c.if-count-from.true, c.from.ensures)) kind degree value _ refl e
 
 pub returns-clause-elements : goal.returns-clause-elements
 returns-clause-elements g c =
@@ -62,14 +80,21 @@ returns-clause-elements g c =
     let below = c.args.below.now in
     let closed = c.args.closed.now in
     let problem = g.P.PivotRows.given c.args.pivots.now in
-    let lower = c.lower_law.ensures.lower p weights relations c.setting_law.ensures c.args.d below (record { kept = c.done-done.ensures.kept; next = sym c.requires.next; same_weights = c.requires.weights; reduced = c.requires.reduced }) in
+    let lower = c.lower_law.ensures.lower p weights relations c.setting_law.ensures c.args.d below
+    (record {
+      kept = c.done-done.ensures.kept;
+      next = sym c.requires.next;
+      same_weights = c.requires.weights;
+      reduced = c.requires.reduced;
+    }) in
     let elements = c.in_ok-elements.elements.items in
     let items = λ (v : Vec ℕ Global). v.items in
     let columns : c.contested.result.now ≡ contested_words closed.columns closed.reducers = c.contested.ensures in
     let made : elements ≡ map (λ (v : Vec ℕ Global). element_on c.contested.result.now v.items) c.in_ok-echelon.echelon.items =
     c.in_ok-elements.ensures ∙ ap (map (λ (v : Vec ℕ Global). element_on c.contested.result.now v.items)) c.as_slice.ensures.value in
     subst (IsReducedBasis p weights relations c.args.d) (sym c.from_vec.ensures)
-    (basis_of p weights relations below.elements c.args.d closed problem c.requires.matrix items c.rows_law.ensures.basis c.setting_law.ensures lower c.in_ok-echelon.echelon.items c.in_ok-echelon.ensures
+    (basis_of p weights relations below.elements c.args.d closed problem c.requires.matrix items c.rows_law.ensures.basis
+    c.setting_law.ensures lower c.in_ok-echelon.echelon.items c.in_ok-echelon.ensures
     c.contested.result.now columns elements made)
 
 pub returns-clause-few : goal.returns-clause-few
@@ -83,7 +108,8 @@ returns-clause-few g c =
     let count : c.saturating_add-count.result ≡ min (min (terms_in below.elements) (2 ^ 64 - 1) + min (terms_in elements) (2 ^ 64 - 1)) (2 ^ 64 - 1) =
     omega (arith, c.saturating_add-count.ensures, c.terms_below.ensures, c.terms_of.ensures, ap terms_in c.as_slice-2.ensures.value) in
     subst (λ (fs : List (List Term)). length fs ≤ c.args.most) (sym c.from_vec.ensures)
-    (elements_few p weights relations below c.args.d c.args.most c.saturating_add-count.result elements basis (omega (arith, c.ranges.most.fits)) count (omega (arith, c.if-count-from.false, c.from.ensures))
+    (elements_few p weights relations below c.args.d c.args.most c.saturating_add-count.result elements basis
+    (omega (arith, c.ranges.most.fits)) count (omega (arith, c.if-count-from.false, c.from.ensures))
     (few_elements elements (basis_monic p weights relations c.args.d elements basis)))
 
 pub returns-clause-within : goal.returns-clause-within
@@ -96,4 +122,5 @@ returns-clause-within g c =
     let basis = subst (IsReducedBasis p weights relations c.args.d) c.from_vec.ensures (returns-clause-elements g c) in
     let count : c.saturating_add-count.result ≡ min (min (terms_in below.elements) (2 ^ 64 - 1) + min (terms_in elements) (2 ^ 64 - 1)) (2 ^ 64 - 1) =
     omega (arith, c.saturating_add-count.ensures, c.terms_below.ensures, c.terms_of.ensures, ap terms_in c.as_slice-2.ensures.value) in
-    terms_within p weights relations below c.args.d c.args.most c.saturating_add-count.result elements basis (omega (arith, c.ranges.most.fits)) count (omega (arith, c.if-count-from.false, c.from.ensures))
+    terms_within p weights relations below c.args.d c.args.most c.saturating_add-count.result elements basis
+    (omega (arith, c.ranges.most.fits)) count (omega (arith, c.if-count-from.false, c.from.ensures))

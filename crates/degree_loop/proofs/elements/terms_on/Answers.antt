@@ -19,7 +19,9 @@ loop-at-preserved c =
     let more = element_on-more columns row k terms c.requires within ∙ c.loop-at.invariant in
     elim c.if-coefficient-ne0.branch [
       | then-coefficient-ne0+in_ok-word+in_ok-push w ↦
-          ap (λ (f : List Term). f ++ rest) (ap items w.terms-is ∙ pushed_term terms w.push.new.self.items w.in_ok-word.word (get_or columns k []) (get_or row k 0) w.if-coefficient-ne0.true w.in_ok-push.ensures.items
+          ap (λ (f : List Term). f ++ rest) (ap items w.terms-is ∙ pushed_term terms w.push.new.self.items w.in_ok-word.word
+          (get_or columns k []) (get_or row k 0) w.if-coefficient-ne0.true w.in_ok-push.ensures.items
           (w.in_ok-word.ensures ∙ get_or_read columns k w.index-columns-at.result (omega (arith, within, c.requires)) w.index-columns-at.is [])) ∙ more
-      | else-coefficient-ne0 w ↦ ap (λ (f : List Term). f ++ rest) (ap items w.terms-is ∙ sym (append-nil terms) ∙ ap (λ (f : List Term). terms ++ f) (sym (ap (term_at (get_or columns k [])) w.if-coefficient-ne0.false))) ∙ more
+      | else-coefficient-ne0 w ↦ ap (λ (f : List Term). f ++ rest) (ap items w.terms-is ∙ sym (append-nil terms)
+          ∙ ap (λ (f : List Term). terms ++ f) (sym (ap (term_at (get_or columns k [])) w.if-coefficient-ne0.false))) ∙ more
     ]

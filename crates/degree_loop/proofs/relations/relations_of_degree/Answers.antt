@@ -23,5 +23,6 @@ loop-relation-preserved c =
           ∙ ap (λ (gs : List (List Term)). gs ++ f ∷ []) c.loop-relation.invariant
           ∙ sym (more ∙ ap (λ (b : Bool). before ++ cond b (f ∷ []) []) w.if-has_degree.true)
       | else-has_degree w ↦
-          ap items w.found-is ∙ c.loop-relation.invariant ∙ sym (more ∙ ap (λ (b : Bool). before ++ cond b (f ∷ []) []) w.if-has_degree.false ∙ append-nil before)
+          ap items w.found-is ∙ c.loop-relation.invariant ∙ sym (more
+          ∙ ap (λ (b : Bool). before ++ cond b (f ∷ []) []) w.if-has_degree.false ∙ append-nil before)
     ]

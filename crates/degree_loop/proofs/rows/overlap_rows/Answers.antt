@@ -16,4 +16,5 @@ loop-obstruction-preserved c =
     let rows = c.loop-obstruction.rows.items in
     subst (AllZip R (take (i + 1) found)) (sym c.in_ok-push.ensures.items)
     (subst (λ (xs : List Obstruction). AllZip R xs (rows ++ row ∷ [])) (sym (take_more found i x c.loop-obstruction-test.true))
-    (all_zipped_more R (take i found) rows (get_or found i x) row c.loop-obstruction.invariant (subst (λ (y : Obstruction). R y row) c.obstruction-item.is c.in_ok-row.ensures)))
+    (all_zipped_more R (take i found) rows (get_or found i x) row c.loop-obstruction.invariant
+    (subst (λ (y : Obstruction). R y row) c.obstruction-item.is c.in_ok-row.ensures)))

@@ -18,13 +18,23 @@ returns-in_err-found-clause-limit c = λ kind degree value e.
     let p = err_from_is_err_and c.from_residual.result c.from_residual.ensures.1 in
     let h = c.in_err-found.ensures.limit kind degree value (ap Err (sym p.2 ∙ one_fault c.from_residual.result _ _ p.1 e)) in
     let listed = subst (λ (ws : List ℕ). AreObstructions ws c.args.below.now.elements c.args.d h.3.0) c.requires.weights h.3.1 in
-    let many : c.args.most < length (of_degree c.args.presentation.now.alphabet.weights c.args.d c.args.presentation.now.relations) + length h.3.0 = omega (arith, h.3.2, c.count_of_degree-given.ensures) in
-    (h.0, inl (length (of_degree c.args.presentation.now.alphabet.weights c.args.d c.args.presentation.now.relations) + length h.3.0, (h.3.0, listed, refl), many, h.1, h.2))
+    let many : c.args.most < length (of_degree c.args.presentation.now.alphabet.weights c.args.d c.args.presentation.now.relations) + length
+    h.3.0 = omega (arith, h.3.2, c.count_of_degree-given.ensures) in (
+      h.0,
+      inl (
+        length (of_degree c.args.presentation.now.alphabet.weights c.args.d c.args.presentation.now.relations) + length h.3.0,
+        (h.3.0, listed, refl),
+        many,
+        h.1,
+        h.2,
+      ),
+    )
 
 pub overlap_rows-requires-clause-obstructions : goal.overlap_rows-requires-clause-obstructions
 overlap_rows-requires-clause-obstructions c =
     let below = c.args.below.now in
-    subst (All (IsOf below.weights below.elements)) (sym c.as_slice.ensures.value) (each_is below.weights below.elements c.args.d c.in_ok-found.found.items c.in_ok-found.ensures.listed)
+    subst (All (IsOf below.weights below.elements)) (sym c.as_slice.ensures.value)
+    (each_is below.weights below.elements c.args.d c.in_ok-found.found.items c.in_ok-found.ensures.listed)
 
 pub returns-clause-rows : goal.returns-clause-rows
 returns-clause-rows c =
@@ -35,7 +45,8 @@ returns-clause-rows c =
     let found = c.in_ok-found.found.items in
     let listed = subst (λ (ws : List ℕ). AreListed ws below.elements c.args.d found) c.requires.weights c.in_ok-found.ensures.listed in
     let each = subst (λ (ws : List ℕ). AllZip (IsRowFor p ws below.elements) found c.in_ok-others.others.items) c.requires.weights
-    (subst (λ (xs : List Obstruction). AllZip (IsRowFor p below.weights below.elements) xs c.in_ok-others.others.items) c.as_slice.ensures.value c.in_ok-others.ensures) in
+    (subst (λ (xs : List Obstruction). AllZip (IsRowFor p below.weights below.elements) xs c.in_ok-others.others.items)
+    c.as_slice.ensures.value c.in_ok-others.ensures) in
     subst (AreRows p weights relations below.elements c.args.d)
     (sym (c.in_ok-append.ensures.items ∙ ap (λ (fs : List (List Term)). fs ++ c.in_ok-others.others.items) c.in_ok-rows.ensures))
     (are_rows p weights relations below.elements c.args.d found c.in_ok-others.others.items listed each)
@@ -47,7 +58,15 @@ returns-clause-few c =
     let others = c.in_ok-others.others.items in
     let found = c.in_ok-found.found.items in
     let each = subst (λ (xs : List Obstruction). AllZip (IsRowFor p below.weights below.elements) xs others) c.as_slice.ensures.value c.in_ok-others.ensures in
-    omega (arith, ap length c.in_ok-append.ensures.items, length-append c.in_ok-rows.rows.items others, ap length c.in_ok-rows.ensures, c.count_of_degree-given.ensures, c.in_ok-found.ensures.within, AllZip-long (IsRowFor p below.weights below.elements) found others each)
+    omega (
+      arith,
+      ap length c.in_ok-append.ensures.items,
+      length-append c.in_ok-rows.rows.items others,
+      ap length c.in_ok-rows.ensures,
+      c.count_of_degree-given.ensures,
+      c.in_ok-found.ensures.within,
+      AllZip-long (IsRowFor p below.weights below.elements) found others each,
+    )
 
 pub returns-clause-within : goal.returns-clause-within
 returns-clause-within c =

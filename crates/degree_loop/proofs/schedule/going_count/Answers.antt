@@ -7,7 +7,13 @@ use Rattle.degree_loop.proofs.schedule.going_count.Goals.{then-goes_on, else-goe
 
 pub overflow_add-count : goal.overflow_add-count
 overflow_add-count c =
-    omega (arith, c.loop-seat.invariant, passing_few (going_test c.args.core.now.problem c.args.core.now.state) c.loop-seat.seat, c.loop-seat-test.true, c.ranges.crew.fits)
+    omega (
+      arith,
+      c.loop-seat.invariant,
+      passing_few (going_test c.args.core.now.problem c.args.core.now.state) c.loop-seat.seat,
+      c.loop-seat-test.true,
+      c.ranges.crew.fits,
+    )
 
 pub loop-seat-preserved : goal.loop-seat-preserved
 loop-seat-preserved c =
@@ -17,6 +23,12 @@ loop-seat-preserved c =
     let test : c.goes_on.result ≡ going_test problem s i = c.goes_on.ensures ∙ ap (λ (v : Sight). is_ended v.phase == 0) c.view.ensures in
     elim c.if-goes_on.branch [
       | then-goes_on w ↦
-          omega (arith, w.count-is, c.loop-seat.invariant, ap length (passing-one (going_test problem s) i (sym test ∙ w.if-goes_on.true)), length-append (going_below problem s i) (i ∷ []))
+          omega (
+            arith,
+            w.count-is,
+            c.loop-seat.invariant,
+            ap length (passing-one (going_test problem s) i (sym test ∙ w.if-goes_on.true)),
+            length-append (going_below problem s i) (i ∷ []),
+          )
       | else-goes_on w ↦ w.count-is ∙ c.loop-seat.invariant ∙ sym (ap length (passing-none (going_test problem s) i (sym test ∙ w.if-goes_on.false)))
     ]

@@ -14,22 +14,39 @@ chosen-event-requires-clause-some c = λ none.
 pub loop-number-smaller : goal.loop-number-smaller
 loop-number-smaller c =
     let laws = c.claim_laws.ensures in
-    let setting : IsSetting c.args.problem c.args.crew = record { field = subst IsFieldModulus c.requires.field c.modulus-modulus.ensures.field; some = c.requires.some; few = c.requires.few } in
-    fewer_left laws.claimed_pivots laws.step_counts c.args.problem c.args.crew c.args.schedule setting c.loop-number.core c.loop-number.number c.loop-number.invariant
-    c.number_after-number.result c.number_after-number.ensures c.chosen-event.result c.chosen-event.ensures.below c.chosen-event.ensures.chosen c.step-reply.new.self c.step-reply.ensures.state
+    let setting : IsSetting c.args.problem c.args.crew = record {
+      field = subst IsFieldModulus c.requires.field c.modulus-modulus.ensures.field;
+      some = c.requires.some;
+      few = c.requires.few;
+    } in
+    fewer_left laws.claimed_pivots laws.step_counts c.args.problem c.args.crew c.args.schedule setting c.loop-number.core
+    c.loop-number.number c.loop-number.invariant
+    c.number_after-number.result c.number_after-number.ensures c.chosen-event.result c.chosen-event.ensures.below
+    c.chosen-event.ensures.chosen c.step-reply.new.self c.step-reply.ensures.state
 
 pub loop-number-preserved : goal.loop-number-preserved
 loop-number-preserved c =
     let laws = c.claim_laws.ensures in
-    let setting : IsSetting c.args.problem c.args.crew = record { field = subst IsFieldModulus c.requires.field c.modulus-modulus.ensures.field; some = c.requires.some; few = c.requires.few } in
-    next_so_far laws.claimed_pivots laws.step_counts c.args.problem c.args.crew c.args.schedule setting c.loop-number.core c.loop-number.number c.loop-number.invariant
-    c.number_after-number.result c.number_after-number.ensures c.chosen-event.result c.chosen-event.ensures.below c.chosen-event.ensures.chosen c.step-reply.new.self c.step-reply.ensures.state
+    let setting : IsSetting c.args.problem c.args.crew = record {
+      field = subst IsFieldModulus c.requires.field c.modulus-modulus.ensures.field;
+      some = c.requires.some;
+      few = c.requires.few;
+    } in
+    next_so_far laws.claimed_pivots laws.step_counts c.args.problem c.args.crew c.args.schedule setting c.loop-number.core
+    c.loop-number.number c.loop-number.invariant
+    c.number_after-number.result c.number_after-number.ensures c.chosen-event.result c.chosen-event.ensures.below
+    c.chosen-event.ensures.chosen c.step-reply.new.self c.step-reply.ensures.state
     c.step-reply.ensures.problem c.step-reply.ensures.crew
 
 pub returns : goal.returns
 returns c =
     let laws = c.claim_laws.ensures in
-    let setting : IsSetting c.args.problem c.args.crew = record { field = subst IsFieldModulus c.requires.field c.modulus-modulus.ensures.field; some = c.requires.some; few = c.requires.few } in
+    let setting : IsSetting c.args.problem c.args.crew = record {
+      field = subst IsFieldModulus c.requires.field c.modulus-modulus.ensures.field;
+      some = c.requires.some;
+      few = c.requires.few;
+    } in
     let ended = c.ended.ensures.0 (search rules) in
-    ended_schedule laws.claimed_pivots laws.step_counts c.args.problem c.args.crew c.args.schedule setting c.loop-number.core c.loop-number.number c.loop-number.invariant
+    ended_schedule laws.claimed_pivots laws.step_counts c.args.problem c.args.crew c.args.schedule setting c.loop-number.core
+    c.loop-number.number c.loop-number.invariant
     ended c.finish.result c.finish.ensures.problem c.finish.ensures.logs

@@ -12,7 +12,8 @@ returns-then-before-place-clause-seat c =
     let s = c.args.core.now.state in
     let i = c.loop-seat.seat in
     let test : c.goes_on.result ≡ going_test problem s i = c.goes_on.ensures ∙ ap (λ (v : Sight). is_ended v.phase == 0) c.view.ensures in
-    let own = placed (going_test problem s) i (sym test ∙ c.if-goes_on.true) (length s.views) (length s.views - (i + 1)) (omega (arith, c.loop-seat-test.true, c.requires.views)) in
+    let own = placed (going_test problem s) i (sym test ∙ c.if-goes_on.true) (length s.views) (length s.views - (i + 1))
+    (omega (arith, c.loop-seat-test.true, c.requires.views)) in
     sym (ap (λ (k : ℕ). get_or (going_seats problem s) k 0) (sym c.if-before-place.true ∙ c.loop-seat.invariant.count) ∙ own.at)
 
 pub loop-seat-preserved : goal.loop-seat-preserved

@@ -7,8 +7,10 @@ use Rattle.degree_words.proofs.counts.count_of.Goals as goal
 use Rattle.degree_words.proofs.counts.count_of.Goals.{then-weight-k, else-weight-k}
 
 -- the words of one more letter are counted by the number of a lower degree
-counted : (weights counts : List ℕ) (k x weight count next : ℕ) → AreCounts weights counts k → weight ≡ weight_of weights x → 0 < weight → weight ≤ k → count ≡ min (length (before_letter weights (words_of_degree weights) k x x)) (2 ^ 64 - 1)
-    → next ≡ min (count + get_or counts (k - weight) 0) (2 ^ 64 - 1) → next ≡ min (length (before_letter weights (words_of_degree weights) k x (x + 1))) (2 ^ 64 - 1)
+counted : (weights counts : List ℕ) (k x weight count next : ℕ) → AreCounts weights counts k → weight ≡ weight_of weights x → 0 < weight →
+    weight ≤ k → count ≡ min (length (before_letter weights (words_of_degree weights) k x x)) (2 ^ 64 - 1)
+    → next ≡ min (count + get_or counts (k - weight) 0) (2 ^ 64 - 1) →
+    next ≡ min (length (before_letter weights (words_of_degree weights) k x (x + 1))) (2 ^ 64 - 1)
 counted weights counts k x weight count next h is some le c e =
     e ∙ count_more weights (words_of_degree weights) k x (2 ^ 64 - 1) count (get_or counts (k - weight) 0) (omega (arith, is, le)) c
     (ap (λ (n : ℕ). get_or counts (k - n) 0) is ∙ h.counted (k - weight_of weights x) (omega (arith, some, le, is)))
@@ -20,8 +22,10 @@ loop-letter-preserved c =
     let is : c.from-weight.result ≡ weight_of weights x = c.from-weight.ensures ∙ c.weight.ensures.value in
     let some : 0 < c.from-weight.result = omega (arith, is, c.weight.ensures.some, c.weight.ensures.value) in
     elim c.if-weight-k.branch [
-      | then-weight-k w ↦ counted weights c.args.counts.now c.args.k x c.from-weight.result c.loop-letter.count c.if-weight-k.count c.requires.counts is some w.if-weight-k.true c.loop-letter.invariant (w.count-is ∙ w.saturating_add-count.ensures)
-      | else-weight-k w ↦ w.count-is ∙ count_same weights (words_of_degree weights) c.args.k x (2 ^ 64 - 1) c.loop-letter.count (omega (arith, is, w.if-weight-k.false)) c.loop-letter.invariant
+      | then-weight-k w ↦ counted weights c.args.counts.now c.args.k x c.from-weight.result c.loop-letter.count c.if-weight-k.count
+          c.requires.counts is some w.if-weight-k.true c.loop-letter.invariant (w.count-is ∙ w.saturating_add-count.ensures)
+      | else-weight-k w ↦ w.count-is ∙ count_same weights (words_of_degree weights) c.args.k x (2 ^ 64 - 1) c.loop-letter.count
+          (omega (arith, is, w.if-weight-k.false)) c.loop-letter.invariant
     ]
 
 pub returns : goal.returns

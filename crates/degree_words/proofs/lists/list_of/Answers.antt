@@ -21,7 +21,8 @@ loop-letter-preserved c =
       | then-weight-k+in_ok-push_words w ↦
           ap items w.words-is ∙ w.in_ok-push_words.ensures
           ∙ ap (λ (tails : List (List ℕ)). old ++ map (λ w. x ∷ w) tails)
-          (w.as_slice-tails.ensures ∙ get_or_read lists (k - n) w.index-lists-k.result (omega (arith, some, w.if-weight-k.true, c.requires.below)) w.index-lists-k.is [] ∙ ap (λ (m : ℕ). list_at lists (k - m)) is)
+          (w.as_slice-tails.ensures ∙ get_or_read lists (k - n) w.index-lists-k.result
+          (omega (arith, some, w.if-weight-k.true, c.requires.below)) w.index-lists-k.is [] ∙ ap (λ (m : ℕ). list_at lists (k - m)) is)
           ∙ list_more weights (list_at lists) k x old (omega (arith, is, w.if-weight-k.true)) c.loop-letter.invariant
       | else-weight-k w ↦ ap items w.words-is ∙ list_same weights (list_at lists) k x old (omega (arith, is, w.if-weight-k.false)) c.loop-letter.invariant
     ]

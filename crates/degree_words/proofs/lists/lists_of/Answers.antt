@@ -29,7 +29,10 @@ loop-k-preserved c =
           (λ none. absurd (omega (arith, size none, count, w.if-counts-d-eq0.false)))
       | else-counts-d-eq0+else-k-eq0+in_ok-words-2 w ↦
           lists_more weights d k lists words c.loop-k.invariant
-          (λ some. ap items w.words-is ∙ w.in_ok-words-2.ensures ∙ ap (λ (ls : List (List (List ℕ))). flat_map (with_letter weights (list_at ls) k) (range_with_len 0 (length weights))) w.as_slice.ensures.value
-          ∙ list_unfolds weights c.len-letters.ensures.alphabet.weights d k lists (omega (arith, w.if-k-eq0.false)) (omega (arith, c.loop-k-test.true)) c.loop-k.invariant some)
+          (λ some. ap items w.words-is ∙ w.in_ok-words-2.ensures ∙ ap
+          (λ (ls : List (List (List ℕ))). flat_map (with_letter weights (list_at ls) k) (range_with_len 0 (length weights)))
+          w.as_slice.ensures.value
+          ∙ list_unfolds weights c.len-letters.ensures.alphabet.weights d k lists (omega (arith, w.if-k-eq0.false))
+          (omega (arith, c.loop-k-test.true)) c.loop-k.invariant some)
           (λ none. absurd (omega (arith, size none, count, w.if-counts-d-eq0.false)))
     ])

@@ -11,4 +11,5 @@ inverse_of-below-requires t c =
 
 pub returns-clause-one : goal.returns-clause-one
 returns-clause-one t c =
-    ap (λ (n : _). (c.args.a * n) % c.args.modulus) c.times.ensures ∙ next_inverse c.args.modulus c.args.a c.inverse_of-below.result (omega arith) c.inverse_of-below.ensures.one
+    ap (λ (n : _). (c.args.a * n) % c.args.modulus) c.times.ensures
+    ∙ next_inverse c.args.modulus c.args.a c.inverse_of-below.result (omega arith) c.inverse_of-below.ensures.one

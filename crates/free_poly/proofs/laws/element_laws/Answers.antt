@@ -1,4 +1,5 @@
-use Rattle.free_poly.proofs.Elements.{has_no_prefix_in_degree, keeps_degree_in_multiples, keeps_degree_in_sums, keeps_letters_in_multiples, keeps_letters_in_sums, leads_with_greatest}
+use Rattle.free_poly.proofs.Elements.{has_no_prefix_in_degree, keeps_degree_in_multiples, keeps_degree_in_sums, keeps_letters_in_multiples}
+use Rattle.free_poly.proofs.Elements.{keeps_letters_in_sums, leads_with_greatest}
 use Rattle.free_poly.proofs.NormalForms.{same_polynomials}
 use Rattle.free_poly.proofs.Products.{HasDegree-product, UsesLetters-product, total_at-inside, total_at-outside}
 use Rattle.free_poly.proofs.Totals.{total_at-append, total_at-scaled}

@@ -10,13 +10,15 @@ pub loop-first_left-preserved-in-Greater : goal.loop-first_left-preserved-in-Gre
 loop-first_left-preserved-in-Greater c =
     let order : firsts_cmp c.loop-first_left.first_left.now c.loop-first_left.second_left.now ≡ Greater = sym c.order_of_firsts.ensures ∙ c.in-Greater.is in
     let some : 0 < length c.loop-first_left.first_left.now + length c.loop-first_left.second_left.now = search rules in
-    rw c.in_ok-push_term-in-Greater.ensures (step_first _ _ _ _ _ _ _ c.index-first_left-0.result some order c.index-first_left-0.is c.loop-first_left.invariant)
+    rw c.in_ok-push_term-in-Greater.ensures (step_first _ _ _ _ _ _ _ c.index-first_left-0.result some order c.index-first_left-0.is
+    c.loop-first_left.invariant)
 
 pub loop-first_left-preserved-in-Less : goal.loop-first_left-preserved-in-Less
 loop-first_left-preserved-in-Less c =
     let order : firsts_cmp c.loop-first_left.first_left.now c.loop-first_left.second_left.now ≡ Less = sym c.order_of_firsts.ensures ∙ c.in-Less.is in
     let some : 0 < c.args.field.now = omega (arith, c.requires.a_residue) in
-    rw c.in_ok-push_term-in-Less.ensures (step_second _ _ _ _ _ _ _ c.index-second_left-0.result c.mul-added.result some order c.index-second_left-0.is c.mul-added.ensures c.loop-first_left.invariant)
+    rw c.in_ok-push_term-in-Less.ensures (step_second _ _ _ _ _ _ _ c.index-second_left-0.result c.mul-added.result some order
+    c.index-second_left-0.is c.mul-added.ensures c.loop-first_left.invariant)
 
 pub loop-first_left-preserved : goal.loop-first_left-preserved
 loop-first_left-preserved c =
@@ -24,7 +26,8 @@ loop-first_left-preserved c =
     let some : 0 < c.args.field.now = omega (arith, c.requires.a_residue) in
     let x = c.index-first_left-0-in-Equal in
     let y = c.index-second_left-0-in-Equal in
-    let total = c.add-total.ensures ∙ ap (λ n. (x.result.coefficient + n) % c.args.field.now) c.mul-added-in-Equal.ensures ∙ ap (λ (t : Term). (x.result.coefficient + (c.args.a * t.coefficient) % c.args.field.now) % c.args.field.now) (sym y.is) in
+    let total = c.add-total.ensures ∙ ap (λ n. (x.result.coefficient + n) % c.args.field.now) c.mul-added-in-Equal.ensures
+    ∙ ap (λ (t : Term). (x.result.coefficient + (c.args.a * t.coefficient) % c.args.field.now) % c.args.field.now) (sym y.is) in
     rw c.in_ok-push_term-in-Equal.ensures (step_both _ _ _ _ _ _ _ x.result y.result c.add-total.result some order x.is y.is total c.loop-first_left.invariant)
 
 pub returns-clause-sum : goal.returns-clause-sum

@@ -5,7 +5,9 @@ use Rattle.free_poly.proofs.sum.falling_terms.Goals as goal
 
 pub loop-word-init : goal.loop-word-init
 loop-word-init c =
-    let same : rev_source c.into_iter-word-iterator.result ≡ c.args.totals.entries = ap rev_source c.into_iter-word-iterator.ensures.into_iter_gives ∙ c.rev-word-items.ensures.source ∙ c.into_iter.ensures.into_iter_gives.0 in
+    let same : rev_source c.into_iter-word-iterator.result ≡ c.args.totals.entries =
+    ap rev_source c.into_iter-word-iterator.ensures.into_iter_gives ∙ c.rev-word-items.ensures.source
+    ∙ c.into_iter.ensures.into_iter_gives.0 in
     rw (same, c.new-terms.ensures.items) (Unloads-none c.args.totals.entries c.into_iter.ensures.into_iter_gives.5)
 
 pub returns-clause-totals : goal.returns-clause-totals

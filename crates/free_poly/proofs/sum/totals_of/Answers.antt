@@ -22,11 +22,17 @@ loop-term-preserved c = λ q.
     elim (cases_Bool (bytes_eq t.word q)) [
       | inl found ↦
           let is : t.word ≡ q = same_text t.word q (sym found) in
-          let sum : total_at (seen ++ t ∷ []) q ≡ total_at seen q + t.coefficient = step ∙ ap (λ (b : Bool). total_at seen q + (cond b t.coefficient 0 + 0)) found ∙ ap (λ (n : ℕ). total_at seen q + n) (add-zero t.coefficient) in
+          let sum : total_at (seen ++ t ∷ []) q ≡ total_at seen q + t.coefficient = step
+          ∙ ap (λ (b : Bool). total_at seen q + (cond b t.coefficient 0 + 0)) found
+          ∙ ap (λ (n : ℕ). total_at seen q + n) (add-zero t.coefficient) in
           let value : c.add.result ≡ (total_at seen q + t.coefficient) % c.args.field.now =
-          c.add.ensures ∙ ap (λ (n : ℕ). (n + t.coefficient) % c.args.field.now) (c.or_insert-total.ensures.value ∙ ap (λ o. unwrap_or o 0) c.in_ok-totals.ensures.value ∙ old_here ∙ ap (λ (w : List ℕ). total_at seen w % c.args.field.now) is) ∙ mod-add-mod (total_at seen q) c.args.field.now t.coefficient in
+          c.add.ensures ∙ ap (λ (n : ℕ). (n + t.coefficient) % c.args.field.now)
+          (c.or_insert-total.ensures.value ∙ ap (λ o. unwrap_or o 0) c.in_ok-totals.ensures.value ∙ old_here
+          ∙ ap (λ (w : List ℕ). total_at seen w % c.args.field.now) is)
+          ∙ mod-add-mod (total_at seen q) c.args.field.now t.coefficient in
           grind (arith, common_steps, tie, found, value, sum)
       | inr other ↦
-          let sum : total_at (seen ++ t ∷ []) q ≡ total_at seen q = step ∙ ap (λ (b : Bool). total_at seen q + (cond b t.coefficient 0 + 0)) other ∙ add-zero (total_at seen q) in
+          let sum : total_at (seen ++ t ∷ []) q ≡ total_at seen q = step
+          ∙ ap (λ (b : Bool). total_at seen q + (cond b t.coefficient 0 + 0)) other ∙ add-zero (total_at seen q) in
           grind (arith, common_steps, tie, other, sum, old)
     ]

@@ -13,7 +13,8 @@ loop-degree-init c =
     )
 
 pub words_after-requires-clause-held : goal.words_after-requires-clause-held
-words_after-requires-clause-held c = subst (AreHeld c.args.alphabet.now.weights c.args.index.now) (sym c.as_slice.ensures.value) c.loop-degree.invariant.1.are_held
+words_after-requires-clause-held c = subst (AreHeld c.args.alphabet.now.weights c.args.index.now) (sym c.as_slice.ensures.value)
+    c.loop-degree.invariant.1.are_held
 
 pub words_after-requires-clause-room : goal.words_after-requires-clause-room
 words_after-requires-clause-room c =
@@ -34,7 +35,8 @@ returns-in-Err-TooMany-clause-limit c = λ degree value below e G i.
     let same : d ≡ degree = cc in
     let kept : c.from.result + 1 ≡ value = cc in
     let numbers : c.from_vec.result ≡ below = cc in
-    first_large weights G c.args.most c.args.bound d degree value c.loop-degree.numbers.items below m.0 (omega arith) (c.loop-degree.invariant.0 G i) (normal_words_of weights G leads d m.0 i normal) m.2 same
+    first_large weights G c.args.most c.args.bound d degree value c.loop-degree.numbers.items below m.0 (omega arith)
+    (c.loop-degree.invariant.0 G i) (normal_words_of weights G leads d m.0 i normal) m.2 same
     (omega (arith, kept, c.from.ensures)) (sym c.from_vec.ensures ∙ numbers)
 
 pub loop-degree-preserved : goal.loop-degree-preserved
@@ -48,8 +50,11 @@ loop-degree-preserved c =
     let normal = subst (λ (k : ℕ). AreNormal weights leads k words) next c.in-Ok.ensures.words in
     let grown = c.in_ok-push_number-in-Ok.ensures ∙ ap (λ (us : List (List ℕ)). numbers ++ length us ∷ []) c.words-in-Ok.ensures in (
       λ G i. subst (AreCounts weights G c.args.most (d + 1)) (sym grown)
-          (counts-more weights G c.args.most d numbers words (c.loop-degree.invariant.0 G i) (normal_words_of weights G leads d words i normal) c.in-Ok.ensures.within),
-      subst (IsNextHeld weights leads (d + 1)) (sym c.in_ok-hold-in-Ok.ensures.last) (held-more weights leads c.loop-degree.held.items c.in-Ok.words d c.loop-degree.invariant.1 (c.in-Ok.ensures.degree ∙ next) normal),
+          (counts-more weights G c.args.most d numbers words (c.loop-degree.invariant.0 G i)
+          (normal_words_of weights G leads d words i normal) c.in-Ok.ensures.within),
+      subst (IsNextHeld weights leads (d + 1)) (sym c.in_ok-hold-in-Ok.ensures.last)
+          (held-more weights leads c.loop-degree.held.items c.in-Ok.words d c.loop-degree.invariant.1 (c.in-Ok.ensures.degree ∙ next)
+          normal),
     )
 
 pub returns-clause-counts : goal.returns-clause-counts

@@ -17,7 +17,9 @@ one_fault r a b h k = cc
 pub returns-in_err-report-clause-limit : goal.returns-in_err-report-clause-limit
 returns-in_err-report-clause-limit g c = λ kind degree value e.
     let p = err_from_is_err_and c.from_residual.result c.from_residual.ensures.1 in
-    let Q : List ℕ → ℕ → Type 0 = λ ws d. (degree ≡ d) × IsFirstPassing (IsQuantity c.args.field.now ws c.args.presentation.now.relations c.args.basis.now d) (g.E.DegreeEngine.kinds c.args.engine.now) kind value in
+    let Q : List ℕ → ℕ → Type 0 = λ ws d. (degree ≡ d) × IsFirstPassing
+    (IsQuantity c.args.field.now ws c.args.presentation.now.relations c.args.basis.now d) (g.E.DegreeEngine.kinds c.args.engine.now)
+    kind value in
     moved Q c.args.basis.now.weights c.args.presentation.now.alphabet.weights c.done-d.result c.args.basis.now.done c.requires.weights c.done-d.ensures.value
     (c.in_err-report.ensures.limit kind degree value (ap Err (sym p.2 ∙ one_fault c.from_residual.result _ _ p.1 e)))
 
@@ -25,23 +27,29 @@ pub push_degree-requires-clause-letters : goal.push_degree-requires-clause-lette
 push_degree-requires-clause-letters g c =
     let basis = c.args.basis.now in
     let elements = c.in_ok-report.report.elements in
-    let h = moved (λ ws d. IsReducedBasis c.args.field.now ws c.args.presentation.now.relations d elements) basis.weights _ c.done-d.result basis.done c.requires.weights c.done-d.ensures.value c.in_ok-report.ensures.elements in
-    subst (All (UsesLetters (length basis.weights))) (sym c.into_vec.ensures) (next_from_reduced c.args.field.now c.args.presentation.now.relations basis elements c.in_ok-report.ensures.few h).letters
+    let h = moved (λ ws d. IsReducedBasis c.args.field.now ws c.args.presentation.now.relations d elements) basis.weights _ c.done-d.result
+    basis.done c.requires.weights c.done-d.ensures.value c.in_ok-report.ensures.elements in
+    subst (All (UsesLetters (length basis.weights))) (sym c.into_vec.ensures)
+    (next_from_reduced c.args.field.now c.args.presentation.now.relations basis elements c.in_ok-report.ensures.few h).letters
 
 pub push_degree-requires-clause-degree : goal.push_degree-requires-clause-degree
 push_degree-requires-clause-degree g c =
     let basis = c.args.basis.now in
     let elements = c.in_ok-report.report.elements in
-    let h = moved (λ ws d. IsReducedBasis c.args.field.now ws c.args.presentation.now.relations d elements) basis.weights _ c.done-d.result basis.done c.requires.weights c.done-d.ensures.value c.in_ok-report.ensures.elements in
-    subst (All (HasDegree basis.weights (basis.done + 1))) (sym c.into_vec.ensures) (next_from_reduced c.args.field.now c.args.presentation.now.relations basis elements c.in_ok-report.ensures.few h).degree
+    let h = moved (λ ws d. IsReducedBasis c.args.field.now ws c.args.presentation.now.relations d elements) basis.weights _ c.done-d.result
+    basis.done c.requires.weights c.done-d.ensures.value c.in_ok-report.ensures.elements in
+    subst (All (HasDegree basis.weights (basis.done + 1))) (sym c.into_vec.ensures)
+    (next_from_reduced c.args.field.now c.args.presentation.now.relations basis elements c.in_ok-report.ensures.few h).degree
 
 pub returns-clause-reduced : goal.returns-clause-reduced
 returns-clause-reduced g c =
     let basis = c.args.basis.now in
     let elements = c.in_ok-report.report.elements in
-    let h = moved (λ ws d. IsReducedBasis c.args.field.now ws c.args.presentation.now.relations d elements) basis.weights _ c.done-d.result basis.done c.requires.weights c.done-d.ensures.value c.in_ok-report.ensures.elements in
+    let h = moved (λ ws d. IsReducedBasis c.args.field.now ws c.args.presentation.now.relations d elements) basis.weights _ c.done-d.result
+    basis.done c.requires.weights c.done-d.ensures.value c.in_ok-report.ensures.elements in
     let pushed = c.in_ok-push_degree.ensures in
-    reduced_upto_grown c.args.field.now c.args.presentation.now.relations basis c.push_degree.new.self elements c.done-d.ensures.kept c.requires.reduced c.in_ok-report.ensures.few h
+    reduced_upto_grown c.args.field.now c.args.presentation.now.relations basis c.push_degree.new.self elements c.done-d.ensures.kept
+    c.requires.reduced c.in_ok-report.ensures.few h
     pushed.weights pushed.done (pushed.elements ∙ ap (λ (fs : List (List Term)). basis.elements ++ fs) c.into_vec.ensures)
 
 pub returns-clause-within : goal.returns-clause-within

@@ -14,4 +14,5 @@ invariant-loop-degree g l =
     × IsReducedUpto l.field l.presentation.relations l.basis
     × NonePassesUpto l.field l.presentation.alphabet.weights l.presentation.relations (g.E.DegreeEngine.kinds l.fn.engine) l._degree
     × (g.E.DegreeEngine.kinds l.engine ≡ g.E.DegreeEngine.kinds l.fn.engine)
-    × ((p : ℕ) (rs : Presentation) (b : Elements) (e : ℕ) (a : Account) → g.E.DegreeEngine.may_account l.engine p rs b e a ↔ g.E.DegreeEngine.may_account l.fn.engine p rs b e a)
+    × ((p : ℕ) (rs : Presentation) (b : Elements) (e : ℕ) (a : Account) →
+    g.E.DegreeEngine.may_account l.engine p rs b e a ↔ g.E.DegreeEngine.may_account l.fn.engine p rs b e a)

@@ -9,8 +9,11 @@ pub loop-relation-preserved : goal.loop-relation-preserved
 loop-relation-preserved c =
     let relations = c.args.presentation.now.relations in
     let at = c.loop-relation.relation-index in
-    let item : c.relation-item.result ≡ get_or relations at c.relation-item.result = c.relation-item.is ∙ ap (λ (rs : List (List Term)). get_or rs at c.relation-item.result) c.as_slice-relation-items.ensures in
-    All-more IsPolynomial relations at c.relation-item.result (omega (arith, ap length c.as_slice-relation-items.ensures, c.loop-relation-test.true)) c.loop-relation.invariant (subst IsPolynomial item c.terms-terms.ensures.form)
+    let item : c.relation-item.result ≡ get_or relations at c.relation-item.result = c.relation-item.is
+    ∙ ap (λ (rs : List (List Term)). get_or rs at c.relation-item.result) c.as_slice-relation-items.ensures in
+    All-more IsPolynomial relations at c.relation-item.result (omega
+    (arith, ap length c.as_slice-relation-items.ensures, c.loop-relation-test.true)) c.loop-relation.invariant
+    (subst IsPolynomial item c.terms-terms.ensures.form)
 
 pub returns : goal.returns
 returns c =

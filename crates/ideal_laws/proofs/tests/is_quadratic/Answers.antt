@@ -29,12 +29,16 @@ loop-term-preserved c =
     let h = two_letters c.letters-letters.result.now c.if-letters-ne2.false c.if-letters-gt1.false c.if-letters-gt1-2.false in
     let item = ap (λ (t : Term). t.word) c.term-item.is in
     let moved = subst (λ (w : List ℕ). IsOver 2 w × (degree_of ones w ≡ 2)) (word ∙ item) h in (
-      All-more (λ (t : Term). IsOver 2 t.word) c.terms-terms.result.now c.loop-term.term-index c.term-item.result c.loop-term-test.true c.loop-term.invariant.0 moved.0,
-      All-more (λ (t : Term). degree_of ones t.word ≡ 2) c.terms-terms.result.now c.loop-term.term-index c.term-item.result c.loop-term-test.true c.loop-term.invariant.1 moved.1,
+      All-more (λ (t : Term). IsOver 2 t.word) c.terms-terms.result.now c.loop-term.term-index c.term-item.result c.loop-term-test.true
+          c.loop-term.invariant.0 moved.0,
+      All-more (λ (t : Term). degree_of ones t.word ≡ 2) c.terms-terms.result.now c.loop-term.term-index c.term-item.result
+          c.loop-term-test.true c.loop-term.invariant.1 moved.1,
     )
 
 pub returns-clause-letters : goal.returns-clause-letters
-returns-clause-letters c = λ _. subst (UsesLetters 2) (take_all c.loop-term.term-index c.terms-terms.result.now c.loop-term-test.false ∙ c.terms-terms.ensures.value) c.loop-term.invariant.0
+returns-clause-letters c = λ _. subst (UsesLetters 2) (take_all c.loop-term.term-index c.terms-terms.result.now c.loop-term-test.false
+    ∙ c.terms-terms.ensures.value) c.loop-term.invariant.0
 
 pub returns-clause-degree : goal.returns-clause-degree
-returns-clause-degree c = λ _. subst (HasDegree ones 2) (take_all c.loop-term.term-index c.terms-terms.result.now c.loop-term-test.false ∙ c.terms-terms.ensures.value) c.loop-term.invariant.1
+returns-clause-degree c = λ _. subst (HasDegree ones 2) (take_all c.loop-term.term-index c.terms-terms.result.now c.loop-term-test.false
+    ∙ c.terms-terms.ensures.value) c.loop-term.invariant.1

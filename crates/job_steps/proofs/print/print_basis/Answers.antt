@@ -18,32 +18,43 @@ loop-degree-init g c =
       all_none (g.K.Sink.held c.args.out.now) (g.K.Sink.room c.args.out.now) (g.K.Sink.faults c.args.out.now),
       refl,
       λ p rs b e a may. may,
-      ([], part_start (g.E.DegreeEngine.may_account c.args.engine.now) task c.args.asked.trace, tells_none (g.T.Sink.held c.args.err.now) (g.T.Sink.faults c.args.err.now) c.args.failed.now),
+      (
+        [],
+        part_start (g.E.DegreeEngine.may_account c.args.engine.now) task c.args.asked.trace,
+        tells_none (g.T.Sink.held c.args.err.now) (g.T.Sink.faults c.args.err.now) c.args.failed.now,
+      ),
     )
 
 pub print_next-requires-clause-printable : goal.print_next-requires-clause-printable
 print_next-requires-clause-printable g c κs within = λ traces below d elements account small setting is_below reduced may.
-    c.requires.printable traces below d elements account small setting is_below reduced (c.loop-degree.invariant.4 c.args.field.now c.args.given.now below d account may)
+    c.requires.printable traces below d elements account small setting is_below reduced
+    (c.loop-degree.invariant.4 c.args.field.now c.args.given.now below d account may)
 
 pub returns-in_err-print_next-clause-undone : goal.returns-in_err-print_next-clause-undone
 returns-in_err-print_next-clause-undone g c =
     let task = task_of c.args.field.now c.args.given.now (g.E.DegreeEngine.kinds c.args.engine.now) c.args.asked in
     let May = g.E.DegreeEngine.may_account c.args.engine.now in
     let Now = g.E.DegreeEngine.may_account c.loop-degree.engine in
-    let Told = Tells (g.T.Sink.held c.args.err.now) (g.T.Sink.held c.print_next.new.err) (g.T.Sink.faults c.args.err.now) (g.T.Sink.faults c.print_next.new.err) c.args.failed.now c.print_next.new.failed in
+    let Told = Tells (g.T.Sink.held c.args.err.now) (g.T.Sink.held c.print_next.new.err) (g.T.Sink.faults c.args.err.now)
+    (g.T.Sink.faults c.print_next.new.err) c.args.failed.now c.print_next.new.failed in
     let Holds : ℕ → Type 0 = λ e. OfTrace May task c.args.asked.trace e Told in
     let e = err_from_is_err_and c.from_residual.result c.from_residual.ensures.1 in
     let inv = c.loop-degree.invariant in
     let below = c.loop-degree.basis in
-    let Here = Tells (g.T.Sink.held c.loop-degree.err) (g.T.Sink.held c.print_next.new.err) (g.T.Sink.faults c.loop-degree.err) (g.T.Sink.faults c.print_next.new.err) c.loop-degree.failed c.print_next.new.failed [] in
+    let Here = Tells (g.T.Sink.held c.loop-degree.err) (g.T.Sink.held c.print_next.new.err) (g.T.Sink.faults c.loop-degree.err)
+    (g.T.Sink.faults c.print_next.new.err) c.loop-degree.failed c.print_next.new.failed [] in
     let Next = OfNextTrace Now c.args.field.now c.args.given.now below c.args.asked.trace
-    (Tells (g.T.Sink.held c.loop-degree.err) (g.T.Sink.held c.print_next.new.err) (g.T.Sink.faults c.loop-degree.err) (g.T.Sink.faults c.print_next.new.err) c.loop-degree.failed c.print_next.new.failed) in
-    let undone = subst (λ (limits : List (LimitKind × ℕ)). IsNextUndone c.args.field.now c.args.given.now.alphabet c.args.given.now.relations limits below c.args.asked.basis (g.K.Sink.held c.loop-degree.out) (g.K.Sink.held c.print_next.new.out)
-    (g.K.Sink.room c.loop-degree.out) (g.K.Sink.faults c.loop-degree.out) (g.K.Sink.faults c.print_next.new.out) Here Next c.in_err-print_next.field-0.0) inv.3 c.in_err-print_next.ensures.undone in
+    (Tells (g.T.Sink.held c.loop-degree.err) (g.T.Sink.held c.print_next.new.err) (g.T.Sink.faults c.loop-degree.err)
+    (g.T.Sink.faults c.print_next.new.err) c.loop-degree.failed c.print_next.new.failed) in
+    let undone = subst (λ (limits : List (LimitKind × ℕ)). IsNextUndone c.args.field.now c.args.given.now.alphabet
+    c.args.given.now.relations limits below c.args.asked.basis (g.K.Sink.held c.loop-degree.out) (g.K.Sink.held c.print_next.new.out)
+    (g.K.Sink.room c.loop-degree.out) (g.K.Sink.faults c.loop-degree.out) (g.K.Sink.faults c.print_next.new.out) Here Next
+    c.in_err-print_next.field-0.0) inv.3 c.in_err-print_next.ensures.undone in
     if_err c.from_residual.result e.0 _ (IsBasisUndone task _ _ _ _ _ Holds) e.1 e.2
     (undone_next task c.loop-degree._degree below inv.0 inv.1 c.loop-degree-test.true _ _ _ _ _ _ _ _ Here Next Holds
     (told_here May task c.args.asked.trace c.loop-degree._degree _ _ _ _ _ _ _ _ _ inv.5)
-    (told_next May Now task c.args.given.now c.args.field.now refl refl refl inv.4 c.args.asked.trace c.loop-degree._degree below inv.0 inv.1 _ _ _ _ _ _ _ _ _ inv.5)
+    (told_next May Now task c.args.given.now c.args.field.now refl refl refl inv.4 c.args.asked.trace c.loop-degree._degree below inv.0
+    inv.1 _ _ _ _ _ _ _ _ _ inv.5)
     _ inv.2 undone)
 
 pub loop-degree-preserved : goal.loop-degree-preserved
@@ -55,7 +66,8 @@ loop-degree-preserved g c =
     let below = c.loop-degree.basis in
     let next = c.in_ok-print_next.ensures in
     let printed = next.printed in
-    let is_next = subst (λ (limits : List (LimitKind × ℕ)). IsNext c.args.field.now c.args.given.now.alphabet.weights c.args.given.now.relations limits below printed.0) inv.3 printed.1 in (
+    let is_next = subst (λ (limits : List (LimitKind × ℕ)). IsNext c.args.field.now c.args.given.now.alphabet.weights
+    c.args.given.now.relations limits below printed.0) inv.3 printed.1 in (
       inv.0 ++ lines_of c.args.asked.basis c.args.given.now.alphabet.names c.args.field.now (below.done + 1) printed.0,
       record {
         done = next.done ∙ ap (λ (n : ℕ). n + 1) inv.1.done;
@@ -67,5 +79,6 @@ loop-degree-preserved g c =
       all_behind _ _ _ _ _ _ _ _ _ _ _ inv.2 printed.2,
       next.kinds ∙ inv.3,
       λ p rs b e a may. inv.4 p rs b e a (next.accounts p rs b e a may),
-      told_next May Now task c.args.given.now c.args.field.now refl refl refl inv.4 c.args.asked.trace c.loop-degree._degree below inv.0 inv.1 _ _ _ _ _ _ _ _ _ inv.5 next.told,
+      told_next May Now task c.args.given.now c.args.field.now refl refl refl inv.4 c.args.asked.trace c.loop-degree._degree below inv.0
+          inv.1 _ _ _ _ _ _ _ _ _ inv.5 next.told,
     )

@@ -12,8 +12,10 @@ abbrev pub invariant-loop-degree : goal.invariant-loop-degree
 invariant-loop-degree g l =
     (text : List ℕ)
     × Stands (task_of l.field l.given (g.E.DegreeEngine.kinds l.fn.engine) l.asked) l._degree l.basis text
-    × GainsAll (g.K.Sink.held l.fn.out) (g.K.Sink.held l.out) (g.K.Sink.room l.fn.out) (g.K.Sink.room l.out) (g.K.Sink.faults l.fn.out) (g.K.Sink.faults l.out) text
+    × GainsAll (g.K.Sink.held l.fn.out) (g.K.Sink.held l.out) (g.K.Sink.room l.fn.out) (g.K.Sink.room l.out) (g.K.Sink.faults l.fn.out)
+    (g.K.Sink.faults l.out) text
     × (g.E.DegreeEngine.kinds l.engine ≡ g.E.DegreeEngine.kinds l.fn.engine)
-    × ((p : ℕ) (rs : Presentation) (b : Elements) (e : ℕ) (a : Account) → g.E.DegreeEngine.may_account l.engine p rs b e a → g.E.DegreeEngine.may_account l.fn.engine p rs b e a)
+    × ((p : ℕ) (rs : Presentation) (b : Elements) (e : ℕ) (a : Account) → g.E.DegreeEngine.may_account l.engine p rs b e a →
+    g.E.DegreeEngine.may_account l.fn.engine p rs b e a)
     × OfTrace (g.E.DegreeEngine.may_account l.fn.engine) (task_of l.field l.given (g.E.DegreeEngine.kinds l.fn.engine) l.asked) l.asked.trace l._degree
     (Tells (g.T.Sink.held l.fn.err) (g.T.Sink.held l.err) (g.T.Sink.faults l.fn.err) (g.T.Sink.faults l.err) l.fn.failed l.failed)

@@ -13,26 +13,33 @@ pub returns-in_err-basis-clause-undone : goal.returns-in_err-basis-clause-undone
 returns-in_err-basis-clause-undone g c =
     let task = task_of c.args.field.now c.args.given.now (g.E.DegreeEngine.kinds c.args.engine.now) c.args.asked in
     let e = err_from_is_err_and c.from_residual.result c.from_residual.ensures.1 in
-    let Told = Tells (g.T.Sink.held c.args.err.now) (g.T.Sink.held c.print_basis.new.err) (g.T.Sink.faults c.args.err.now) (g.T.Sink.faults c.print_basis.new.err) c.args.failed.now c.print_basis.new.failed in
+    let Told = Tells (g.T.Sink.held c.args.err.now) (g.T.Sink.held c.print_basis.new.err) (g.T.Sink.faults c.args.err.now)
+    (g.T.Sink.faults c.print_basis.new.err) c.args.failed.now c.print_basis.new.failed in
     let Holds : ℕ → Type 0 = λ e. OfTrace (g.E.DegreeEngine.may_account c.args.engine.now) task c.args.asked.trace e Told in
-    if_err c.from_residual.result e.0 _ (IsUndone task _ _ _ _ _ Holds) e.1 e.2 (undone_basis task c.setting_law.ensures _ _ _ _ _ Holds _ c.in_err-basis.ensures.undone)
+    if_err c.from_residual.result e.0 _ (IsUndone task _ _ _ _ _ Holds) e.1 e.2
+    (undone_basis task c.setting_law.ensures _ _ _ _ _ Holds _ c.in_err-basis.ensures.undone)
 
 pub returns-in-Ok-clause-done : goal.returns-in-Ok-clause-done
 returns-in-Ok-clause-done g c =
     let task = task_of c.args.field.now c.args.given.now (g.E.DegreeEngine.kinds c.args.engine.now) c.args.asked in
     let basis = c.in_ok-basis.ensures.printed in
     let series = c.in-Ok.ensures.printed in
-    let whole = subst (λ (d : ℕ). IsWholeSeries c.args.field.now c.args.given.now.alphabet c.args.given.now.relations standard_limits.normal_words d series.0) c.in_ok-basis.ensures.done series.1 in
+    let whole = subst (λ (d : ℕ). IsWholeSeries c.args.field.now c.args.given.now.alphabet c.args.given.now.relations
+    standard_limits.normal_words d series.0) c.in_ok-basis.ensures.done series.1 in
     done_with_series task basis.0 basis.1 (is_shown c.args.asked.series c.if-not-asked.false) _ _ _ _ _ _ _ _ _ series.0 basis.2 whole series.2
 
 pub returns-clause-undone : goal.returns-clause-undone
 returns-clause-undone g c =
     let task = task_of c.args.field.now c.args.given.now (g.E.DegreeEngine.kinds c.args.engine.now) c.args.asked in
     let May = g.E.DegreeEngine.may_account c.args.engine.now in
-    let Told = Tells (g.T.Sink.held c.args.err.now) (g.T.Sink.held c.print_basis.new.err) (g.T.Sink.faults c.args.err.now) (g.T.Sink.faults c.print_basis.new.err) c.args.failed.now c.print_basis.new.failed in
+    let Told = Tells (g.T.Sink.held c.args.err.now) (g.T.Sink.held c.print_basis.new.err) (g.T.Sink.faults c.args.err.now)
+    (g.T.Sink.faults c.print_basis.new.err) c.args.failed.now c.print_basis.new.failed in
     let Holds : ℕ → Type 0 = λ e. OfTrace May task c.args.asked.trace e Told in
     let told = c.in_ok-basis.ensures.told in
     let basis = c.in_ok-basis.ensures.printed in
-    let undone = subst (λ (d : ℕ). IsSeriesUndone c.args.field.now c.args.given.now.alphabet c.args.given.now.relations standard_limits.normal_words d (g.K.Sink.held c.print_basis.new.out) (g.K.Sink.held c.print_series.new.out)
-    (g.K.Sink.room c.print_basis.new.out) (g.K.Sink.faults c.print_basis.new.out) (g.K.Sink.faults c.print_series.new.out) c.in-Err.fault) c.in_ok-basis.ensures.done c.in-Err.ensures.undone in
-    undone_series task basis.0 basis.1 (is_shown c.args.asked.series c.if-not-asked.false) c.setting_law.ensures _ _ _ _ _ _ _ _ Holds c.in-Err.fault told basis.2 undone
+    let undone = subst (λ (d : ℕ). IsSeriesUndone c.args.field.now c.args.given.now.alphabet c.args.given.now.relations
+    standard_limits.normal_words d (g.K.Sink.held c.print_basis.new.out) (g.K.Sink.held c.print_series.new.out)
+    (g.K.Sink.room c.print_basis.new.out) (g.K.Sink.faults c.print_basis.new.out) (g.K.Sink.faults c.print_series.new.out) c.in-Err.fault)
+    c.in_ok-basis.ensures.done c.in-Err.ensures.undone in
+    undone_series task basis.0 basis.1 (is_shown c.args.asked.series c.if-not-asked.false) c.setting_law.ensures _ _ _ _ _ _ _ _ Holds
+    c.in-Err.fault told basis.2 undone

@@ -15,7 +15,8 @@ returns-in-Err-Limit-clause-undone g c =
     let limits = g.E.DegreeEngine.kinds c.args.engine.now in
     let Q = IsQuantity c.args.field.now c.args.given.now.alphabet.weights c.args.given.now.relations basis (basis.done + 1) in
     let u = c.in-Err-Limit.ensures.limit c.in-Err-Limit.kind c.in-Err-Limit.degree c.in-Err-Limit.value (ap Err c.in-Err-Limit.field-0-is) in
-    let passes = subst (λ (ws : List ℕ). IsFirstPassing (IsQuantity c.args.field.now ws c.args.given.now.relations basis (basis.done + 1)) limits c.in-Err-Limit.kind c.in-Err-Limit.value) c.requires.weights u.1 in (
+    let passes = subst (λ (ws : List ℕ). IsFirstPassing (IsQuantity c.args.field.now ws c.args.given.now.relations basis (basis.done + 1))
+    limits c.in-Err-Limit.kind c.in-Err-Limit.value) c.requires.weights u.1 in (
       c.in-Err-Limit.degree-is ∙ u.0,
       limit_moved (IsFirstPassing Q limits) _ _ _ _ c.in-Err-Limit.kind-is c.in-Err-Limit.value-is passes,
       Appends-nil (g.K.Sink.held c.args.out.now),
@@ -25,34 +26,47 @@ returns-in-Err-Limit-clause-undone g c =
 pub returns-then-not-asked-clause-printed : goal.returns-then-not-asked-clause-printed
 returns-then-not-asked-clause-printed g c =
     let next = c.in-Ok.ensures in
-    hidden_next c.args.field.now c.args.given.now.alphabet c.args.given.now.relations (g.E.DegreeEngine.kinds c.args.engine.now) c.args.basis.now c.advance.new.basis c.requires.weights next.weights next.done next.reduced next.within
-    c.args.asked.basis _ _ _ _ _ _ (is_hidden c.args.asked.basis c.if-not-asked.true) (all_none (g.K.Sink.held c.args.out.now) (g.K.Sink.room c.args.out.now) (g.K.Sink.faults c.args.out.now))
+    hidden_next c.args.field.now c.args.given.now.alphabet c.args.given.now.relations (g.E.DegreeEngine.kinds c.args.engine.now)
+    c.args.basis.now c.advance.new.basis c.requires.weights next.weights next.done next.reduced next.within
+    c.args.asked.basis _ _ _ _ _ _ (is_hidden c.args.asked.basis c.if-not-asked.true)
+    (all_none (g.K.Sink.held c.args.out.now) (g.K.Sink.room c.args.out.now) (g.K.Sink.faults c.args.out.now))
 
 pub tell_degree-requires : goal.tell_degree-requires
 tell_degree-requires g c =
     let next = c.in-Ok.ensures in
     let basis = c.args.basis.now in
     let given = c.args.given.now in
-    let is_below : IsBelow c.args.field.now given.alphabet.weights given.relations (basis.done + 1) basis = record { kept = next.kept.0; next = refl; same_weights = c.requires.weights; reduced = c.requires.reduced } in
-    let reduced = subst (λ (ws : List ℕ). IsReducedBasis c.args.field.now ws given.relations (basis.done + 1) next.elements.0) c.requires.weights next.elements.1 in
-    record { printable = λ traces. c.requires.printable traces basis (basis.done + 1) next.elements.0 c.in-Ok.account (omega (arith, c.requires.small)) c.setting_law.ensures is_below reduced next.account }
+    let is_below : IsBelow c.args.field.now given.alphabet.weights given.relations (basis.done + 1) basis =
+    record { kept = next.kept.0; next = refl; same_weights = c.requires.weights; reduced = c.requires.reduced } in
+    let reduced = subst (λ (ws : List ℕ). IsReducedBasis c.args.field.now ws given.relations (basis.done + 1) next.elements.0)
+    c.requires.weights next.elements.1 in
+    record {
+      printable = λ traces. c.requires.printable traces basis (basis.done + 1) next.elements.0 c.in-Ok.account
+          (omega (arith, c.requires.small)) c.setting_law.ensures is_below reduced next.account;
+    }
 
 pub write_degree-requires-clause-residues : goal.write_degree-requires-clause-residues
 write_degree-requires-clause-residues g c =
     let next = c.in-Ok.ensures in
-    residues_of c.args.field.now c.args.given.now.alphabet c.args.given.now.relations (g.E.DegreeEngine.kinds c.args.engine.now) c.args.basis.now c.advance.new.basis c.requires.weights next.weights next.done next.reduced next.within
+    residues_of c.args.field.now c.args.given.now.alphabet c.args.given.now.relations (g.E.DegreeEngine.kinds c.args.engine.now)
+    c.args.basis.now c.advance.new.basis c.requires.weights next.weights next.done next.reduced next.within
     c.setting_law.ensures next.kept.1
 
 pub returns-in-Ok-write_degree-clause-printed : goal.returns-in-Ok-write_degree-clause-printed
 returns-in-Ok-write_degree-clause-printed g c =
     let next = c.in-Ok.ensures in
-    shown_next c.args.field.now c.args.given.now.alphabet c.args.given.now.relations (g.E.DegreeEngine.kinds c.args.engine.now) c.args.basis.now c.advance.new.basis c.requires.weights next.weights next.done next.reduced next.within
+    shown_next c.args.field.now c.args.given.now.alphabet c.args.given.now.relations (g.E.DegreeEngine.kinds c.args.engine.now)
+    c.args.basis.now c.advance.new.basis c.requires.weights next.weights next.done next.reduced next.within
     c.args.asked.basis _ _ _ _ _ _ (is_shown c.args.asked.basis c.if-not-asked.false) c.in-Ok-write_degree.ensures.written
 
 pub returns-clause-undone : goal.returns-clause-undone
 returns-clause-undone g c =
     let next = c.in-Ok.ensures in
-    let Told = Tells (g.T.Sink.held c.args.err.now) (g.T.Sink.held c.tell_degree.new.err) (g.T.Sink.faults c.args.err.now) (g.T.Sink.faults c.tell_degree.new.err) c.args.failed.now c.tell_degree.new.failed in
-    let told = subst (λ (d : ℕ). Told (trace_of c.args.asked.trace c.args.given.now.alphabet.names d c.in-Ok.account)) (c.done-d.ensures.value ∙ next.done) c.in_ok-tell_degree-in-Ok.ensures.told in
-    undone_shown c.args.field.now c.args.given.now.alphabet c.args.given.now.relations (g.E.DegreeEngine.kinds c.args.engine.now) c.args.basis.now c.advance.new.basis c.requires.weights next.weights next.done next.reduced next.within
-    c.args.asked.basis _ _ _ _ _ _ _ c.in-Err.fault (is_shown c.args.asked.basis c.if-not-asked.false) (c.in-Ok.account, next.account, told) c.in-Err.ensures.unwritten
+    let Told = Tells (g.T.Sink.held c.args.err.now) (g.T.Sink.held c.tell_degree.new.err) (g.T.Sink.faults c.args.err.now)
+    (g.T.Sink.faults c.tell_degree.new.err) c.args.failed.now c.tell_degree.new.failed in
+    let told = subst (λ (d : ℕ). Told (trace_of c.args.asked.trace c.args.given.now.alphabet.names d c.in-Ok.account))
+    (c.done-d.ensures.value ∙ next.done) c.in_ok-tell_degree-in-Ok.ensures.told in
+    undone_shown c.args.field.now c.args.given.now.alphabet c.args.given.now.relations (g.E.DegreeEngine.kinds c.args.engine.now)
+    c.args.basis.now c.advance.new.basis c.requires.weights next.weights next.done next.reduced next.within
+    c.args.asked.basis _ _ _ _ _ _ _ c.in-Err.fault (is_shown c.args.asked.basis c.if-not-asked.false) (c.in-Ok.account, next.account, told)
+    c.in-Err.ensures.unwritten

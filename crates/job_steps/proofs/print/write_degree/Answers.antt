@@ -14,30 +14,40 @@ returns-in_err-write_text-clause-unwritten g c =
     let place = c.of_degree-first in
     let head = head_line c.done-d.result in
     let lines = flat_map (element_line c.args.alphabet.now.names c.args.field.now) (slice_range basis.elements place.result.0 place.result.1) in
-    let whole = degree_lines c.args.alphabet.now.names c.args.field.now basis.weights c.done-d.result basis.done basis.elements place.result.0 place.result.1 c.done-d.ensures.value place.ensures.elements c.if-first-end.false
+    let whole = degree_lines c.args.alphabet.now.names c.args.field.now basis.weights c.done-d.result basis.done basis.elements
+    place.result.0 place.result.1 c.done-d.ensures.value place.ensures.elements c.if-first-end.false
     place.ensures.within.0 place.ensures.within.1 in
-    let P : List ℕ → _ = λ text. IsUnwritten (g.K.Sink.held c.args.out.now) (g.K.Sink.held c.write_text.new.out) (g.K.Sink.room c.args.out.now) (g.K.Sink.faults c.args.out.now) (g.K.Sink.faults c.write_text.new.out) text c.in_err-write_text.field-0.0 in
+    let P : List ℕ → _ = λ text. IsUnwritten (g.K.Sink.held c.args.out.now) (g.K.Sink.held c.write_text.new.out)
+    (g.K.Sink.room c.args.out.now) (g.K.Sink.faults c.args.out.now) (g.K.Sink.faults c.write_text.new.out) text
+    c.in_err-write_text.field-0.0 in
     if_err c.from_residual-in_err-write_text.result e.0 _ (IsUnwritten _ _ _ _ _ _) e.1 e.2
-    (subst P (sym whole) (unwritten_before _ _ _ _ _ head (head ++ lines) _ (beginning_front head lines) (subst P (c.as_slice.ensures.value ∙ c.in_ok-line.ensures) c.in_err-write_text.ensures.unwritten)))
+    (subst P (sym whole) (unwritten_before _ _ _ _ _ head (head ++ lines) _ (beginning_front head lines)
+    (subst P (c.as_slice.ensures.value ∙ c.in_ok-line.ensures) c.in_err-write_text.ensures.unwritten)))
 
 pub returns-in-Ok-clause-written : goal.returns-in-Ok-clause-written
 returns-in-Ok-clause-written g c =
     let basis = c.args.basis.now in
     let place = c.of_degree-first in
-    let whole = degree_lines c.args.alphabet.now.names c.args.field.now basis.weights c.done-d.result basis.done basis.elements place.result.0 place.result.1 c.done-d.ensures.value place.ensures.elements c.if-first-end.false
+    let whole = degree_lines c.args.alphabet.now.names c.args.field.now basis.weights c.done-d.result basis.done basis.elements
+    place.result.0 place.result.1 c.done-d.ensures.value place.ensures.elements c.if-first-end.false
     place.ensures.within.0 place.ensures.within.1 in
-    let head = subst (GainsAll (g.K.Sink.held c.args.out.now) (g.K.Sink.held c.write_text.new.out) (g.K.Sink.room c.args.out.now) (g.K.Sink.room c.write_text.new.out) (g.K.Sink.faults c.args.out.now) (g.K.Sink.faults c.write_text.new.out))
+    let head = subst (GainsAll (g.K.Sink.held c.args.out.now) (g.K.Sink.held c.write_text.new.out) (g.K.Sink.room c.args.out.now)
+    (g.K.Sink.room c.write_text.new.out) (g.K.Sink.faults c.args.out.now) (g.K.Sink.faults c.write_text.new.out))
     (c.as_slice.ensures.value ∙ c.in_ok-line.ensures) c.in_ok-write_text.ensures.written in
-    subst (GainsAll (g.K.Sink.held c.args.out.now) (g.K.Sink.held c.write_elements.new.out) (g.K.Sink.room c.args.out.now) (g.K.Sink.room c.write_elements.new.out) (g.K.Sink.faults c.args.out.now) (g.K.Sink.faults c.write_elements.new.out))
+    subst (GainsAll (g.K.Sink.held c.args.out.now) (g.K.Sink.held c.write_elements.new.out) (g.K.Sink.room c.args.out.now)
+    (g.K.Sink.room c.write_elements.new.out) (g.K.Sink.faults c.args.out.now) (g.K.Sink.faults c.write_elements.new.out))
     (sym whole) (all_behind _ _ _ _ _ _ _ _ _ _ _ head c.in-Ok.ensures.written)
 
 pub returns-clause-unwritten : goal.returns-clause-unwritten
 returns-clause-unwritten g c =
     let basis = c.args.basis.now in
     let place = c.of_degree-first in
-    let whole = degree_lines c.args.alphabet.now.names c.args.field.now basis.weights c.done-d.result basis.done basis.elements place.result.0 place.result.1 c.done-d.ensures.value place.ensures.elements c.if-first-end.false
+    let whole = degree_lines c.args.alphabet.now.names c.args.field.now basis.weights c.done-d.result basis.done basis.elements
+    place.result.0 place.result.1 c.done-d.ensures.value place.ensures.elements c.if-first-end.false
     place.ensures.within.0 place.ensures.within.1 in
-    let head = subst (GainsAll (g.K.Sink.held c.args.out.now) (g.K.Sink.held c.write_text.new.out) (g.K.Sink.room c.args.out.now) (g.K.Sink.room c.write_text.new.out) (g.K.Sink.faults c.args.out.now) (g.K.Sink.faults c.write_text.new.out))
+    let head = subst (GainsAll (g.K.Sink.held c.args.out.now) (g.K.Sink.held c.write_text.new.out) (g.K.Sink.room c.args.out.now)
+    (g.K.Sink.room c.write_text.new.out) (g.K.Sink.faults c.args.out.now) (g.K.Sink.faults c.write_text.new.out))
     (c.as_slice.ensures.value ∙ c.in_ok-line.ensures) c.in_ok-write_text.ensures.written in
-    subst (λ (text : List ℕ). IsUnwritten (g.K.Sink.held c.args.out.now) (g.K.Sink.held c.write_elements.new.out) (g.K.Sink.room c.args.out.now) (g.K.Sink.faults c.args.out.now) (g.K.Sink.faults c.write_elements.new.out) text c.in-Err.fault)
+    subst (λ (text : List ℕ). IsUnwritten (g.K.Sink.held c.args.out.now) (g.K.Sink.held c.write_elements.new.out)
+    (g.K.Sink.room c.args.out.now) (g.K.Sink.faults c.args.out.now) (g.K.Sink.faults c.write_elements.new.out) text c.in-Err.fault)
     (sym whole) (unwritten_behind _ _ _ _ _ _ _ _ _ _ c.in-Err.fault head c.in-Err.ensures.unwritten)

@@ -8,10 +8,14 @@ pub returns-in_err-write_element-clause-unwritten : goal.returns-in_err-write_el
 returns-in_err-write_element-clause-unwritten g c =
     let e = err_from_is_err_and c.from_residual.result c.from_residual.ensures.1 in
     if_err c.from_residual.result e.0 _ (IsUnwritten _ _ _ _ _ _) e.1 e.2
-    (unwritten_more c.args.alphabet.now.names c.args.field.now c.args.basis.now.elements _ _ _ _ _ _ _ _ c.args.first c.loop-place.place c.args.end c.element.result.now
-    (omega (arith, c.loop-place.auto.place)) c.loop-place-test.true c.requires.within c.element.ensures _ c.loop-place.invariant c.in_err-write_element.ensures.unwritten)
+    (unwritten_more c.args.alphabet.now.names c.args.field.now c.args.basis.now.elements _ _ _ _ _ _ _ _ c.args.first c.loop-place.place
+    c.args.end c.element.result.now
+    (omega (arith, c.loop-place.auto.place)) c.loop-place-test.true c.requires.within c.element.ensures _ c.loop-place.invariant
+    c.in_err-write_element.ensures.unwritten)
 
 pub loop-place-preserved : goal.loop-place-preserved
 loop-place-preserved g c =
-    written_more c.args.alphabet.now.names c.args.field.now c.args.basis.now.elements _ _ _ _ _ _ _ _ c.args.first c.loop-place.place c.args.end c.element.result.now
-    (omega (arith, c.loop-place.auto.place)) c.loop-place-test.true c.requires.within c.element.ensures _ c.loop-place.invariant c.in_ok-write_element.ensures.written
+    written_more c.args.alphabet.now.names c.args.field.now c.args.basis.now.elements _ _ _ _ _ _ _ _ c.args.first c.loop-place.place
+    c.args.end c.element.result.now
+    (omega (arith, c.loop-place.auto.place)) c.loop-place-test.true c.requires.within c.element.ensures _ c.loop-place.invariant
+    c.in_ok-write_element.ensures.written

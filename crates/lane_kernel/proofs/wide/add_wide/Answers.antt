@@ -7,10 +7,12 @@ pub wide_multiples-multiples-requires-clause-residues : goal.wide_multiples-mult
 wide_multiples-multiples-requires-clause-residues c = residue_chunk c.args.p (c.loop-block.block * 8) c.args.x.now c.requires.x_residues (omega arith)
 
 pub sums-requires-clause-first : goal.sums-requires-clause-first
-sums-requires-clause-first c = rest_chunk c.args.p c.args.a (c.loop-block.block * 8) c.args.y.now c.args.x.now c.loop-block.y c.requires.y_residues c.loop-block.invariant (omega arith)
+sums-requires-clause-first c = rest_chunk c.args.p c.args.a (c.loop-block.block * 8) c.args.y.now c.args.x.now c.loop-block.y
+    c.requires.y_residues c.loop-block.invariant (omega arith)
 
 pub loop-block-preserved : goal.loop-block-preserved
 loop-block-preserved c =
     let at = c.loop-block.block * 8 in
-    block_added c.args.p c.args.a at ((c.loop-block.block + 1) * 8) c.args.y.now c.args.x.now c.loop-block.y c.sums.result c.requires.lengths c.loop-block.invariant (omega arith) (omega arith)
+    block_added c.args.p c.args.a at ((c.loop-block.block + 1) * 8) c.args.y.now c.args.x.now c.loop-block.y c.sums.result
+    c.requires.lengths c.loop-block.invariant (omega arith) (omega arith)
     (c.sums.ensures ∙ ap (zip2 (λ r s. (r + s) % c.args.p) (chunk at 8 c.loop-block.y)) c.wide_multiples-multiples.ensures)

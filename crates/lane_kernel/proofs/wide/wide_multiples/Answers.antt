@@ -16,17 +16,21 @@ fits p xs small h = Each1-weaker (λ r. r < 2 * p) (Fits w32) (λ r lt. record {
 
 pub wide_rest-rest-requires-clause-residues : goal.wide_rest-rest-requires-clause-residues
 wide_rest-rest-requires-clause-residues c =
-    subst (λ (n : ℕ). Each1 (λ s. s < n) (map (λ (s : ℕ). s) c.args.x)) (sym c.from.ensures) (subst (Each1 (λ s. s < c.args.p)) (sym (map-id c.args.x)) c.requires.residues)
+    subst (λ (n : ℕ). Each1 (λ s. s < n) (map (λ (s : ℕ). s) c.args.x)) (sym c.from.ensures)
+    (subst (Each1 (λ s. s < c.args.p)) (sym (map-id c.args.x)) c.requires.residues)
 
 pub overflow_cast-rest : goal.overflow_cast-rest
 overflow_cast-rest c =
-    let rest = rest_is c.args.p c.args.a c.args.quotient c.from.result c.from-2.result c.args.x (map (λ (s : ℕ). s) c.args.x) c.wide_rest-rest.result (map-id c.args.x) c.from.ensures c.from-2.ensures c.wide_rest-rest.ensures in
+    let rest = rest_is c.args.p c.args.a c.args.quotient c.from.result c.from-2.result c.args.x (map (λ (s : ℕ). s) c.args.x)
+    c.wide_rest-rest.result (map-id c.args.x) c.from.ensures c.from-2.ensures c.wide_rest-rest.ensures in
     fits c.args.p c.wide_rest-rest.result c.requires.small
-    (subst (Each1 (λ r. r < 2 * c.args.p)) (sym rest) (rest_small 4294967296 c.args.p c.args.a c.args.quotient c.args.x (omega arith) c.requires.factor c.requires.quotient c.requires.residues))
+    (subst (Each1 (λ r. r < 2 * c.args.p)) (sym rest) (rest_small 4294967296 c.args.p c.args.a c.args.quotient c.args.x (omega arith)
+    c.requires.factor c.requires.quotient c.requires.residues))
 
 pub returns : goal.returns
 returns c =
-    let rest = rest_is c.args.p c.args.a c.args.quotient c.from.result c.from-2.result c.args.x (map (λ (s : ℕ). s) c.args.x) c.wide_rest-rest.result (map-id c.args.x) c.from.ensures c.from-2.ensures c.wide_rest-rest.ensures in
+    let rest = rest_is c.args.p c.args.a c.args.quotient c.from.result c.from-2.result c.args.x (map (λ (s : ℕ). s) c.args.x)
+    c.wide_rest-rest.result (map-id c.args.x) c.from.ensures c.from-2.ensures c.wide_rest-rest.ensures in
     let less : ℕ → ℕ = λ r. cond (ltb r c.args.p) r (r - c.args.p) in
     c.capped.ensures ∙ ap (map less) (map-id c.wide_rest-rest.result ∙ rest)
     ∙ remainder_lanes 4294967296 c.args.p c.args.a c.args.quotient c.args.x (omega arith) c.requires.factor c.requires.quotient c.requires.residues

@@ -17,7 +17,8 @@ add_lead-requires c = λ w e.
     let lt : n < length G = omega (arith, c.len-count.ensures) in
     let first : get_or G n [] ≡ f = get_or_default G n [] f lt ∙ sym c.element.ensures in
     let kept = subst (IsKeptElement c.args.basis.now.weights c.args.basis.now.done) first (k.each n [] lt) in
-    fresh_lead G c.requires n lt c.loop-place.index c.loop-place.invariant w (ap lead_of first ∙ e) (kept_fit c.args.basis.now.weights c.args.basis.now.done k.weights k.degrees f kept w e)
+    fresh_lead G c.requires n lt c.loop-place.index c.loop-place.invariant w (ap lead_of first ∙ e)
+    (kept_fit c.args.basis.now.weights c.args.basis.now.done k.weights k.degrees f kept w e)
 
 pub loop-place-preserved : goal.loop-place-preserved
 loop-place-preserved c =

@@ -22,7 +22,8 @@ fresh =
     record {
       some = λ e. cc e;
       small = omega arith;
-      apart = All-cons P (record { word = 0 ∷ 0 ∷ []; element = 0 }) [] (λ f. no_square f.before f.after f.joined, λ f. no_longer f.before f.after f.joined) (All-nil P);
+      apart = All-cons P (record { word = 0 ∷ 0 ∷ []; element = 0 }) []
+          (λ f. no_square f.before f.after f.joined, λ f. no_longer f.before f.after f.joined) (All-nil P);
     }
 
 pub add-requires-2 : goal.add-requires-2

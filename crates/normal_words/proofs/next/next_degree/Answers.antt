@@ -7,7 +7,8 @@ use Rattle.normal_words.proofs.Grown.{grown, grown-longer, grown-more, grown_nor
 use Rattle.normal_words.proofs.next.next_degree.Goals as goal
 
 pub push_letter-requires-clause-room : goal.push_letter-requires-clause-room
-push_letter-requires-clause-room c = words_short c.args.alphabet.now.weights c.args.index.now c.args.before.now c.len-letters.ensures.alphabet.weights c.requires.before c.requires.room
+push_letter-requires-clause-room c = words_short c.args.alphabet.now.weights c.args.index.now c.args.before.now
+    c.len-letters.ensures.alphabet.weights c.requires.before c.requires.room
 
 pub returns-in_err-push_letter-clause-many : goal.returns-in_err-push_letter-clause-many
 returns-in_err-push_letter-clause-many c = λ e.

@@ -6,7 +6,8 @@ use Rattle.normal_words.proofs.next.push_block.Goals as goal
 pub loop-tail-preserved : goal.loop-tail-preserved
 loop-tail-preserved c =
     let is = c.as_slice.ensures.value ∙ c.in_ok-spell.ensures ∙ ap (λ (u : List ℕ). c.args.letter ∷ u) c.letters.ensures in (
-      block-step c.args.index.now c.args.letter _ _ _ c.args.tails.now c.loop-tail.tail-index c.tail-item.result _ (omega arith) c.tail-item.is is c.loop-tail.invariant.0 c.in_ok-push_word.ensures.word,
+      block-step c.args.index.now c.args.letter _ _ _ c.args.tails.now c.loop-tail.tail-index c.tail-item.result _ (omega arith)
+          c.tail-item.is is c.loop-tail.invariant.0 c.in_ok-push_word.ensures.word,
       c.in_ok-push_word.ensures.within,
     )
 
@@ -14,5 +15,6 @@ pub returns-in_err-push_word-clause-many : goal.returns-in_err-push_word-clause-
 returns-in_err-push_word-clause-many c = λ e.
     let p = err_from_is_err_and c.from_residual-in_err-push_word.result c.from_residual-in_err-push_word.ensures.1 in
     let is = c.as_slice.ensures.value ∙ c.in_ok-spell.ensures ∙ ap (λ (u : List ℕ). c.args.letter ∷ u) c.letters.ensures in
-    block-longer c.args.index.now c.args.letter _ _ c.args.tails.now c.loop-tail.tail-index c.args.most c.tail-item.result _ (omega arith) c.tail-item.is is c.loop-tail.invariant.0
+    block-longer c.args.index.now c.args.letter _ _ c.args.tails.now c.loop-tail.tail-index c.args.most c.tail-item.result _ (omega arith)
+    c.tail-item.is is c.loop-tail.invariant.0
     (c.in_err-push_word.ensures.many (ap Err (sym p.2 ∙ one_fault c.from_residual-in_err-push_word.result _ _ p.1 e)))

@@ -14,7 +14,8 @@ returns-then-len-most-clause-many c = λ _.
 pub returns-in-Some-clause-word : goal.returns-in-Some-clause-word
 returns-in-Some-clause-word c =
     let words = c.args.words.now.items in
-    sym (ap (λ (us : List (List ℕ)). words ++ us) (unless-started c.args.index.now c.args.letters.now c.in-Some.field-0 c.in-Some.ensures.element) ∙ append-nil words)
+    sym (ap (λ (us : List (List ℕ)). words ++ us) (unless-started c.args.index.now c.args.letters.now c.in-Some.field-0
+    c.in-Some.ensures.element) ∙ append-nil words)
 
 pub returns-in_ok-keep-in-None-clause-word : goal.returns-in_ok-keep-in-None-clause-word
 returns-in_ok-keep-in-None-clause-word c =

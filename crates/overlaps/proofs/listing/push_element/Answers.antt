@@ -11,7 +11,8 @@ use Rattle.overlaps.proofs.Sums.{appended, blocks_upto, joined-many, joined-more
 use Rattle.overlaps.proofs.listing.push_element.Goals as goal
 
 -- the degree of one letter more
-degree_at : (weights w : List ℕ) (at before one weight : ℕ) → 1 ≤ at → at < length w → before ≡ degree_of weights (take (at - 1) w) → one ≡ weight → weight ≡ weight_of weights (get_or w (at - 1) 0)
+degree_at : (weights w : List ℕ) (at before one weight : ℕ) → 1 ≤ at → at < length w → before ≡ degree_of weights (take (at - 1) w) →
+    one ≡ weight → weight ≡ weight_of weights (get_or w (at - 1) 0)
     → before + one ≡ degree_of weights (take at w)
 degree_at weights w at before one weight from under so_far is value =
     let next : (at - 1) + 1 ≡ at = omega (arith, from) in
@@ -39,11 +40,13 @@ returns-in_err-push_block-clause-many c = λ e.
     c.in_err-push_block.ensures.many (ap Err (sym p.2 ∙ one_fault c.from_residual.result _ _ p.1 e)) in
     let value = c.weight.ensures.value ∙ ap (λ (v : List ℕ). weight_of b.weights (get_or v (at - 1) 0)) c.lead_at-lead.ensures.lead in
     let degree : c.loop-before.degree + c.from-degree.result ≡ degree_of b.weights (take at w) =
-    degree_at b.weights w at _ _ _ c.loop-before.auto.before (omega (arith, c.loop-before-test.true, ap length c.lead_at-lead.ensures.lead)) c.loop-before.invariant.degree c.from-degree.ensures value in
+    degree_at b.weights w at _ _ _ c.loop-before.auto.before (omega (arith, c.loop-before-test.true, ap length c.lead_at-lead.ensures.lead))
+    c.loop-before.invariant.degree c.from-degree.ensures value in
     let rest = c.saturating_sub-rest.ensures ∙ ap (λ (n : ℕ). c.args.d - n) degree in
     let os = blocks_upto b.weights b.elements c.args.d c.args.left (at - 1) in
     let size = ap length c.loop-before.invariant.so_far ∙ length-append c.args.found.now.items (map obstruction_of os) in
-    let all = joined-many (λ k. block b.weights b.elements c.args.left k (c.args.d - degree_of b.weights (take k w))) 1 (at - 1) (length w - 1) (c.args.most - length c.args.found.now.items) (length os) at
+    let all = joined-many (λ k. block b.weights b.elements c.args.left k (c.args.d - degree_of b.weights (take k w))) 1 (at - 1)
+    (length w - 1) (c.args.most - length c.args.found.now.items) (length os) at
     (omega (arith, c.loop-before.auto.before, c.loop-before-test.true, ap length c.lead_at-lead.ensures.lead)) (omega (arith, c.loop-before.auto.before)) refl
     (omega (arith, more, size, length-map os obstruction_of, ap (λ (n : ℕ). length (block b.weights b.elements c.args.left at n)) rest)) in
     omega (arith, all, c.requires.few)
@@ -55,15 +58,19 @@ loop-before-preserved c =
     let at = c.loop-before.before in
     let value = c.weight.ensures.value ∙ ap (λ (v : List ℕ). weight_of b.weights (get_or v (at - 1) 0)) c.lead_at-lead.ensures.lead in
     let degree : c.loop-before.degree + c.from-degree.result ≡ degree_of b.weights (take at w) =
-    degree_at b.weights w at _ _ _ c.loop-before.auto.before (omega (arith, c.loop-before-test.true, ap length c.lead_at-lead.ensures.lead)) c.loop-before.invariant.degree c.from-degree.ensures value in
+    degree_at b.weights w at _ _ _ c.loop-before.auto.before (omega (arith, c.loop-before-test.true, ap length c.lead_at-lead.ensures.lead))
+    c.loop-before.invariant.degree c.from-degree.ensures value in
     let rest = c.saturating_sub-rest.ensures ∙ ap (λ (n : ℕ). c.args.d - n) degree in
     let next : at + 1 - 1 ≡ at = omega arith in
     let from : (at - 1) + 1 ≡ at = omega (arith, c.loop-before.auto.before) in
     let to : 1 + (at - 1) ≡ at = omega (arith, c.loop-before.auto.before) in
     let f : ℕ → List Overlap = λ k. block b.weights b.elements c.args.left k (c.args.d - degree_of b.weights (take k w)) in
-    let grown : blocks_upto b.weights b.elements c.args.d c.args.left (at + 1 - 1) ≡ blocks_upto b.weights b.elements c.args.d c.args.left (at - 1) ++ block b.weights b.elements c.args.left at c.saturating_sub-rest.result =
+    let grown : blocks_upto b.weights b.elements c.args.d c.args.left (at + 1 - 1)
+    ≡ blocks_upto b.weights b.elements c.args.d c.args.left (at - 1)
+    ++ block b.weights b.elements c.args.left at c.saturating_sub-rest.result =
     ap (blocks_upto b.weights b.elements c.args.d c.args.left) (next ∙ sym from) ∙ joined-more f 1 (at - 1)
-    ∙ ap (λ (os : List Overlap). blocks_upto b.weights b.elements c.args.d c.args.left (at - 1) ++ os) (ap f to ∙ ap (block b.weights b.elements c.args.left at) (sym rest)) in
+    ∙ ap (λ (os : List Overlap). blocks_upto b.weights b.elements c.args.d c.args.left (at - 1) ++ os)
+    (ap f to ∙ ap (block b.weights b.elements c.args.left at) (sym rest)) in
     record {
       degree = degree ∙ ap (λ (k : ℕ). degree_of b.weights (take k w)) (sym next);
       so_far = appended c.args.found.now.items _ _ _ _ _ c.loop-before.invariant.so_far c.in_ok-push_block.ensures.block grown;

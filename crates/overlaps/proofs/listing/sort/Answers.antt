@@ -9,4 +9,5 @@ use Rattle.overlaps.proofs.listing.sort.Goals as goal
 
 pub returns-clause-sorted : goal.returns-clause-sorted
 returns-clause-sorted c =
-    c.sort_unstable_by.ensures.sorted (λ x y. is_lt (found_cmp x y)) (ranks_by found_total (λ (x : Obstruction). x)) (answers_always _ _ _ (λ f a r g h. search rules))
+    c.sort_unstable_by.ensures.sorted (λ x y. is_lt (found_cmp x y)) (ranks_by found_total (λ (x : Obstruction). x))
+    (answers_always _ _ _ (λ f a r g h. search rules))

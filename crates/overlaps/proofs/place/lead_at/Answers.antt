@@ -9,5 +9,6 @@ pub returns-in-Some-clause-small : goal.returns-in-Some-clause-small
 returns-in-Some-clause-small c =
     let b = c.args.basis.now in
     let is : c.letters.result.now ≡ lead_word b.elements c.args.place =
-    c.letters.ensures ∙ sym (lead-is c.element.result.now _ (sym c.in-Some.ensures)) ∙ ap lead_or_none (c.element.ensures ∙ get_or_default b.elements c.args.place _ [] c.requires) in
+    c.letters.ensures ∙ sym (lead-is c.element.result.now _ (sym c.in-Some.ensures))
+    ∙ ap lead_or_none (c.element.ensures ∙ get_or_default b.elements c.args.place _ [] c.requires) in
     omega (arith, ap length is, lead_word-small b c.done-done.ensures.kept c.args.place c.requires)

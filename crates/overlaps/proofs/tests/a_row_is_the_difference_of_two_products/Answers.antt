@@ -10,4 +10,5 @@ pub row-requires-clause-obstruction : goal.row-requires-clause-obstruction
 row-requires-clause-obstruction g c =
     let b = c.push_element.new.basis in
     let within : 0 < length c.in_ok-found.found.items = search rules in
-    subst (IsOf b.weights b.elements) (sym c.index.ensures) (each_is b.weights b.elements 3 c.in_ok-found.found.items c.in_ok-found.ensures.listed 0 c.index.result.now within)
+    subst (IsOf b.weights b.elements) (sym c.index.ensures) (each_is b.weights b.elements 3 c.in_ok-found.found.items
+    c.in_ok-found.ensures.listed 0 c.index.result.now within)

@@ -15,12 +15,16 @@ loop-term-preserved c =
     let here : t ≡ get_or ts i t = c.term-item.is in
     let letters : IsOver (length n) t.word = search rules in
     let degree : degree_of n t.word ≡ c.args.d = search rules in (
-      All-more (λ (x : Term). IsOver (length n) x.word) ts i t c.loop-term-test.true c.loop-term.invariant.0 (subst (λ (x : Term). IsOver (length n) x.word) here letters),
-      All-more (λ (x : Term). degree_of n x.word ≡ c.args.d) ts i t c.loop-term-test.true c.loop-term.invariant.1 (subst (λ (x : Term). degree_of n x.word ≡ c.args.d) here degree),
+      All-more (λ (x : Term). IsOver (length n) x.word) ts i t c.loop-term-test.true c.loop-term.invariant.0
+          (subst (λ (x : Term). IsOver (length n) x.word) here letters),
+      All-more (λ (x : Term). degree_of n x.word ≡ c.args.d) ts i t c.loop-term-test.true c.loop-term.invariant.1
+          (subst (λ (x : Term). degree_of n x.word ≡ c.args.d) here degree),
     )
 
 pub returns-clause-letters : goal.returns-clause-letters
-returns-clause-letters c = λ _. subst (UsesLetters (length c.args.alphabet.now.weights)) (take_all c.loop-term.term-index c.terms-terms.result.now c.loop-term-test.false ∙ c.terms-terms.ensures.value) c.loop-term.invariant.0
+returns-clause-letters c = λ _. subst (UsesLetters (length c.args.alphabet.now.weights))
+    (take_all c.loop-term.term-index c.terms-terms.result.now c.loop-term-test.false ∙ c.terms-terms.ensures.value) c.loop-term.invariant.0
 
 pub returns-clause-degree : goal.returns-clause-degree
-returns-clause-degree c = λ _. subst (HasDegree c.args.alphabet.now.weights c.args.d) (take_all c.loop-term.term-index c.terms-terms.result.now c.loop-term-test.false ∙ c.terms-terms.ensures.value) c.loop-term.invariant.1
+returns-clause-degree c = λ _. subst (HasDegree c.args.alphabet.now.weights c.args.d)
+    (take_all c.loop-term.term-index c.terms-terms.result.now c.loop-term-test.false ∙ c.terms-terms.ensures.value) c.loop-term.invariant.1

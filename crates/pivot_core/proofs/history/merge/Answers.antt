@@ -19,4 +19,5 @@ returns c =
     let logs = map (λ log. log.items) c.args.logs.now in
     sorted_calls-from_sort _ _ (c.in_ok-sort_by_key.ensures.sorted rank (answers_always _ _ _ (λ f a r g h. search rules)))
     (c.sort_by_key.ensures.stable rank (answers_always _ _ _ (λ f a r g h. search rules)))
-    ∙ ap sorted_calls (c.loop-log.invariant ∙ ap joined_calls (take_all c.loop-log.log-index logs (omega (arith, length-map c.args.logs.now (λ log. log.items)))))
+    ∙ ap sorted_calls (c.loop-log.invariant ∙ ap joined_calls (take_all c.loop-log.log-index logs
+    (omega (arith, length-map c.args.logs.now (λ log. log.items)))))

@@ -17,4 +17,5 @@ pub returns : goal.returns
 returns c =
     let p : ℕ = c.args.field.now in
     let row : List ℕ = c.args.row.now in
-    c.axpy_lanes.ensures.sums ∙ ap (λ (y : List ℕ). plus_multiple p c.args.a y row) (c.clear.ensures ∙ ap zeros c.requires.length) ∙ plus_multiple-zeros p c.args.a row
+    c.axpy_lanes.ensures.sums ∙ ap (λ (y : List ℕ). plus_multiple p c.args.a y row) (c.clear.ensures ∙ ap zeros c.requires.length)
+    ∙ plus_multiple-zeros p c.args.a row

@@ -16,8 +16,12 @@ loop-seat-preserved c =
     let views : List View = c.loop-seat.views.items in
     let v : View = c.in_ok-fresh.field-0 in
     let pushed = c.in_ok-push.ensures.items in
-    let more : map (fresh m) (range_with_len 0 (seat + 1)) ≡ map (fresh m) (range_with_len 0 seat) ++ fresh m seat ∷ [] = map-range_with_len_more (fresh m) 0 seat seat (omega arith) in
+    let more : map (fresh m) (range_with_len 0 (seat + 1)) ≡ map (fresh m) (range_with_len 0 seat) ++ fresh m seat ∷ [] =
+    map-range_with_len_more (fresh m) 0 seat seat (omega arith) in
     record {
-      views = ap (map sight_of) pushed ∙ map-append sight_of views (v ∷ []) ∙ ap₂ (λ (xs : List Sight) (x : Sight). xs ++ x ∷ []) c.loop-seat.invariant.views c.in_ok-fresh.ensures.view ∙ sym more;
-      room = subst (All (λ (z : View). min c.args.problem.now.n m ≤ vec_capacity z.calls)) (sym {A = List View} pushed) (All-push (λ (z : View). min c.args.problem.now.n m ≤ vec_capacity z.calls) views v c.loop-seat.invariant.room c.in_ok-fresh.ensures.room);
+      views = ap (map sight_of) pushed ∙ map-append sight_of views (v ∷ [])
+          ∙ ap₂ (λ (xs : List Sight) (x : Sight). xs ++ x ∷ []) c.loop-seat.invariant.views c.in_ok-fresh.ensures.view ∙ sym more;
+      room = subst (All (λ (z : View). min c.args.problem.now.n m ≤ vec_capacity z.calls)) (sym {A = List View} pushed)
+          (All-push (λ (z : View). min c.args.problem.now.n m ≤ vec_capacity z.calls) views v c.loop-seat.invariant.room
+          c.in_ok-fresh.ensures.room);
     }

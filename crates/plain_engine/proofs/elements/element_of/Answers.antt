@@ -15,13 +15,15 @@ pub from_terms-requires-clause-residues : goal.from_terms-requires-clause-residu
 from_terms-requires-clause-residues c =
     let r = c.requires in
     let pos : 0 < c.args.field.now = omega (arith, c.modulus-modulus.ensures.field.two_or_more) in
-    subst (HasResidues c.args.field.now) (sym c.in_ok-terms.ensures) (element_on-residues c.args.columns.now c.args.row.now r.falling r.size c.args.field.now pos r.residues)
+    subst (HasResidues c.args.field.now) (sym c.in_ok-terms.ensures)
+    (element_on-residues c.args.columns.now c.args.row.now r.falling r.size c.args.field.now pos r.residues)
 
 pub from_terms-requires-clause-letters : goal.from_terms-requires-clause-letters
 from_terms-requires-clause-letters c =
     let r = c.requires in
     let names = length c.args.alphabet.now.weights in
-    subst (UsesLetters names) (sym c.in_ok-terms.ensures) (element_on-all c.args.columns.now c.args.row.now r.falling r.size (λ t. IsOver names t.word) (λ x m. All-contains (IsOver names) c.args.columns.now x r.letters m))
+    subst (UsesLetters names) (sym c.in_ok-terms.ensures) (element_on-all c.args.columns.now c.args.row.now r.falling r.size
+    (λ t. IsOver names t.word) (λ x m. All-contains (IsOver names) c.args.columns.now x r.letters m))
 
 pub from_terms-requires-clause-degrees : goal.from_terms-requires-clause-degrees
 from_terms-requires-clause-degrees c =
@@ -40,7 +42,9 @@ unreachable-requires c =
     let items = c.in_ok-terms.terms.items in
     let r = c.requires in
     let two = c.in-Err-MixedDegrees.ensures.mixed c.in-Err-MixedDegrees.field-0-0 c.in-Err-MixedDegrees.field-0-1 (ap Err c.in-Err-MixedDegrees.field-0-is) in
-    let listed : All (λ (t : Term). Contains columns t.word) items = subst (All (λ (t : Term). Contains columns t.word)) (sym c.in_ok-terms.ensures) (element_on-all columns c.args.row.now r.falling r.size (λ t. Contains columns t.word) (λ x m. m)) in
+    let listed : All (λ (t : Term). Contains columns t.word) items =
+    subst (All (λ (t : Term). Contains columns t.word)) (sym c.in_ok-terms.ensures)
+    (element_on-all columns c.args.row.now r.falling r.size (λ t. Contains columns t.word) (λ x m. m)) in
     let first = word_from_total (Contains columns) items two.greatest (λ e. two.greatest_stands (ap (λ (n : ℕ). n % p) e ∙ zero-mod p)) listed in
     let other = word_from_total (Contains columns) items two.next (λ e. two.next_stands (ap (λ (n : ℕ). n % p) e ∙ zero-mod p)) listed in
     omega (arith, one_degree (degree_of weights) columns r.one_degree two.greatest two.next first other, two.first_is, two.other_is, two.below)
@@ -52,5 +56,6 @@ returns-in-Ok c =
     let row = c.args.row.now in
     let r = c.requires in
     let pos : 0 < p = omega (arith, c.modulus-modulus.ensures.field.two_or_more) in
-    same_polynomials p c.in-Ok.poly (element_on columns row) c.in-Ok.ensures.form (element_on-polynomial columns row r.falling r.size) c.in-Ok.ensures.residues (element_on-residues columns row r.falling r.size p pos r.residues)
+    same_polynomials p c.in-Ok.poly (element_on columns row) c.in-Ok.ensures.form (element_on-polynomial columns row r.falling r.size)
+    c.in-Ok.ensures.residues (element_on-residues columns row r.falling r.size p pos r.residues)
     (subst (IsSame p c.in-Ok.poly) c.in_ok-terms.ensures c.in-Ok.ensures.sum)

@@ -10,7 +10,8 @@ loop-place-preserved c =
     let word = c.args.word.now in
     let element = c.element.result.now in
     let within : c.loop-place.place < length c.args.below.now.elements = omega (arith, c.loop-place-test.true, c.len-place-end.ensures) in
-    normal_more c.args.below.now.elements c.loop-place.place element word within c.element.ensures c.loop-place.invariant (λ v k lead o. elim c.match-lead.branch [
+    normal_more c.args.below.now.elements c.loop-place.place element word within c.element.ensures c.loop-place.invariant
+    (λ v k lead o. elim c.match-lead.branch [
       | in-Some+else-is_factor w ↦
           (let is : w.in-Some.lead.now ≡ v = some_same w.in-Some.lead.now v (w.in-Some.ensures ∙ lead) in
           let wrong : false ≡ true = w.if-is_factor.ensures.1 (k, subst (λ (u : List ℕ). OccursAt u word k) (sym (w.letters.ensures ∙ is)) o) in cc)

@@ -11,8 +11,10 @@ use Rattle.plain_engine.proofs.elements.terms_of.Goals.{then-coefficient-ne0+in_
 some_term : (w : List ℕ) (a : ℕ) → a ≢ 0 → term_at w a ≡ record { word = w; coefficient = a } ∷ []
 some_term w a ne = ap (λ (b : Bool). cond b [] (record { word = w; coefficient = a } ∷ [])) (false_from_ne_true (a == 0) (λ e. ne (eqb-true a 0 e)))
 
-pushed : (terms next : List Term) (word own : List ℕ) (a : ℕ) → a ≢ 0 → next ≡ terms ++ record { word = word; coefficient = a } ∷ [] → word ≡ own → next ≡ terms ++ term_at own a
-pushed terms next word own a ne e is = e ∙ ap (λ (w : List ℕ). terms ++ record { word = w; coefficient = a } ∷ []) is ∙ ap (λ (f : List Term). terms ++ f) (sym (some_term own a ne))
+pushed : (terms next : List Term) (word own : List ℕ) (a : ℕ) → a ≢ 0 → next ≡ terms ++ record { word = word; coefficient = a } ∷ [] →
+    word ≡ own → next ≡ terms ++ term_at own a
+pushed terms next word own a ne e is = e ∙ ap (λ (w : List ℕ). terms ++ record { word = w; coefficient = a } ∷ []) is
+    ∙ ap (λ (f : List Term). terms ++ f) (sym (some_term own a ne))
 
 pub loop-at-preserved : goal.loop-at-preserved
 loop-at-preserved c =
@@ -26,7 +28,9 @@ loop-at-preserved c =
     let more = terms_more columns row k terms c.requires within ∙ c.loop-at.invariant in
     elim c.if-coefficient-ne0.branch [
       | then-coefficient-ne0+in_ok-word+in_ok-push w ↦
-          ap (λ (f : List Term). f ++ rest) (ap items w.terms-is ∙ pushed terms w.push.new.self.items w.in_ok-word.word (get_or columns k []) (get_or row k 0) w.if-coefficient-ne0.true w.in_ok-push.ensures.items
+          ap (λ (f : List Term). f ++ rest) (ap items w.terms-is ∙ pushed terms w.push.new.self.items w.in_ok-word.word
+          (get_or columns k []) (get_or row k 0) w.if-coefficient-ne0.true w.in_ok-push.ensures.items
           (w.in_ok-word.ensures ∙ row_read columns k w.index-columns-at.result (omega (arith, within, c.requires)) w.index-columns-at.is)) ∙ more
-      | else-coefficient-ne0 w ↦ ap (λ (f : List Term). f ++ rest) (ap items w.terms-is ∙ sym (append-nil terms) ∙ ap (λ (f : List Term). terms ++ f) (sym (ap (term_at (get_or columns k [])) w.if-coefficient-ne0.false))) ∙ more
+      | else-coefficient-ne0 w ↦ ap (λ (f : List Term). f ++ rest) (ap items w.terms-is ∙ sym (append-nil terms)
+          ∙ ap (λ (f : List Term). terms ++ f) (sym (ap (term_at (get_or columns k [])) w.if-coefficient-ne0.false))) ∙ more
     ]

@@ -23,10 +23,14 @@ loop-before-preserved c =
     let n = c.lead_degree_within-degree.result in
     let new = c.insert_rounds.new.table in
     let degree : n ≡ e = omega (arith, c.lead_degree_within-degree.ensures, c.loop-before-test.true) in
-    let columns : c.as_slice-columns.result.now ≡ list_at lists d = c.as_slice-columns.ensures ∙ get_or_read lists d c.index-lists-d.result (omega (arith, c.requires.lists)) c.index-lists-d.is [] in
-    let lefts : c.as_slice-lefts.result.now ≡ list_at lists k = c.as_slice-lefts.ensures ∙ get_or_read lists k c.index-lists-before.result (omega (arith, c.requires.lists, c.loop-before-test.true)) c.index-lists-before.is [] in
+    let columns : c.as_slice-columns.result.now ≡ list_at lists d = c.as_slice-columns.ensures
+    ∙ get_or_read lists d c.index-lists-d.result (omega (arith, c.requires.lists)) c.index-lists-d.is [] in
+    let lefts : c.as_slice-lefts.result.now ≡ list_at lists k = c.as_slice-lefts.ensures
+    ∙ get_or_read lists k c.index-lists-before.result (omega (arith, c.requires.lists, c.loop-before-test.true)) c.index-lists-before.is
+    [] in
     let rights : c.as_slice-rights.result.now ≡ list_at lists (d - e - k) =
-    c.as_slice-rights.ensures ∙ get_or_read lists (d - n - k) c.index-lists-d-in-loop-before.result (omega (arith, c.requires.lists)) c.index-lists-d-in-loop-before.is [] ∙ ap (λ (m : ℕ). list_at lists (d - m - k)) degree in
+    c.as_slice-rights.ensures ∙ get_or_read lists (d - n - k) c.index-lists-d-in-loop-before.result (omega (arith, c.requires.lists))
+    c.index-lists-d-in-loop-before.is [] ∙ ap (λ (m : ℕ). list_at lists (d - m - k)) degree in
     let f : ℕ → List (List ℕ) = λ m. round_rows (list_at lists d) (list_at lists m) relation (list_at lists (d - e - m)) in
     let given = round_rows c.as_slice-columns.result.now c.as_slice-lefts.result.now relation c.as_slice-rights.result.now in
     let front = flat_map f (range_with_len 0 k) in

@@ -9,5 +9,6 @@ use Rattle.plain_engine.proofs.products.insert_relation.Given as goal
 abbrev pub invariant-loop-before : goal.invariant-loop-before
 invariant-loop-before l = record {
   table : IsTable l.field (length (list_at l.lists l.d)) l.table;
-  built : IsBuilt l.field l.fn.table (flat_map (λ k. round_rows (list_at l.lists l.d) (list_at l.lists k) l.relation (list_at l.lists (l.d - lead_degree l.alphabet.weights l.relation - k))) (range_with_len 0 l.before)) l.table;
+  built : IsBuilt l.field l.fn.table (flat_map (λ k. round_rows (list_at l.lists l.d) (list_at l.lists k) l.relation
+      (list_at l.lists (l.d - lead_degree l.alphabet.weights l.relation - k))) (range_with_len 0 l.before)) l.table;
 }

@@ -16,9 +16,12 @@ loop-left-preserved c =
     let i = c.loop-left.left-index in
     let f = λ (u : List ℕ). right_rows c.args.columns.now u c.args.relation.now c.args.rights.now in
     let front = flat_map f (take i lefts) in
-    let more : flat_map f (take (i + 1) lefts) ≡ front ++ f c.letters.result.now = flat_map-take f lefts i c.left-item.result c.loop-left-test.true c.left-item.is ∙ ap (λ (u : List ℕ). front ++ f u) (sym c.letters.ensures) in
+    let more : flat_map f (take (i + 1) lefts) ≡ front ++ f c.letters.result.now =
+    flat_map-take f lefts i c.left-item.result c.loop-left-test.true c.left-item.is
+    ∙ ap (λ (u : List ℕ). front ++ f u) (sym c.letters.ensures) in
     record {
       table = c.in_ok-insert_rights.ensures.table;
       built = subst (λ (rs : List (List ℕ)). IsBuilt p c.args.table.now rs c.insert_rights.new.table) (sym more)
-          (IsBuilt-append p c.args.table.now c.loop-left.table c.insert_rights.new.table front (f c.letters.result.now) c.loop-left.invariant.built c.in_ok-insert_rights.ensures.built);
+          (IsBuilt-append p c.args.table.now c.loop-left.table c.insert_rights.new.table front (f c.letters.result.now)
+          c.loop-left.invariant.built c.in_ok-insert_rights.ensures.built);
     }

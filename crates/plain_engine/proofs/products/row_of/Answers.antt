@@ -11,4 +11,6 @@ returns-clause-residues c =
     let poly = c.args.poly.now in
     let words = take c.loop-word.word-index c.args.columns.now in
     subst (All (λ r. r < p)) (sym c.loop-word.invariant)
-    (All-map (λ r. r < p) (λ w. total_at poly w) words (λ k d within. total_residue p (omega (arith, c.modulus-modulus.ensures.field.two_or_more)) poly (AreApart-from_polynomial poly c.terms-terms.ensures.form) c.requires (get_or words k d)))
+    (All-map (λ r. r < p) (λ w. total_at poly w) words (λ k d within. total_residue p
+    (omega (arith, c.modulus-modulus.ensures.field.two_or_more)) poly (AreApart-from_polynomial poly c.terms-terms.ensures.form)
+    c.requires (get_or words k d)))

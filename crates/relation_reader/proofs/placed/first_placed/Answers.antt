@@ -29,8 +29,10 @@ returns-then-is_some c =
     let t = get_or tokens at unread in
     let ts = drop (at + 1) tokens in
     let here = c.fault_at-found.ensures known.before (pieces_of text ts stop) known.passed (sym (c.is_caret_at.ensures text stop)) in
-    let finds : Finds text tokens stop at walk.place t known.before c.fault_at-found.result = record { below = c.loop-at-test.true; is = get_or_default tokens at unread t c.loop-at-test.true; here = here } in
-    found-first text tokens stop at walk.place (map (λ name. name.items) walk.names.items) walk.begun walk.letters t c.fault_at-found.result known finds (sym c.is_some.ensures ∙ c.if-is_some.true)
+    let finds : Finds text tokens stop at walk.place t known.before c.fault_at-found.result =
+    record { below = c.loop-at-test.true; is = get_or_default tokens at unread t c.loop-at-test.true; here = here } in
+    found-first text tokens stop at walk.place (map (λ name. name.items) walk.names.items) walk.begun walk.letters t c.fault_at-found.result
+    known finds (sym c.is_some.ensures ∙ c.if-is_some.true)
 
 pub passed-requires-clause-comes : goal.passed-requires-clause-comes
 passed-requires-clause-comes c =
@@ -43,7 +45,8 @@ passed-requires-clause-comes c =
     let t = get_or tokens at unread in
     let ts = drop (at + 1) tokens in
     let here = c.fault_at-found.ensures known.before (pieces_of text ts stop) known.passed (sym (c.is_caret_at.ensures text stop)) in
-    none-comes known.before (placed_in text walk.place t) (behind text stop walk.place t ts) c.fault_at-found.result here (sym c.is_some.ensures ∙ c.if-is_some.false)
+    none-comes known.before (placed_in text walk.place t) (behind text stop walk.place t ts) c.fault_at-found.result here
+    (sym c.is_some.ensures ∙ c.if-is_some.false)
 
 pub passed-requires-clause-few : goal.passed-requires-clause-few
 passed-requires-clause-few c =
@@ -68,7 +71,8 @@ passed-requires-clause-small c =
     let t = get_or tokens at unread in
     let ts = drop (at + 1) tokens in
     let here = c.fault_at-found.ensures known.before (pieces_of text ts stop) known.passed (sym (c.is_caret_at.ensures text stop)) in
-    none-small known.before (placed_in text walk.place t) (behind text stop walk.place t ts) c.fault_at-found.result here (sym c.is_some.ensures ∙ c.if-is_some.false)
+    none-small known.before (placed_in text walk.place t) (behind text stop walk.place t ts) c.fault_at-found.result here
+    (sym c.is_some.ensures ∙ c.if-is_some.false)
 
 pub loop-at-preserved : goal.loop-at-preserved
 loop-at-preserved c =
@@ -81,8 +85,10 @@ loop-at-preserved c =
     let t = get_or tokens at unread in
     let ts = drop (at + 1) tokens in
     let here = c.fault_at-found.ensures known.before (pieces_of text ts stop) known.passed (sym (c.is_caret_at.ensures text stop)) in
-    let finds : Finds text tokens stop at walk.place t known.before c.fault_at-found.result = record { below = c.loop-at-test.true; is = get_or_default tokens at unread t c.loop-at-test.true; here = here } in
+    let finds : Finds text tokens stop at walk.place t known.before c.fault_at-found.result =
+    record { below = c.loop-at-test.true; is = get_or_default tokens at unread t c.loop-at-test.true; here = here } in
     let next = c.in_ok-walk.walk in
     let gives = c.in_ok-walk.ensures in
-    Walks-next text tokens stop at walk.place (map (λ name. name.items) walk.names.items) walk.begun walk.letters t c.fault_at-found.result known finds (sym c.is_some.ensures ∙ c.if-is_some.false)
+    Walks-next text tokens stop at walk.place (map (λ name. name.items) walk.names.items) walk.begun walk.letters t c.fault_at-found.result
+    known finds (sym c.is_some.ensures ∙ c.if-is_some.false)
     next.place (map (λ name. name.items) next.names.items) next.begun next.letters gives.place (gives.passed known.before known.passed) gives.few gives.short

@@ -27,7 +27,8 @@ alphabet_of-alphabet-requires c =
 pub relations_of-requires-clause-inside : goal.relations_of-requires-clause-inside
 relations_of-requires-clause-inside c =
     let end = c.in_ok-names.field-0.end in
-    subst (All (IsInside c.args.text.now)) (sym (slice-is c.args.tokens.now end)) (All-drop (IsInside c.args.text.now) end c.args.tokens.now (tokens-inside c.args.text.now c.args.tokens.now c.requires.splits))
+    subst (All (IsInside c.args.text.now)) (sym (slice-is c.args.tokens.now end))
+    (All-drop (IsInside c.args.text.now) end c.args.tokens.now (tokens-inside c.args.text.now c.args.tokens.now c.requires.splits))
 
 pub elements_of-requires-clause-few : goal.elements_of-requires-clause-few
 elements_of-requires-clause-few c =
@@ -35,7 +36,8 @@ elements_of-requires-clause-few c =
     let a = c.alphabet_of-alphabet in
     let sums = c.in_ok-relations.relations.items in
     let few = sums-few c.args.text.now c.args.tokens.now c.requires.no_fault (map bytes_of d.names.items) d.weights.items d.end c.in_ok-names.ensures.letters
-    c.args.field.now c.requires.modulus c.requires.splits c.requires.small a.result a.ensures.names a.ensures.weights (map terms_of sums) c.in_ok-relations.ensures in
+    c.args.field.now c.requires.modulus c.requires.splits c.requires.small a.result a.ensures.names a.ensures.weights (map terms_of sums)
+    c.in_ok-relations.ensures in
     omega (arith, few, length-map sums terms_of)
 
 pub elements_of-requires-clause-terms : goal.elements_of-requires-clause-terms
@@ -45,7 +47,8 @@ elements_of-requires-clause-terms c =
     let sums = c.in_ok-relations.relations.items in
     All-from_map (AreSummable c.args.field.now a.result.weights) terms_of sums
     (sums-summable c.args.text.now c.args.tokens.now c.requires.no_fault (map bytes_of d.names.items) d.weights.items d.end c.in_ok-names.ensures.letters
-    c.args.field.now c.requires.modulus c.requires.splits c.requires.small a.result a.ensures.names a.ensures.weights (map terms_of sums) c.in_ok-relations.ensures)
+    c.args.field.now c.requires.modulus c.requires.splits c.requires.small a.result a.ensures.names a.ensures.weights (map terms_of sums)
+    c.in_ok-relations.ensures)
 
 pub invariant_of-result : goal.invariant_of-result
 invariant_of-result c =
@@ -66,16 +69,19 @@ returns-in-Ok-clause-reads c =
     let a = c.alphabet_of-alphabet in
     subst (Reads c.args.text.now c.args.field.now a.result) (sym c.from_vec.ensures)
     (reads c.args.text.now c.args.tokens.now c.requires.no_fault (map bytes_of d.names.items) d.weights.items d.end c.in_ok-names.ensures.letters
-    c.args.field.now c.requires.modulus c.requires.splits c.requires.small a.result a.ensures.names a.ensures.weights (map terms_of c.in_ok-relations.relations.items) c.in_ok-relations.ensures
+    c.args.field.now c.requires.modulus c.requires.splits c.requires.small a.result a.ensures.names a.ensures.weights
+    (map terms_of c.in_ok-relations.relations.items) c.in_ok-relations.ensures
     c.in-Ok.elements.items c.in-Ok.ensures.elements)
 
 pub returns-in-Ok-clause-residues : goal.returns-in-Ok-clause-residues
-returns-in-Ok-clause-residues c = subst (All (HasResidues c.args.field.now)) (sym c.from_vec.ensures) (λ k d within. (c.in-Ok.ensures.fitting k d within).residues)
+returns-in-Ok-clause-residues c = subst (All (HasResidues c.args.field.now)) (sym c.from_vec.ensures)
+    (λ k d within. (c.in-Ok.ensures.fitting k d within).residues)
 
 pub returns-in-Err-clause-reads : goal.returns-in-Err-clause-reads
 returns-in-Err-clause-reads c =
     let d = c.in_ok-names.field-0 in
     let a = c.alphabet_of-alphabet in
     refuses c.args.text.now c.args.tokens.now c.requires.no_fault (map bytes_of d.names.items) d.weights.items d.end c.in_ok-names.ensures.letters
-    c.args.field.now c.requires.modulus c.requires.splits c.requires.small a.result a.ensures.names a.ensures.weights (map terms_of c.in_ok-relations.relations.items) c.in_ok-relations.ensures
+    c.args.field.now c.requires.modulus c.requires.splits c.requires.small a.result a.ensures.names a.ensures.weights
+    (map terms_of c.in_ok-relations.relations.items) c.in_ok-relations.ensures
     c.in-Err.fault c.in-Err.ensures.elements

@@ -24,4 +24,5 @@ presentation_of-requires-clause-no_fault c =
     let none : place_fault (pieces_of text c.as_slice.result.now split.stop) split.stop ≡ None = sym c.in_ok-fault.ensures ∙ c.in_default.is in
     let stop : split.stop ≡ None = unstopped text c.as_slice.result.now split.stop none in
     let same : c.as_slice.result.now ≡ c.as_slice-2.result.now = c.as_slice.ensures.value ∙ sym c.as_slice-2.ensures.value in
-    ap (λ (ts : List Token). place_fault (pieces_of text ts None) None) (sym same) ∙ ap (λ (s : Option InputFault). place_fault (pieces_of text c.as_slice.result.now s) s) (sym stop) ∙ none
+    ap (λ (ts : List Token). place_fault (pieces_of text ts None) None) (sym same)
+    ∙ ap (λ (s : Option InputFault). place_fault (pieces_of text c.as_slice.result.now s) s) (sym stop) ∙ none

@@ -13,5 +13,6 @@ loop-at-preserved c =
     let more : is_digit (get_or text at 0) ≡ true = first_of (cc, grind arith) in
     record {
       spelled = begun-next is_digit is_digit text start at ordered c.loop-at-test.true c.loop-at.invariant.spelled more;
-      value = subst (IsNarrowed c.with_digit-value.result) (sym (digits-next text start at ordered c.loop-at-test.true)) (c.with_digit-value.ensures (with_digits 0 (span text start at)) c.loop-at.invariant.value);
+      value = subst (IsNarrowed c.with_digit-value.result) (sym (digits-next text start at ordered c.loop-at-test.true))
+          (c.with_digit-value.ensures (with_digits 0 (span text start at)) c.loop-at.invariant.value);
     }

@@ -10,4 +10,5 @@ loop-place-preserved c =
     let x = c.element.result.now in
     let within = c.of_degree-first.ensures.within.1 in
     c.in_ok-push_part.ensures ∙ ap (λ (fs : List (List Term)). fs ++ filter test (x ∷ [])) c.loop-place.invariant
-    ∙ sym (filter-range_more test c.args.basis.now.elements c.of_degree-first.result.0 c.loop-place.place x (omega arith) (omega (arith, within)) c.element.ensures)
+    ∙ sym (filter-range_more test c.args.basis.now.elements c.of_degree-first.result.0 c.loop-place.place x (omega arith)
+    (omega (arith, within)) c.element.ensures)

@@ -37,7 +37,8 @@ loop-degree-preserved c =
     let normal = subst (λ (n : ℕ). AreNormal weights n c.args.index.now d words) free c.in-Ok.ensures.words in
     let grown = c.in_ok-push_number-in-Ok.ensures ∙ ap (λ (n : ℕ). numbers ++ n ∷ []) count in (
       subst (AreNumbersBelow weights (free_letters given c.args.gens) c.args.index.now c.args.most (d + 1)) (sym grown)
-          (numbers-more weights (free_letters given c.args.gens) c.args.index.now c.args.most d numbers words c.loop-degree.invariant.0 normal c.in-Ok.ensures.within),
+          (numbers-more weights (free_letters given c.args.gens) c.args.index.now c.args.most d numbers words c.loop-degree.invariant.0
+          normal c.in-Ok.ensures.within),
       subst (AreHeld weights (free_letters given c.args.gens) c.args.index.now (d + 1)) (sym c.in_ok-hold-in-Ok.ensures)
           (held-more weights (free_letters given c.args.gens) c.args.index.now d c.loop-degree.held.items words c.loop-degree.invariant.1 normal),
     )
@@ -47,4 +48,5 @@ returns-clause-numbers c = λ p tells.
     let given = c.args.presentation.now in
     let last : c.loop-degree.degree ≡ c.args.bound + 1 = omega arith in
     numbers_are p given c.args.gens c.args.bound c.args.index.now tells c.args.most c.loop-degree.numbers.items
-    (subst (λ (n : ℕ). AreNumbersBelow given.alphabet.weights (free_letters given c.args.gens) c.args.index.now c.args.most n c.loop-degree.numbers.items) last c.loop-degree.invariant.0)
+    (subst (λ (n : ℕ). AreNumbersBelow given.alphabet.weights (free_letters given c.args.gens) c.args.index.now c.args.most n
+    c.loop-degree.numbers.items) last c.loop-degree.invariant.0)

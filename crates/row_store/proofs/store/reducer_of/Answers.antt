@@ -22,9 +22,11 @@ returns-in_ok-entries-in-Some c =
     let k = c.args.column in
     let h = c.in-Some.ensures in
     let f : List Term = h.0 in
-    let may : MayReduce p closed.columns (get_or closed.columns k []) (get_or closed.reducers k None) = zip_at (MayReduce p closed.columns) closed.columns closed.reducers k [] None c.requires.reducing.reducers c.requires.column in
+    let may : MayReduce p closed.columns (get_or closed.columns k []) (get_or closed.reducers k None) =
+    zip_at (MayReduce p closed.columns) closed.columns closed.reducers k [] None c.requires.reducing.reducers c.requires.column in
     let own : IsColumnReducer p closed.columns (get_or closed.columns k []) f = subst (MayReduce p closed.columns (get_or closed.columns k [])) h.1 may in
-    let entries : AllZip (IsEntryOf closed.columns) c.in_ok-entries-in-Some.entries.items f = subst (λ (es : List Entry). AllZip (IsEntryOf closed.columns) es f) (sym c.in_ok-entries-in-Some.ensures)
+    let entries : AllZip (IsEntryOf closed.columns) c.in_ok-entries-in-Some.entries.items f =
+    subst (λ (es : List Entry). AllZip (IsEntryOf closed.columns) es f) (sym c.in_ok-entries-in-Some.ensures)
     (reducer_entries p k closed.columns f c.in-Some.columns.now c.in-Some.residues.now c.requires.column own h.2) in
     let r : Reducer = record { entries = c.in_ok-entries-in-Some.entries } in
     subst (IsReducerOf closed.columns (Some r)) (sym h.1) entries

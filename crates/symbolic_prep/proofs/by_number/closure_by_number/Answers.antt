@@ -13,12 +13,14 @@ use Rattle.symbolic_prep.proofs.by_number.closure_by_number.Goals as goal
 pub table_of-requires-clause-over : goal.table_of-requires-clause-over
 table_of-requires-clause-over c =
     let b = c.args.basis.now in
-    rows_digits b.weights c.done-done.ensures.kept.weights c.args.d c.args.packing.bits c.args.packing.room c.args.rows.now c.requires.packing.letters_fit c.requires.letters
+    rows_digits b.weights c.done-done.ensures.kept.weights c.args.d c.args.packing.bits c.args.packing.room c.args.rows.now
+    c.requires.packing.letters_fit c.requires.letters
 
 pub table_of-requires-clause-fits : goal.table_of-requires-clause-fits
 table_of-requires-clause-fits c =
     let b = c.args.basis.now in
-    rows_room b.weights c.done-done.ensures.kept.weights c.args.d c.args.packing.bits c.args.packing.room c.args.rows.now c.requires.packing.words_fit c.requires.degree
+    rows_room b.weights c.done-done.ensures.kept.weights c.args.d c.args.packing.bits c.args.packing.room c.args.rows.now
+    c.requires.packing.words_fit c.requires.degree
 
 pub returns-in_err-table-clause-many : goal.returns-in_err-table-clause-many
 returns-in_err-table-clause-many c = λ e.
@@ -52,5 +54,6 @@ pub returns-clause-listed : goal.returns-clause-listed
 returns-clause-listed c =
     let b = c.args.basis.now in
     let l = c.in_ok-in_order.field-0 in
-    listed-same b.elements c.in_ok-table.table.words (words_of c.args.rows.now) c.args.entries c.args.limit _ l.spans.items l.lists.numbers.items l.lists.residues.items l.entries c.in_ok-table.ensures.words
+    listed-same b.elements c.in_ok-table.table.words (words_of c.args.rows.now) c.args.entries c.args.limit _ l.spans.items
+    l.lists.numbers.items l.lists.residues.items l.entries c.in_ok-table.ensures.words
     (c.in_ok-in_order.ensures.listed b.elements c.in_ok-table.table.words c.args.entries c.in_ok-numbered.ensures.walked)

@@ -20,10 +20,13 @@ returns-in_err-push_product-clause-many c = λ e.
     more_widely c.args.most _ (Contains (words_of rows)) (λ w h. elim h [
       | inl m ↦ words_of-some rows i w ((c.loop-row.invariant.words w).0 m)
       | inr m ↦
-          let listed : Contains (map (λ (t : Term). t.word) c.terms.result.now) w = subst (λ (ws : List (List ℕ)). Contains ws w) (plain_words c.terms.result.now) m in
-          let own : Contains (map (λ (t : Term). t.word) row) w = subst (λ (f : List Term). Contains (map (λ (t : Term). t.word) f) w) c.terms.ensures.value listed in
+          let listed : Contains (map (λ (t : Term). t.word) c.terms.result.now) w =
+          subst (λ (ws : List (List ℕ)). Contains ws w) (plain_words c.terms.result.now) m in
+          let own : Contains (map (λ (t : Term). t.word) row) w = subst (λ (f : List Term). Contains (map (λ (t : Term). t.word) f) w)
+          c.terms.ensures.value listed in
           words_of-some rows (i + 1) w
-          (subst (λ (ws : List (List ℕ)). Contains ws w) (sym (words_of-more rows i row (omega arith) c.row-item.is)) (Contains-append_right (words_of (take i rows)) (map (λ (t : Term). t.word) row) w own))
+          (subst (λ (ws : List (List ℕ)). Contains ws w) (sym (words_of-more rows i row (omega arith) c.row-item.is))
+          (Contains-append_right (words_of (take i rows)) (map (λ (t : Term). t.word) row) w own))
     ]) more
 
 pub loop-row-preserved : goal.loop-row-preserved
@@ -32,7 +35,8 @@ loop-row-preserved c =
     let so_far = c.loop-row.table.words in
     let listed = subst (λ (ws : List (List ℕ)). (v : List ℕ) → Contains new v ↔ (Contains so_far v ⊎ Contains ws v)) (plain_words c.terms.result.now)
     (grown_says so_far new (map (λ (t : Term). t.word) (product [] c.terms.result.now [])) c.in_ok-push_product.ensures.grown) in
-    let says = subst (λ (f : List Term). (v : List ℕ) → Contains new v ↔ (Contains so_far v ⊎ Contains (map (λ (t : Term). t.word) f) v)) c.terms.ensures.value listed in
+    let says = subst (λ (f : List Term). (v : List ℕ) → Contains new v ↔ (Contains so_far v ⊎ Contains (map (λ (t : Term). t.word) f) v))
+    c.terms.ensures.value listed in
     record {
       words = rows_more c.args.rows.now so_far new c.loop-row.row-index c.row-item.result (omega arith) c.row-item.is c.loop-row.invariant.words says;
       within = c.in_ok-push_product.ensures.within;
@@ -42,4 +46,5 @@ loop-row-preserved c =
 
 pub returns-clause-words : goal.returns-clause-words
 returns-clause-words c =
-    subst (λ (rs : List (List Term)). (w : List ℕ) → Contains c.loop-row.table.words w ↔ Contains (words_of rs) w) (take_all c.loop-row.row-index c.args.rows.now (omega arith)) c.loop-row.invariant.words
+    subst (λ (rs : List (List Term)). (w : List ℕ) → Contains c.loop-row.table.words w ↔ Contains (words_of rs) w)
+    (take_all c.loop-row.row-index c.args.rows.now (omega arith)) c.loop-row.invariant.words

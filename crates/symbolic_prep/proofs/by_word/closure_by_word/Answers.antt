@@ -26,7 +26,8 @@ pub walk-requires-clause-words : goal.walk-requires-clause-words
 walk-requires-clause-words c =
     let b = c.args.basis.now in
     All-from_members (λ w. IsOver (length b.weights) w × (degree_of b.weights w ≡ c.args.d)) (keys c.in_ok-pending.pending)
-    (λ w m. words_in_degree (length b.weights) b.weights c.args.d c.args.rows.now c.requires.letters c.requires.degree w ((c.in_ok-pending.ensures.words w).0 m))
+    (λ w m. words_in_degree (length b.weights) b.weights c.args.d c.args.rows.now c.requires.letters c.requires.degree w
+    ((c.in_ok-pending.ensures.words w).0 m))
 
 pub returns-in_err-walked-clause-many : goal.returns-in_err-walked-clause-many
 returns-in_err-walked-clause-many c = λ e.
@@ -52,7 +53,10 @@ returns-clause-listed c =
     let spans = c.in_ok-spans.spans.items in
     let numbers = c.in_ok-spans.lists.numbers.items in
     let residues = c.in_ok-spans.lists.residues.items in
-    listed-same b.elements (keys c.in_ok-pending.pending) (words_of c.args.rows.now) c.args.entries c.args.limit w.columns.items spans numbers residues w.entries c.in_ok-pending.ensures.words
-    (walked_listed b.elements (keys c.in_ok-pending.pending) c.args.entries c.args.limit w.columns.items w.reducers.items w.entries spans numbers residues c.in_ok-walked.ensures.walked
+    listed-same b.elements (keys c.in_ok-pending.pending) (words_of c.args.rows.now) c.args.entries c.args.limit w.columns.items spans
+    numbers residues w.entries c.in_ok-pending.ensures.words
+    (walked_listed b.elements (keys c.in_ok-pending.pending) c.args.entries c.args.limit w.columns.items w.reducers.items w.entries spans
+    numbers residues c.in_ok-walked.ensures.walked
     (λ le. subst (AllZip (IsSpanOf w.columns.items numbers residues) spans) c.as_slice-2.ensures.value
-    (subst (λ (cs : List (List ℕ)). AllZip (IsSpanOf cs numbers residues) spans c.as_slice-2.result.now) c.as_slice.ensures.value (c.in_ok-spans.ensures (le-leb _ _ (omega (arith, le, c.from.ensures)))))))
+    (subst (λ (cs : List (List ℕ)). AllZip (IsSpanOf cs numbers residues) spans c.as_slice-2.result.now) c.as_slice.ensures.value
+    (c.in_ok-spans.ensures (le-leb _ _ (omega (arith, le, c.from.ensures)))))))

@@ -19,5 +19,6 @@ loop-reducer-preserved c =
     record {
       sizes = longer_sizes n r m q c.in_ok-span.ensures.longer c.loop-reducer.invariant.sizes;
       zipped = subst (λ (ss : List (Option Span)). AllZip (IsSpanOf columns m q) ss (take (i + 1) c.args.reducers.now)) (sym c.in_ok-push.ensures.items)
-          (spans_push columns c.requires.falling n r m q c.loop-reducer.spans.items c.args.reducers.now i c.in_ok-span.span o c.loop-reducer.invariant.zipped c.in_ok-span.ensures.longer (omega arith) c.reducer-item.is c.in_ok-span.ensures.stands);
+          (spans_push columns c.requires.falling n r m q c.loop-reducer.spans.items c.args.reducers.now i c.in_ok-span.span o
+          c.loop-reducer.invariant.zipped c.in_ok-span.ensures.longer (omega arith) c.reducer-item.is c.in_ok-span.ensures.stands);
     }

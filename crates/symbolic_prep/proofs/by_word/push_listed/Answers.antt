@@ -16,7 +16,8 @@ push_terms-requires-clause-on_columns c =
 
 pub returns-in_ok-push_terms-in-Some-clause-longer : goal.returns-in_ok-push_terms-in-Some-clause-longer
 returns-in_ok-push_terms-in-Some-clause-longer c =
-    listed_longer c.args.columns.now c.args.lists.now.numbers.items c.args.lists.now.residues.items c.push_terms.new.lists.numbers.items c.push_terms.new.lists.residues.items c.terms.result.now c.in_ok-push_terms-in-Some.ensures
+    listed_longer c.args.columns.now c.args.lists.now.numbers.items c.args.lists.now.residues.items c.push_terms.new.lists.numbers.items
+    c.push_terms.new.lists.residues.items c.terms.result.now c.in_ok-push_terms-in-Some.ensures
 
 pub returns-in_ok-push_terms-in-Some-clause-stands : goal.returns-in_ok-push_terms-in-Some-clause-stands
 returns-in_ok-push_terms-in-Some-clause-stands c =
@@ -24,11 +25,13 @@ returns-in_ok-push_terms-in-Some-clause-stands c =
     let m : List ℕ = c.push_terms.new.lists.numbers.items in
     let q : List ℕ = c.push_terms.new.lists.residues.items in
     let f : List Term = c.terms.result.now in
-    let stands = listed_stands columns c.args.lists.now.numbers.items c.args.lists.now.residues.items m q f c.in_ok-push_terms-in-Some.ensures c.requires.sizes in
+    let stands = listed_stands columns c.args.lists.now.numbers.items c.args.lists.now.residues.items m q f
+    c.in_ok-push_terms-in-Some.ensures c.requires.sizes in
     let first : c.len-start.result ≡ length c.args.lists.now.numbers.items = omega (arith, c.len-start.ensures, c.args.lists.now.numbers.ok) in
     let long : c.len-end.result ≡ length m = omega (arith, c.len-end.ensures, c.push_terms.new.lists.numbers.ok) in
     let s : Span = record { start = c.len-start.result; end = c.len-end.result } in
-    let own : IsSpanOf columns m q (Some s) (Some f) = subst (λ (k : ℕ). IsSpanOf columns m q (Some (record { start = k; end = c.len-end.result })) (Some f)) (sym first)
+    let own : IsSpanOf columns m q (Some s) (Some f) = subst (λ (k : ℕ). IsSpanOf columns m q
+    (Some (record { start = k; end = c.len-end.result })) (Some f)) (sym first)
     (subst (λ (k : ℕ). IsSpanOf columns m q (Some (record { start = length c.args.lists.now.numbers.items; end = k })) (Some f)) (sym long) stands) in
     subst (IsSpanOf columns m q (Some s)) (ap Some c.terms.ensures.value ∙ sym c.in-Some.is) own
 

@@ -1,4 +1,5 @@
-use Rattle.std.proofs.Common.{◌≡◌, ◌+◌, ◌≤◌, min, ℕ, List, All, Err, None, Some, arith, ap, drop, inl, inr, length, length-drop, map, rules, subst, sym, take, ◌∙◌}
+use Rattle.std.proofs.Common.{◌≡◌, ◌+◌, ◌≤◌, min, ℕ, List, All, Err, None, Some, arith, ap, drop, inl, inr, length, length-drop, map, rules, subst}
+use Rattle.std.proofs.Common.{sym, take, ◌∙◌}
 use Rattle.std.specs.List.{Contains}
 use Rattle.std.proofs.lemmas.Bool.{le-leb}
 use Rattle.std.proofs.lemmas.List.{length-take-le}
@@ -12,37 +13,57 @@ use Rattle.ideal_laws.specs.Closure.{IsInClosure, IsReducer}
 use Rattle.symbolic_prep.specs.Packing.{HasDigits}
 use Rattle.symbolic_prep.specs.Numbers.{AreListed, IsGrown, StandsAt}
 use Rattle.symbolic_prep.proofs.Numbers.{grown_none}
-use Rattle.symbolic_prep.proofs.Reduced.{below_by, longer_by, longer_none, longer_sizes, numbered_own, product_length, stands_at, tail_in_closure, tail_digits, tail_product, tail_room}
+use Rattle.symbolic_prep.proofs.Reduced.{below_by, longer_by, longer_none, longer_sizes, numbered_own, product_length, stands_at, tail_in_closure}
+use Rattle.symbolic_prep.proofs.Reduced.{tail_digits, tail_product, tail_room}
 use Rattle.symbolic_prep.proofs.Reducing.{element_at, element_within, normal_is}
 use Rattle.symbolic_prep.proofs.Sets.{more_widely, one_fault}
 use Rattle.symbolic_prep.proofs.numbering.push_reducer.Goals as goal
 
 pub element-element-requires : goal.element-element-requires
-element-element-requires c = element_within c.args.basis.now.elements c.args.index.now c.requires.index c.args.word.now c.in-Some.place.at c.in-Some.place.element c.in-Some.ensures.place
+element-element-requires c = element_within c.args.basis.now.elements c.args.index.now c.requires.index c.args.word.now c.in-Some.place.at
+    c.in-Some.place.element c.in-Some.ensures.place
 
 pub behind-rest-requires : goal.behind-rest-requires
 behind-rest-requires c =
-    let e = element_at c.args.basis.now.elements c.args.index.now c.requires.index c.args.word.now c.in-Some.place.at c.in-Some.place.element c.in-Some.ensures.place c.element-element.result.now c.element-element.ensures in
+    let e = element_at c.args.basis.now.elements c.args.index.now c.requires.index c.args.word.now c.in-Some.place.at
+    c.in-Some.place.element c.in-Some.ensures.place c.element-element.result.now c.element-element.ensures in
     omega (arith, e.fits, c.lead_len.ensures)
 
 pub pack-before_key-requires-clause-fits : goal.pack-before_key-requires-clause-fits
 pack-before_key-requires-clause-fits c =
     let w : List ℕ = c.args.word.now in
-    let e = element_at c.args.basis.now.elements c.args.index.now c.requires.index w c.in-Some.place.at c.in-Some.place.element c.in-Some.ensures.place c.element-element.result.now c.element-element.ensures in
-    omega (arith, length-take-le c.in-Some.place.at w (omega (arith, e.fits)), e.fits, length-le-degree_of c.args.basis.now.weights c.done-done.ensures.kept.weights w, c.requires.room, c.packing-packing.ensures.room)
+    let e = element_at c.args.basis.now.elements c.args.index.now c.requires.index w c.in-Some.place.at c.in-Some.place.element
+    c.in-Some.ensures.place c.element-element.result.now c.element-element.ensures in
+    omega (
+      arith,
+      length-take-le c.in-Some.place.at w (omega (arith, e.fits)),
+      e.fits,
+      length-le-degree_of c.args.basis.now.weights c.done-done.ensures.kept.weights w,
+      c.requires.room,
+      c.packing-packing.ensures.room,
+    )
 
 pub pack-rest_key-requires-clause-fits : goal.pack-rest_key-requires-clause-fits
 pack-rest_key-requires-clause-fits c =
     let w : List ℕ = c.args.word.now in
-    omega (arith, ap length c.behind-rest.ensures, length-drop (c.in-Some.place.at + c.lead_len.result) w, length-le-degree_of c.args.basis.now.weights c.done-done.ensures.kept.weights w, c.requires.room, c.packing-packing.ensures.room)
+    omega (
+      arith,
+      ap length c.behind-rest.ensures,
+      length-drop (c.in-Some.place.at + c.lead_len.result) w,
+      length-le-degree_of c.args.basis.now.weights c.done-done.ensures.kept.weights w,
+      c.requires.room,
+      c.packing-packing.ensures.room,
+    )
 
 pub push_product-requires-clause-over : goal.push_product-requires-clause-over
 push_product-requires-clause-over c =
     let b = c.args.basis.now in
     let f : List Term = c.element-element.result.now in
     let lt = element_within b.elements c.args.index.now c.requires.index c.args.word.now c.in-Some.place.at c.in-Some.place.element c.in-Some.ensures.place in
-    let letters : UsesLetters (length b.weights) f = subst (UsesLetters (length b.weights)) (sym c.element-element.ensures) (c.done-done.ensures.kept.each c.in-Some.place.element f lt).letters in
-    subst (All (λ (t : Term). HasDigits c.args.table.now.bits t.word)) (sym (c.tail_of.ensures ∙ ap below_lead c.terms-terms.ensures.value)) (tail_digits (length b.weights) c.args.table.now.bits f c.requires.digits letters)
+    let letters : UsesLetters (length b.weights) f = subst (UsesLetters (length b.weights)) (sym c.element-element.ensures)
+    (c.done-done.ensures.kept.each c.in-Some.place.element f lt).letters in
+    subst (All (λ (t : Term). HasDigits c.args.table.now.bits t.word)) (sym (c.tail_of.ensures ∙ ap below_lead c.terms-terms.ensures.value))
+    (tail_digits (length b.weights) c.args.table.now.bits f c.requires.digits letters)
 
 pub push_product-requires-clause-fits : goal.push_product-requires-clause-fits
 push_product-requires-clause-fits c =
@@ -52,8 +73,10 @@ push_product-requires-clause-fits c =
     let f : List Term = c.element-element.result.now in
     let e = element_at b.elements c.args.index.now c.requires.index w at c.in-Some.place.element c.in-Some.ensures.place f c.element-element.ensures in
     let rest : c.behind-rest.result.now ≡ drop (at + length (lead_or_none f)) w = c.behind-rest.ensures ∙ ap (λ (n : ℕ). drop (at + n) w) c.lead_len.ensures in
-    let q : IsReducer b.elements w (product (take at w) f c.behind-rest.result.now) = subst (λ (v : List ℕ). IsReducer b.elements w (product (take at w) f v)) (sym rest) e.reducer in
-    subst (All (λ (t : Term). length (take at w) + length t.word + length c.behind-rest.result.now ≤ c.args.table.now.room)) (sym (c.tail_of.ensures ∙ ap below_lead c.terms-terms.ensures.value))
+    let q : IsReducer b.elements w (product (take at w) f c.behind-rest.result.now) =
+    subst (λ (v : List ℕ). IsReducer b.elements w (product (take at w) f v)) (sym rest) e.reducer in
+    subst (All (λ (t : Term). length (take at w) + length t.word + length c.behind-rest.result.now ≤ c.args.table.now.room))
+    (sym (c.tail_of.ensures ∙ ap below_lead c.terms-terms.ensures.value))
     (tail_room b c.done-done.ensures.kept c.requires.form w c.requires.letters (take at w) c.behind-rest.result.now f q c.args.table.now.room c.requires.room)
 
 pub returns-in_ok-push_product-in-Some-clause-reduced : goal.returns-in_ok-push_product-in-Some-clause-reduced
@@ -70,14 +93,17 @@ returns-in_ok-push_product-in-Some-clause-reduced c =
     let rest : v ≡ drop (at + length (lead_or_none f)) w = c.behind-rest.ensures ∙ ap (λ (n : ℕ). drop (at + n) w) c.lead_len.ensures in
     let q : IsReducer b.elements w (product u f v) = subst (λ (x : List ℕ). IsReducer b.elements w (product u f x)) (sym rest) e.reducer in
     let tail : c.tail_of.result.now ≡ below_lead f = c.tail_of.ensures ∙ ap below_lead c.terms-terms.ensures.value in
-    let grown : IsGrown old new (map (λ (s : Term). s.word) (product u (below_lead f) v)) = subst (λ (ts : List Term). IsGrown old new (map (λ (s : Term). s.word) (product u ts v))) tail c.in_ok-push_product-in-Some.ensures.grown in
+    let grown : IsGrown old new (map (λ (s : Term). s.word) (product u (below_lead f) v)) =
+    subst (λ (ts : List Term). IsGrown old new (map (λ (s : Term). s.word) (product u ts v))) tail
+    c.in_ok-push_product-in-Some.ensures.grown in
     let n0 = c.args.lists.now.numbers.items in
     let r0 = c.args.lists.now.residues.items in
     let n1 = c.push_lead.new.lists.numbers.items in
     let r1 = c.push_lead.new.lists.residues.items in
     let n2 = c.push_product.new.lists.numbers.items in
     let r2 = c.push_product.new.lists.residues.items in
-    let count : c.counted-entries.result ≡ min (c.args.entries + length f) (c.args.limit + 1) = omega (arith, c.counted-entries.ensures, ap length c.terms-terms.ensures.value) in
+    let count : c.counted-entries.result ≡ min (c.args.entries + length f) (c.args.limit + 1) =
+    omega (arith, c.counted-entries.ensures, ap length c.terms-terms.ensures.value) in
     let size : length n0 ≡ c.len-start.result = search rules in
     let end_size : length n2 ≡ c.len-end.result = search rules in
     record {
@@ -85,17 +111,24 @@ returns-in_ok-push_product-in-Some-clause-reduced c =
       is = q;
       grown = subst (IsGrown old new) (tail_product u v f) grown;
       count = count ∙ ap (λ (n : ℕ). min (c.args.entries + n) (c.args.limit + 1)) (product_length u v f);
-      longer = λ le. longer_by b c.done-done.ensures.kept c.requires.form w c.requires.letters u v f q old new grown c.args.number c.requires.number n0 r0 n1 r1 n2 r2 c.args.entries c.counted-entries.result c.args.limit count
+      longer = λ le. longer_by b c.done-done.ensures.kept c.requires.form w c.requires.letters u v f q old new grown c.args.number
+          c.requires.number n0 r0 n1 r1 n2 r2 c.args.entries c.counted-entries.result c.args.limit count
           (λ t ts is. c.in_ok-push_lead-in-Some.ensures.pushed (le-leb _ _ (omega (arith, le, c.from.ensures))) t ts (c.terms-terms.ensures.value ∙ is))
-          (subst (λ (ts : List Term). AreListed new n1 r1 n2 r2 (product u ts v)) tail (c.in_ok-push_product-in-Some.ensures.listed (le-leb _ _ (omega (arith, le, c.from.ensures)))));
-      below = λ le. below_by b c.done-done.ensures.kept c.requires.form w c.requires.letters u v f q old new grown c.args.number c.requires.number n0 r0 n1 r1 n2 r2 c.args.entries c.counted-entries.result c.args.limit count
+          (subst (λ (ts : List Term). AreListed new n1 r1 n2 r2 (product u ts v)) tail
+          (c.in_ok-push_product-in-Some.ensures.listed (le-leb _ _ (omega (arith, le, c.from.ensures)))));
+      below = λ le. below_by b c.done-done.ensures.kept c.requires.form w c.requires.letters u v f q old new grown c.args.number
+          c.requires.number n0 r0 n1 r1 n2 r2 c.args.entries c.counted-entries.result c.args.limit count
           (λ t ts is. c.in_ok-push_lead-in-Some.ensures.pushed (le-leb _ _ (omega (arith, le, c.from.ensures))) t ts (c.terms-terms.ensures.value ∙ is))
-          (subst (λ (ts : List Term). AreListed new n1 r1 n2 r2 (product u ts v)) tail (c.in_ok-push_product-in-Some.ensures.listed (le-leb _ _ (omega (arith, le, c.from.ensures)))));
-      stands = λ le. let stands = stands_at b c.done-done.ensures.kept c.requires.form w c.requires.letters u v f q old new grown c.args.number c.requires.number n0 r0 n1 r1 n2 r2 c.args.entries c.counted-entries.result c.args.limit count
+          (subst (λ (ts : List Term). AreListed new n1 r1 n2 r2 (product u ts v)) tail
+          (c.in_ok-push_product-in-Some.ensures.listed (le-leb _ _ (omega (arith, le, c.from.ensures)))));
+      stands = λ le. let stands = stands_at b c.done-done.ensures.kept c.requires.form w c.requires.letters u v f q old new grown
+          c.args.number c.requires.number n0 r0 n1 r1 n2 r2 c.args.entries c.counted-entries.result c.args.limit count
           (λ t ts is. c.in_ok-push_lead-in-Some.ensures.pushed (le-leb _ _ (omega (arith, le, c.from.ensures))) t ts (c.terms-terms.ensures.value ∙ is))
-          (subst (λ (ts : List Term). AreListed new n1 r1 n2 r2 (product u ts v)) tail (c.in_ok-push_product-in-Some.ensures.listed (le-leb _ _ (omega (arith, le, c.from.ensures)))))
+          (subst (λ (ts : List Term). AreListed new n1 r1 n2 r2 (product u ts v)) tail
+          (c.in_ok-push_product-in-Some.ensures.listed (le-leb _ _ (omega (arith, le, c.from.ensures)))))
           (c.requires.sizes (omega (arith, le, count))) in
-          subst (λ (n : ℕ). StandsAt new n2 r2 n c.len-end.result (product u f v)) size (subst (λ (n : ℕ). StandsAt new n2 r2 (length n0) n (product u f v)) end_size stands);
+          subst (λ (n : ℕ). StandsAt new n2 r2 n c.len-end.result (product u f v)) size
+          (subst (λ (n : ℕ). StandsAt new n2 r2 (length n0) n (product u f v)) end_size stands);
     }
 
 pub returns-in_err-push_product-in-Some-clause-many : goal.returns-in_err-push_product-in-Some-clause-many
@@ -117,7 +150,8 @@ returns-in_err-push_product-in-Some-clause-many c = λ is_many given_words sound
     let own : IsInClosure b.elements given_words w = sound w (numbered_own old c.args.number w c.requires.number) in
     more_widely c.args.most _ (IsInClosure b.elements given_words) (λ x h. elim h [
       | inl m ↦ sound x m
-      | inr m ↦ tail_in_closure b.elements given_words w u v f q own x (subst (λ (ts : List Term). Contains (map (λ (s : Term). s.word) (product u ts v)) x) tail m)
+      | inr m ↦ tail_in_closure b.elements given_words w u v f q own x
+          (subst (λ (ts : List Term). Contains (map (λ (s : Term). s.word) (product u ts v)) x) tail m)
     ]) more
 
 pub returns-in_ok-push_product-in-Some-clause-sizes : goal.returns-in_ok-push_product-in-Some-clause-sizes
@@ -134,18 +168,23 @@ returns-in_ok-push_product-in-Some-clause-sizes c = λ le.
     let rest : v ≡ drop (at + length (lead_or_none f)) w = c.behind-rest.ensures ∙ ap (λ (n : ℕ). drop (at + n) w) c.lead_len.ensures in
     let q : IsReducer b.elements w (product u f v) = subst (λ (x : List ℕ). IsReducer b.elements w (product u f x)) (sym rest) e.reducer in
     let tail : c.tail_of.result.now ≡ below_lead f = c.tail_of.ensures ∙ ap below_lead c.terms-terms.ensures.value in
-    let grown : IsGrown old new (map (λ (s : Term). s.word) (product u (below_lead f) v)) = subst (λ (ts : List Term). IsGrown old new (map (λ (s : Term). s.word) (product u ts v))) tail c.in_ok-push_product-in-Some.ensures.grown in
+    let grown : IsGrown old new (map (λ (s : Term). s.word) (product u (below_lead f) v)) =
+    subst (λ (ts : List Term). IsGrown old new (map (λ (s : Term). s.word) (product u ts v))) tail
+    c.in_ok-push_product-in-Some.ensures.grown in
     let n0 = c.args.lists.now.numbers.items in
     let r0 = c.args.lists.now.residues.items in
     let n1 = c.push_lead.new.lists.numbers.items in
     let r1 = c.push_lead.new.lists.residues.items in
     let n2 = c.push_product.new.lists.numbers.items in
     let r2 = c.push_product.new.lists.residues.items in
-    let count : c.counted-entries.result ≡ min (c.args.entries + length f) (c.args.limit + 1) = omega (arith, c.counted-entries.ensures, ap length c.terms-terms.ensures.value) in
+    let count : c.counted-entries.result ≡ min (c.args.entries + length f) (c.args.limit + 1) =
+    omega (arith, c.counted-entries.ensures, ap length c.terms-terms.ensures.value) in
     longer_sizes n0 r0 n2 r2
-    (longer_by b c.done-done.ensures.kept c.requires.form w c.requires.letters u v f q old new grown c.args.number c.requires.number n0 r0 n1 r1 n2 r2 c.args.entries c.counted-entries.result c.args.limit count
+    (longer_by b c.done-done.ensures.kept c.requires.form w c.requires.letters u v f q old new grown c.args.number c.requires.number n0 r0
+    n1 r1 n2 r2 c.args.entries c.counted-entries.result c.args.limit count
     (λ t ts is. c.in_ok-push_lead-in-Some.ensures.pushed (le-leb _ _ (omega (arith, le, c.from.ensures))) t ts (c.terms-terms.ensures.value ∙ is))
-    (subst (λ (ts : List Term). AreListed new n1 r1 n2 r2 (product u ts v)) tail (c.in_ok-push_product-in-Some.ensures.listed (le-leb _ _ (omega (arith, le, c.from.ensures))))))
+    (subst (λ (ts : List Term). AreListed new n1 r1 n2 r2 (product u ts v)) tail
+    (c.in_ok-push_product-in-Some.ensures.listed (le-leb _ _ (omega (arith, le, c.from.ensures))))))
     (c.requires.sizes (omega (arith, le, count)))
 
 pub returns-in-None-clause-reduced : goal.returns-in-None-clause-reduced

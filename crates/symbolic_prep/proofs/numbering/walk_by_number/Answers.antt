@@ -13,7 +13,8 @@ use Rattle.symbolic_prep.proofs.numbering.walk_by_number.Goals as goal
 
 pub loop-next-init : goal.loop-next-init
 loop-next-init c = record {
-  walking = number_walk_none c.args.basis.now.elements c.args.table.words c.args.entries c.args.limit c.new-spans.result.items c.new.result.items c.new-2.result.items c.len-len.ensures.apart c.requires.entries c.new-spans.ensures.items c.new.ensures.items;
+  walking = number_walk_none c.args.basis.now.elements c.args.table.words c.args.entries c.args.limit c.new-spans.result.items
+      c.new.result.items c.new-2.result.items c.len-len.ensures.apart c.requires.entries c.new-spans.ensures.items c.new.ensures.items;
   within = c.requires.few;
   bits = refl;
   room = refl;
@@ -23,7 +24,8 @@ loop-next-init c = record {
 pub push_reducer-requires-clause-number : goal.push_reducer-requires-clause-number
 push_reducer-requires-clause-number c =
     let words = c.loop-next.table.words in
-    slice_get-get_or words c.loop-next.next [] (omega (arith, c.loop-next-test.true, c.len.ensures.count)) ∙ ap Some (sym (c.as_slice-word.ensures.value ∙ c.in_ok-read.ensures.word))
+    slice_get-get_or words c.loop-next.next [] (omega (arith, c.loop-next-test.true, c.len.ensures.count))
+    ∙ ap Some (sym (c.as_slice-word.ensures.value ∙ c.in_ok-read.ensures.word))
 
 pub push_reducer-requires-clause-letters : goal.push_reducer-requires-clause-letters
 push_reducer-requires-clause-letters c =
@@ -31,8 +33,11 @@ push_reducer-requires-clause-letters c =
     let w : List ℕ = c.as_slice-word.result.now in
     let words = c.loop-next.table.words in
     let lt : c.loop-next.next < length words = omega (arith, c.loop-next-test.true, c.len.ensures.count) in
-    let number : slice_get words c.loop-next.next ≡ Some w = slice_get-get_or words c.loop-next.next [] lt ∙ ap Some (sym (c.as_slice-word.ensures.value ∙ c.in_ok-read.ensures.word)) in
-    (stays b c.done-done.ensures.kept c.requires.form c.args.d c.args.table.words (λ x m. All-contains (λ v. IsOver (length b.weights) v × (degree_of b.weights v ≡ c.args.d)) c.args.table.words x c.requires.words m)
+    let number : slice_get words c.loop-next.next ≡ Some w = slice_get-get_or words c.loop-next.next [] lt
+    ∙ ap Some (sym (c.as_slice-word.ensures.value ∙ c.in_ok-read.ensures.word)) in
+    (stays b c.done-done.ensures.kept c.requires.form c.args.d c.args.table.words
+    (λ x m. All-contains (λ v. IsOver (length b.weights) v × (degree_of b.weights v ≡ c.args.d)) c.args.table.words x c.requires.words
+    m)
     w (c.loop-next.invariant.walking.numbered.sound w (numbered_own words c.loop-next.next w number))).0
 
 pub push_reducer-requires-clause-room : goal.push_reducer-requires-clause-room
@@ -41,8 +46,11 @@ push_reducer-requires-clause-room c =
     let w : List ℕ = c.as_slice-word.result.now in
     let words = c.loop-next.table.words in
     let lt : c.loop-next.next < length words = omega (arith, c.loop-next-test.true, c.len.ensures.count) in
-    let number : slice_get words c.loop-next.next ≡ Some w = slice_get-get_or words c.loop-next.next [] lt ∙ ap Some (sym (c.as_slice-word.ensures.value ∙ c.in_ok-read.ensures.word)) in
-    let word = stays b c.done-done.ensures.kept c.requires.form c.args.d c.args.table.words (λ x m. All-contains (λ v. IsOver (length b.weights) v × (degree_of b.weights v ≡ c.args.d)) c.args.table.words x c.requires.words m)
+    let number : slice_get words c.loop-next.next ≡ Some w = slice_get-get_or words c.loop-next.next [] lt
+    ∙ ap Some (sym (c.as_slice-word.ensures.value ∙ c.in_ok-read.ensures.word)) in
+    let word = stays b c.done-done.ensures.kept c.requires.form c.args.d c.args.table.words
+    (λ x m. All-contains (λ v. IsOver (length b.weights) v × (degree_of b.weights v ≡ c.args.d)) c.args.table.words x c.requires.words
+    m)
     w (c.loop-next.invariant.walking.numbered.sound w (numbered_own words c.loop-next.next w number)) in
     omega (arith, word.1, c.requires.room, c.loop-next.invariant.room)
 
@@ -50,7 +58,8 @@ pub returns-in_err-span-clause-many : goal.returns-in_err-span-clause-many
 returns-in_err-span-clause-many c = λ e.
     let b = c.args.basis.now in
     let p = err_from_is_err_and c.from_residual-in_err-span.result c.from_residual-in_err-span.ensures.1 in
-    let more = c.in_err-span.ensures.many (ap Err (sym p.2 ∙ one_fault c.from_residual-in_err-span.result _ _ p.1 e)) c.args.table.words c.loop-next.invariant.walking.numbered.sound in
+    let more = c.in_err-span.ensures.many (ap Err (sym p.2 ∙ one_fault c.from_residual-in_err-span.result _ _ p.1 e)) c.args.table.words
+    c.loop-next.invariant.walking.numbered.sound in
     closure_many b c.done-done.ensures.kept c.requires.form c.args.d c.args.index.now c.keeps.ensures c.requires.index c.args.table.words
     (λ x m. All-contains (λ v. IsOver (length b.weights) v × (degree_of b.weights v ≡ c.args.d)) c.args.table.words x c.requires.words m) c.args.most more
 
@@ -60,13 +69,16 @@ loop-next-preserved c =
     let w : List ℕ = c.as_slice-word.result.now in
     let words = c.loop-next.table.words in
     let lt : c.loop-next.next < length words = omega (arith, c.loop-next-test.true, c.len.ensures.count) in
-    let number : slice_get words c.loop-next.next ≡ Some w = slice_get-get_or words c.loop-next.next [] lt ∙ ap Some (sym (c.as_slice-word.ensures.value ∙ c.in_ok-read.ensures.word)) in
+    let number : slice_get words c.loop-next.next ≡ Some w = slice_get-get_or words c.loop-next.next [] lt
+    ∙ ap Some (sym (c.as_slice-word.ensures.value ∙ c.in_ok-read.ensures.word)) in
     record {
       walking =
           number_walk_more b c.done-done.ensures.kept c.requires.form c.args.d c.args.index.now c.keeps.ensures c.requires.index c.args.table.words
           (λ x m. All-contains (λ v. IsOver (length b.weights) v × (degree_of b.weights v ≡ c.args.d)) c.args.table.words x c.requires.words m)
-          words c.push_reducer.new.table.words c.loop-next.next c.args.entries c.args.limit c.loop-next.spans.items c.push.new.self.items c.loop-next.lists.numbers.items c.loop-next.lists.residues.items
-          c.push_reducer.new.lists.numbers.items c.push_reducer.new.lists.residues.items c.loop-next.entries c.in_ok-span.more w c.in_ok-span.span c.loop-next.invariant.walking lt
+          words c.push_reducer.new.table.words c.loop-next.next c.args.entries c.args.limit c.loop-next.spans.items c.push.new.self.items
+          c.loop-next.lists.numbers.items c.loop-next.lists.residues.items
+          c.push_reducer.new.lists.numbers.items c.push_reducer.new.lists.residues.items c.loop-next.entries c.in_ok-span.more w
+          c.in_ok-span.span c.loop-next.invariant.walking lt
           (sym (get_or_from_slice_get words c.loop-next.next w w number)) c.in_ok-span.ensures.reduced c.in_ok-push.ensures.items;
       within = c.in_ok-span.ensures.within;
       bits = c.in_ok-span.ensures.bits ∙ c.loop-next.invariant.bits;

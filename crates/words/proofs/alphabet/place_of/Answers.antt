@@ -6,7 +6,8 @@ use Rattle.words.proofs.alphabet.place_of.Goals as goal
 pub returns-then-eq : goal.returns-then-eq
 returns-then-eq c = (
   omega arith,
-  name_here (λ name. name.items) c.args.names.now c.loop-at.at c.index-names-at.result c.args.name.now (omega arith) c.index-names-at.is (sym c.as_slice.ensures.value ∙ same_text _ _ (sym c.if-eq.true ∙ c.eq.ensures)),
+  name_here (λ name. name.items) c.args.names.now c.loop-at.at c.index-names-at.result c.args.name.now (omega arith) c.index-names-at.is
+      (sym c.as_slice.ensures.value ∙ same_text _ _ (sym c.if-eq.true ∙ c.eq.ensures)),
 )
 
 pub loop-at-preserved : goal.loop-at-preserved

@@ -7,6 +7,12 @@ overflow_add-total c = omega (arith, c.loop-letter.invariant.1, c.from-total.ens
 
 pub loop-letter-preserved : goal.loop-letter-preserved
 loop-letter-preserved c = (
-  omega (arith, c.loop-letter.invariant.0, c.from-total.ensures, c.weight.ensures.value, degree_of-more c.args.alphabet.now.weights c.args.word.now c.loop-letter.letter-index c.loop-letter-test.true),
+  omega (
+    arith,
+    c.loop-letter.invariant.0,
+    c.from-total.ensures,
+    c.weight.ensures.value,
+    degree_of-more c.args.alphabet.now.weights c.args.word.now c.loop-letter.letter-index c.loop-letter-test.true,
+  ),
   omega (arith, c.loop-letter.invariant.1, c.from-total.ensures, c.weight.ensures.small),
 )

@@ -10,6 +10,9 @@ returns c =
     let a = c.args.a.now in
     let b = c.args.b.now in
     elim c.if-a-b.branch [
-      | then-a-b w ↦ c.then.ensures ∙ ap₂ ordering_then c.cmp.ensures c.cmp-2.ensures ∙ sym (letterwise_by_front n a b (omega (arith, w.shared-is)) (omega (arith, w.shared-is, w.if-a-b.true)) (inl (sym w.shared-is)))
-      | else-a-b w ↦ c.then.ensures ∙ ap₂ ordering_then c.cmp.ensures c.cmp-2.ensures ∙ sym (letterwise_by_front n a b (omega (arith, w.shared-is, w.if-a-b.false)) (omega (arith, w.shared-is)) (inr (sym w.shared-is)))
+      | then-a-b w ↦ c.then.ensures ∙ ap₂ ordering_then c.cmp.ensures c.cmp-2.ensures
+          ∙ sym (letterwise_by_front n a b (omega (arith, w.shared-is)) (omega (arith, w.shared-is, w.if-a-b.true)) (inl (sym w.shared-is)))
+      | else-a-b w ↦ c.then.ensures ∙ ap₂ ordering_then c.cmp.ensures c.cmp-2.ensures
+          ∙ sym (letterwise_by_front n a b (omega (arith, w.shared-is, w.if-a-b.false)) (omega (arith, w.shared-is))
+          (inr (sym w.shared-is)))
     ]

@@ -7,14 +7,16 @@ returns-clause-factor_free g c =
     let given = c.in_ok-given.given in
     let basis = c.in_ok-basis.basis in
     let found = c.in_ok-basis.ensures in
-    c.lower_law.ensures.factors c.in_ok-field.field given.alphabet.weights given.relations c.setting_law.ensures (basis.done + 1) basis (record { kept = found.kept; next = refl; same_weights = found.weights; reduced = found.reduced })
+    c.lower_law.ensures.factors c.in_ok-field.field given.alphabet.weights given.relations c.setting_law.ensures (basis.done + 1) basis
+    (record { kept = found.kept; next = refl; same_weights = found.weights; reduced = found.reduced })
 
 pub returns-clause-forms : goal.returns-clause-forms
 returns-clause-forms g c =
     let given = c.in_ok-given.given in
     let basis = c.in_ok-basis.basis in
     let found = c.in_ok-basis.ensures in
-    let lower = c.lower_law.ensures.lower c.in_ok-field.field given.alphabet.weights given.relations c.setting_law.ensures (basis.done + 1) basis (record { kept = found.kept; next = refl; same_weights = found.weights; reduced = found.reduced }) in
+    let lower = c.lower_law.ensures.lower c.in_ok-field.field given.alphabet.weights given.relations c.setting_law.ensures (basis.done + 1)
+    basis (record { kept = found.kept; next = refl; same_weights = found.weights; reduced = found.reduced }) in
     below_forms c.in_ok-field.field given.alphabet.weights given.relations c.setting_law.ensures (basis.done + 1) basis.elements lower
 
 pub returns-clause-elements : goal.returns-clause-elements
@@ -22,5 +24,6 @@ returns-clause-elements g c =
     let given = c.in_ok-given.given in
     let basis = c.in_ok-basis.basis in
     let found = c.in_ok-basis.ensures in
-    let lower = c.lower_law.ensures.lower c.in_ok-field.field given.alphabet.weights given.relations c.setting_law.ensures (basis.done + 1) basis (record { kept = found.kept; next = refl; same_weights = found.weights; reduced = found.reduced }) in
+    let lower = c.lower_law.ensures.lower c.in_ok-field.field given.alphabet.weights given.relations c.setting_law.ensures (basis.done + 1)
+    basis (record { kept = found.kept; next = refl; same_weights = found.weights; reduced = found.reduced }) in
     below_residues c.in_ok-field.field given.alphabet.weights given.relations c.setting_law.ensures (basis.done + 1) basis.elements lower

@@ -8,7 +8,8 @@ contested_rows-requires-clause-reducing g c = λ κs lives.
     let ws = a.given.alphabet.weights in
     let rs = a.given.relations in
     let next : a.basis.done + 1 ≡ 4 = omega (arith, c.requires.done) in
-    let lower = c.lower_law.ensures.lower a.field ws rs c.setting_law.ensures 4 a.basis (record { kept = c.done-done.ensures.kept; next = next; same_weights = c.requires.weights; reduced = c.requires.reduced }) in
+    let lower = c.lower_law.ensures.lower a.field ws rs c.setting_law.ensures 4 a.basis
+    (record { kept = c.done-done.ensures.kept; next = next; same_weights = c.requires.weights; reduced = c.requires.reduced }) in
     reducing_closed a.field ws rs c.setting_law.ensures 4 a.basis.elements lower c.args.rows.now c.requires.rows c.args.closed.now c.requires.closed
 
 pub contested_rows-requires-clause-on_columns : goal.contested_rows-requires-clause-on_columns
@@ -17,8 +18,10 @@ contested_rows-requires-clause-on_columns g c = λ κs lives.
     let ws = a.given.alphabet.weights in
     let rs = a.given.relations in
     let next : a.basis.done + 1 ≡ 4 = omega (arith, c.requires.done) in
-    let lower = c.lower_law.ensures.lower a.field ws rs c.setting_law.ensures 4 a.basis (record { kept = c.done-done.ensures.kept; next = next; same_weights = c.requires.weights; reduced = c.requires.reduced }) in
-    rows_on_columns a.field ws rs c.setting_law.ensures 4 a.basis.elements lower c.args.rows.now c.requires.rows c.args.closed.now.columns c.requires.closed.are_columns
+    let lower = c.lower_law.ensures.lower a.field ws rs c.setting_law.ensures 4 a.basis
+    (record { kept = c.done-done.ensures.kept; next = next; same_weights = c.requires.weights; reduced = c.requires.reduced }) in
+    rows_on_columns a.field ws rs c.setting_law.ensures 4 a.basis.elements lower c.args.rows.now c.requires.rows c.args.closed.now.columns
+    c.requires.closed.are_columns
 
 pub contested_rows-requires-clause-residues : goal.contested_rows-requires-clause-residues
 contested_rows-requires-clause-residues g c = λ κs lives.
@@ -26,5 +29,6 @@ contested_rows-requires-clause-residues g c = λ κs lives.
     let ws = a.given.alphabet.weights in
     let rs = a.given.relations in
     let next : a.basis.done + 1 ≡ 4 = omega (arith, c.requires.done) in
-    let lower = c.lower_law.ensures.lower a.field ws rs c.setting_law.ensures 4 a.basis (record { kept = c.done-done.ensures.kept; next = next; same_weights = c.requires.weights; reduced = c.requires.reduced }) in
+    let lower = c.lower_law.ensures.lower a.field ws rs c.setting_law.ensures 4 a.basis
+    (record { kept = c.done-done.ensures.kept; next = next; same_weights = c.requires.weights; reduced = c.requires.reduced }) in
     rows_residues a.field ws rs c.setting_law.ensures 4 a.basis.elements lower c.args.rows.now c.requires.rows

@@ -6,7 +6,8 @@ use Rattle.ideal_laws.specs.Engine.{of_degree}
 use Rattle.worked_examples.proofs.rows.is_quadratic.Goals as goal
 
 -- one relation that leads with x*x, which has degree 2, has not degree 4
-none_of : (ws : List ℕ) (rs : List (List Term)) (r : List Term) → length rs ≡ 1 → weight_of ws 0 ≡ 1 → r ≡ get_or rs 0 r → lead_of r ≡ Some (0 ∷ 0 ∷ []) → of_degree ws 4 rs ≡ []
+none_of : (ws : List ℕ) (rs : List (List Term)) (r : List Term) → length rs ≡ 1 → weight_of ws 0 ≡ 1 → r ≡ get_or rs 0 r →
+    lead_of r ≡ Some (0 ∷ 0 ∷ []) → of_degree ws 4 rs ≡ []
 none_of ws [] r count one is lead = refl
 none_of ws ([] ∷ []) r count one is lead = refl
 none_of ws ((t ∷ f) ∷ []) r count one is lead =
@@ -19,5 +20,6 @@ none_of ws (r ∷ q ∷ rs) g count one is lead = absurd (omega (arith, count))
 pub returns-then-weight-eq1 : goal.returns-then-weight-eq1
 returns-then-weight-eq1 c h =
     let one : weight_of c.args.given.now.alphabet.weights 0 ≡ 1 = omega (arith, c.weight.ensures.value, c.if-weight-eq1.true) in
-    let none = none_of c.args.given.now.alphabet.weights c.as_slice-relations.result.now c.index-relations-0.result (omega (arith, c.if-relations-ne1.false)) one c.index-relations-0.is (c.leads_with.ensures h) in
+    let none = none_of c.args.given.now.alphabet.weights c.as_slice-relations.result.now c.index-relations-0.result
+    (omega (arith, c.if-relations-ne1.false)) one c.index-relations-0.is (c.leads_with.ensures h) in
     subst (λ (rs : List (List Term)). of_degree c.args.given.now.alphabet.weights 4 rs ≡ []) c.as_slice-relations.ensures none

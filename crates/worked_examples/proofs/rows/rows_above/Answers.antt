@@ -32,8 +32,15 @@ returns-clause-degree c =
     let b = c.args.basis.now in
     let d = c.args.d in
     let rows = c.in_ok-rows.rows.items in
-    let lower = c.lower_law.ensures.lower p ws rs c.setting_law.ensures d b (record { kept = c.done-done.ensures.kept; next = c.requires.next; same_weights = c.requires.weights; reduced = c.requires.reduced }) in
-    subst (λ (w : List ℕ). All (HasDegree w d) rows) (sym c.requires.weights) (rows_degree p ws rs c.setting_law.ensures d b.elements lower rows (returns-clause-rows c))
+    let lower = c.lower_law.ensures.lower p ws rs c.setting_law.ensures d b
+    (record {
+      kept = c.done-done.ensures.kept;
+      next = c.requires.next;
+      same_weights = c.requires.weights;
+      reduced = c.requires.reduced;
+    }) in
+    subst (λ (w : List ℕ). All (HasDegree w d) rows) (sym c.requires.weights)
+    (rows_degree p ws rs c.setting_law.ensures d b.elements lower rows (returns-clause-rows c))
 
 pub returns-clause-letters : goal.returns-clause-letters
 returns-clause-letters c =
@@ -43,5 +50,12 @@ returns-clause-letters c =
     let b = c.args.basis.now in
     let d = c.args.d in
     let rows = c.in_ok-rows.rows.items in
-    let lower = c.lower_law.ensures.lower p ws rs c.setting_law.ensures d b (record { kept = c.done-done.ensures.kept; next = c.requires.next; same_weights = c.requires.weights; reduced = c.requires.reduced }) in
-    subst (λ (w : List ℕ). All (UsesLetters (length w)) rows) (sym c.requires.weights) (rows_letters p ws rs c.setting_law.ensures d b.elements lower rows (returns-clause-rows c))
+    let lower = c.lower_law.ensures.lower p ws rs c.setting_law.ensures d b
+    (record {
+      kept = c.done-done.ensures.kept;
+      next = c.requires.next;
+      same_weights = c.requires.weights;
+      reduced = c.requires.reduced;
+    }) in
+    subst (λ (w : List ℕ). All (UsesLetters (length w)) rows) (sym c.requires.weights)
+    (rows_letters p ws rs c.setting_law.ensures d b.elements lower rows (returns-clause-rows c))

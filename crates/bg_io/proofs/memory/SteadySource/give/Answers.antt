@@ -9,5 +9,7 @@ returns-clause-bytes c =
     let count = c.min-count.result in
     let rest = drop given c.as_slice.result.now in
     let long = length c.as_slice.result.now - given in
-    let copied = c.copy_from_slice.ensures.after ∙ take-take count long rest (omega (arith, c.min-count.ensures, length-take long rest)) ∙ ap (λ (l : List ℕ). take count (drop given l)) c.as_slice.ensures.value in
-    rw (← c.self.view_is) (given_front given count _ _ _ copied (omega (arith, c.copy_from_slice.ensures.len, c.min-count.ensures, length-take count c.args.piece.now)))
+    let copied = c.copy_from_slice.ensures.after ∙ take-take count long rest (omega (arith, c.min-count.ensures, length-take long rest))
+    ∙ ap (λ (l : List ℕ). take count (drop given l)) c.as_slice.ensures.value in
+    rw (← c.self.view_is) (given_front given count _ _ _ copied (omega
+    (arith, c.copy_from_slice.ensures.len, c.min-count.ensures, length-take count c.args.piece.now)))

@@ -15,4 +15,5 @@ returns-in-Err c =
     let seen : c.terms-terms.result.now ≡ c.args.self.now = c.terms-terms.ensures.value in
     let parts = c.in-Err.ensures.position (standing c.args.word.now) (always_returns_same _ _ _ (λ a r f' called. (search rules, search rules))) in
     let between = rw seen at parts in
-    sym (total_at-between c.args.word.now c.args.self.now c.in-Err.field-0 (between (standing-rises c.args.word.now c.args.self.now c.terms-terms.ensures.form)))
+    sym (total_at-between c.args.word.now c.args.self.now c.in-Err.field-0
+    (between (standing-rises c.args.word.now c.args.self.now c.terms-terms.ensures.form)))

@@ -6,7 +6,8 @@ use Rattle.free_poly.proofs.poly.Poly.monic.Goals as goal
 
 made : (c : goal.After-loop-term) → c.loop-term.terms.items ≡ multiple_of c.args.field.now c.inv-a.result c.args.self.now
 made c =
-    let whole : length c.args.self.now ≤ c.loop-term.term-index = omega (arith, c.loop-term-test.false, ap length c.deref-term-items.ensures.value, ap length c.self.view_is) in
+    let whole : length c.args.self.now ≤ c.loop-term.term-index = omega
+    (arith, c.loop-term-test.false, ap length c.deref-term-items.ensures.value, ap length c.self.view_is) in
     c.loop-term.invariant ∙ ap (multiple_of c.args.field.now c.inv-a.result) (take_all c.loop-term.term-index c.args.self.now whole)
 
 pub invariant_of-result : goal.invariant_of-result

@@ -12,7 +12,8 @@ pub returns-clause-below : goal.returns-clause-below
 returns-clause-below c =
     let basis = c.args.self.now in
     elim c.if-d-eq0.branch [
-      | then-d-eq0 w ↦ w.first-is ∙ sym (below-zero (lead_degree basis.weights) basis.elements) ∙ ap (λ (n : ℕ). count_below basis.weights n basis.elements) (sym w.if-d-eq0.true)
+      | then-d-eq0 w ↦ w.first-is ∙ sym (below-zero (lead_degree basis.weights) basis.elements)
+          ∙ ap (λ (n : ℕ). count_below basis.weights n basis.elements) (sym w.if-d-eq0.true)
       | else-d-eq0 w ↦ w.first-is ∙ w.end-first.ensures.value ∙ sym (below-suc (lead_degree basis.weights) (c.args.d - 1) basis.elements)
           ∙ ap (λ (n : ℕ). count_below basis.weights n basis.elements) (omega (arith, w.if-d-eq0.false))
     ]

@@ -18,6 +18,15 @@ invariant_of-self-2 c =
     let room : c.self.inside.done < 64 = omega (arith, ap (λ (b : Elements). b.done) c.self.view_is, c.requires.room) in
     let items : c.self.inside.elements.items ++ c.args.elements.items ≡ c.append.new.self.items = sym c.in_ok-append.ensures.items in
     let size : length (c.self.inside.elements.items ++ c.args.elements.items) ≡ c.len.result = ap length items ∙ sym (c.len.ensures ∙ c.append.new.self.ok.0) in
-    subst (λ (n : ℕ). IsStored (record { weights = take c.self.inside.letters c.self.inside.weights; done = c.self.inside.done + 1; elements = c.append.new.self.items }) (set c.self.inside.ends (c.self.inside.done + 1) n)) size
-    (subst (λ (fs : List (List Term)). IsStored (record { weights = take c.self.inside.letters c.self.inside.weights; done = c.self.inside.done + 1; elements = fs }) (set c.self.inside.ends (c.self.inside.done + 1) (length (c.self.inside.elements.items ++ c.args.elements.items)))) items
+    subst (λ (n : ℕ). IsStored (record {
+      weights = take c.self.inside.letters c.self.inside.weights;
+      done = c.self.inside.done + 1;
+      elements = c.append.new.self.items;
+    }) (set c.self.inside.ends (c.self.inside.done + 1) n)) size
+    (subst (λ (fs : List (List Term)). IsStored (record {
+      weights = take c.self.inside.letters c.self.inside.weights;
+      done = c.self.inside.done + 1;
+      elements = fs;
+    }) (set c.self.inside.ends (c.self.inside.done + 1)
+    (length (c.self.inside.elements.items ++ c.args.elements.items)))) items
     (stored_grown _ c.args.elements.items here c.self.inside.ends c.self.invariant room))

@@ -19,7 +19,8 @@ none_reduced : (p : ℕ) (weights : List ℕ) (d : ℕ) → 2 ≤ p → (f : Lis
 none_reduced p weights d two f h =
     let w = monic-led f h.monic in
     let one = monic_total f w.0 w.1 h.inside.element.form h.monic in
-    let sum = h.inside.sum w.0 ∙ ap (λ (ms : List Multiple). total_at (flat_map terms_of ms) w.0 % p) (no_multiples p weights d h.inside.multiples h.inside.each) in
+    let sum = h.inside.sum w.0 ∙ ap (λ (ms : List Multiple). total_at (flat_map terms_of ms) w.0 % p)
+    (no_multiples p weights d h.inside.multiples h.inside.each) in
     omega (arith, ap (λ (n : ℕ). n % p) one, sum, mod-eq_of_lt {n = 1} {m = p} (omega (arith, two)), zero-mod p)
 
 -- without relations nothing is reduced
@@ -33,6 +34,8 @@ pub returns-clause-elements : goal.returns-clause-elements
 returns-clause-elements g c =
     let p = c.args.field.now in
     let weights = c.args.presentation.now.alphabet.weights in
-    let none : c.args.presentation.now.relations ≡ [] = nil_from_length c.args.presentation.now.relations (omega (arith, ap length c.as_slice-relations.ensures)) in
+    let none : c.args.presentation.now.relations ≡ [] = nil_from_length c.args.presentation.now.relations
+    (omega (arith, ap length c.as_slice-relations.ensures)) in
     subst (λ (rs : List (List Term)). IsReducedBasis p weights rs c.args._d c.from_vec.result) (sym none)
-    (subst (IsReducedBasis p weights [] c.args._d) (sym (c.from_vec.ensures ∙ c.new.ensures.items)) (empty_basis p weights c.args._d c.modulus-modulus.ensures.field.two_or_more))
+    (subst (IsReducedBasis p weights [] c.args._d) (sym (c.from_vec.ensures ∙ c.new.ensures.items))
+    (empty_basis p weights c.args._d c.modulus-modulus.ensures.field.two_or_more))

@@ -17,8 +17,10 @@ invariant_of-self-2 c =
     let new : List Node = c.push_path.new.nodes.items in
     let place : ℕ = c.attach-place.result in
     let fresh : IsFresh leads letters = subst (λ (xs : List Lead). IsFresh xs letters) (sym c.self.view_is) c.requires in
-    let attached : IsAttached old mid letters place = subst (λ (xs : List Node). IsAttached xs mid letters place) c.in_ok-reserve.ensures.items c.attach-place.ensures.attached in
-    let path : HasPath mid new (drop place letters) c.args.element = subst (λ (xs : List ℕ). HasPath mid new xs c.args.element) (take-drop_rest letters place) c.push_path.ensures in
+    let attached : IsAttached old mid letters place = subst (λ (xs : List Node). IsAttached xs mid letters place)
+    c.in_ok-reserve.ensures.items c.attach-place.ensures.attached in
+    let path : HasPath mid new (drop place letters) c.args.element =
+    subst (λ (xs : List ℕ). HasPath mid new xs c.args.element) (take-drop_rest letters place) c.push_path.ensures in
     let g = grown old mid new leads letters c.args.element place c.self.invariant.1 fresh attached path in
     let tree = IsTree-grown old new leads g.0 (drop place letters) letters c.args.element c.self.invariant.1 g.1 in
     let index = IsIndex-added leads (record { word = letters; element = c.args.element }) c.self.invariant.0 fresh in

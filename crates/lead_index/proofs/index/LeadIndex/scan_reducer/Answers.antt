@@ -7,13 +7,15 @@ pub returns-then-occurs_at : goal.returns-then-occurs_at
 returns-then-occurs_at c =
     let e = c.leads-leads.ensures in
     first_place _ _ c.loop-at.at _ c.loop-at.invariant
-    (found_lead _ _ e.index e.value _ _ c.loop-lead.lead-index c.lead-item.result _ (omega arith) c.lead-item.is c.letters.ensures (c.occurs_at.ensures.0 c.if-occurs_at.true))
+    (found_lead _ _ e.index e.value _ _ c.loop-lead.lead-index c.lead-item.result _ (omega arith) c.lead-item.is c.letters.ensures
+    (c.occurs_at.ensures.0 c.if-occurs_at.true))
 
 pub loop-lead-preserved : goal.loop-lead-preserved
 loop-lead-preserved c = (
   c.loop-lead.invariant.0,
   none_more _ _ _ c.loop-lead.lead-index c.lead-item.result c.letters.result.now (omega arith) c.lead-item.is c.letters.ensures
-      (λ o. let t : c.occurs_at.result ≡ true = c.occurs_at.ensures.1 o in let f : c.occurs_at.result ≡ false = c.if-occurs_at.false in cc) c.loop-lead.invariant.1,
+      (λ o. let t : c.occurs_at.result ≡ true = c.occurs_at.ensures.1 o in let f : c.occurs_at.result ≡ false = c.if-occurs_at.false in cc)
+      c.loop-lead.invariant.1,
 )
 
 pub loop-at-preserved : goal.loop-at-preserved

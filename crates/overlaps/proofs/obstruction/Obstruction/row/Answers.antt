@@ -27,7 +27,8 @@ add_scaled-requires-clause-residues c =
     let letters : List ℕ = c.letters-letters.result.now in
     let covered = length c.lead_at-covered.result.now in
     let within = left_within b c.lead_at-covered.ensures.kept c.args.self.now c.requires.obstruction in
-    residues-product c.args.field.now b.elements c.args.self.now.left c.element.result.now c.in_ok-first.first [] (take (length letters - covered) (drop covered letters)) c.requires.residues within c.element.ensures c.in_ok-first.ensures.product
+    residues-product c.args.field.now b.elements c.args.self.now.left c.element.result.now c.in_ok-first.first []
+    (take (length letters - covered) (drop covered letters)) c.requires.residues within c.element.ensures c.in_ok-first.ensures.product
 
 pub add_scaled-requires-clause-other_residues : goal.add_scaled-requires-clause-other_residues
 add_scaled-requires-clause-other_residues c =
@@ -35,7 +36,8 @@ add_scaled-requires-clause-other_residues c =
     let letters : List ℕ = c.letters-letters.result.now in
     let covered = length c.lead_at-covered.result.now in
     let within = right_within b c.lead_at-covered.ensures.kept c.args.self.now c.requires.obstruction in
-    residues-product c.args.field.now b.elements c.args.self.now.right c.element-2.result.now c.in_ok-second.second (take (covered - c.args.self.now.shared) letters) [] c.requires.residues within c.element-2.ensures c.in_ok-second.ensures.product
+    residues-product c.args.field.now b.elements c.args.self.now.right c.element-2.result.now c.in_ok-second.second
+    (take (covered - c.args.self.now.shared) letters) [] c.requires.residues within c.element-2.ensures c.in_ok-second.ensures.product
 
 pub returns : goal.returns
 returns c =
@@ -50,6 +52,8 @@ returns c =
     let back : take (length letters - covered) (drop covered letters) ≡ drop (length (lead_word b.elements x.left)) x.word =
     rest-all letters covered ∙ ap₂ (λ (v w : List ℕ). drop (length v) w) c.lead_at-covered.ensures.lead c.letters-letters.ensures in
     IfOk-three (λ row. IsSame p row (c.in_ok-first.first ++ scaled (c.modulus.result - 1) c.in_ok-second.second)) IsPolynomial (HasResidues p) _
-    (λ row sum form residues. is_row b kept p (c.modulus.result - 1) x c.in_ok-first.first c.in_ok-second.second (take (covered - x.shared) letters) (take (length letters - covered) (drop covered letters))
-    c.element.result.now c.element-2.result.now (ap (λ (n : ℕ). n - 1) c.modulus.ensures.value) c.element.ensures c.element-2.ensures front back c.in_ok-first.ensures.product c.in_ok-second.ensures.product row sum form residues)
+    (λ row sum form residues. is_row b kept p (c.modulus.result - 1) x c.in_ok-first.first c.in_ok-second.second
+    (take (covered - x.shared) letters) (take (length letters - covered) (drop covered letters))
+    c.element.result.now c.element-2.result.now (ap (λ (n : ℕ). n - 1) c.modulus.ensures.value) c.element.ensures c.element-2.ensures front
+    back c.in_ok-first.ensures.product c.in_ok-second.ensures.product row sum form residues)
     c.add_scaled.result c.add_scaled.ensures.sum c.add_scaled.ensures.form c.add_scaled.ensures.residues

@@ -13,5 +13,7 @@ returns c =
     let inside = c.self.inside in
     let s : State = state_of inside.words.items inside.views.items in
     let count : inside.going + sum_by one_ended s.views ≡ length s.views = c.self.invariant.ended ∙ sym (length-map inside.views.items sight_of) in
-    subst (λ (k : Machine). IsTrue (nat_eq inside.going 0) ↔ HasEnded k.problem k.state) c.self.view_is
-    (λ none. ended_from_none inside.problem s inside.going count (eqb-true inside.going 0 none), λ ended. eq-eqb inside.going 0 (none_from_ended inside.problem s inside.going count ended))
+    subst (λ (k : Machine). IsTrue (nat_eq inside.going 0) ↔ HasEnded k.problem k.state) c.self.view_is (
+      λ none. ended_from_none inside.problem s inside.going count (eqb-true inside.going 0 none),
+      λ ended. eq-eqb inside.going 0 (none_from_ended inside.problem s inside.going count ended),
+    )

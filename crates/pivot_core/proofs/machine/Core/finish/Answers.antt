@@ -17,7 +17,8 @@ invariant_of-result c =
     let run = c.self.invariant in
     let views : List View = c.self.inside.views.items in
     let s : State = state_of c.self.inside.words.items views in
-    let rule : ClaimedPivots problem (length views) s = subst (ClaimedPivots problem (length views)) (sym run.reached) (claimed_pivots problem (length views) run.setting run.events) in
+    let rule : ClaimedPivots problem (length views) s = subst (ClaimedPivots problem (length views)) (sym run.reached)
+    (claimed_pivots problem (length views) run.setting run.events) in
     let ended : HasEnded problem s = subst (λ (k : Machine). HasEnded k.problem k.state) (sym c.self.view_is) c.requires in
     record { count = rule.ranges.words; pivots = ended_pivots problem (length views) s run.setting rule ended }
 

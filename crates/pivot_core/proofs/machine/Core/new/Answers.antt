@@ -12,7 +12,8 @@ use Rattle.pivot_core.proofs.machine.Core.new.Goals as goal
 
 pub returns-clause-crew : goal.returns-clause-crew
 returns-clause-crew c =
-    sym (length-map c.in_ok-views.views.items sight_of) ∙ ap length c.in_ok-views.ensures.views ∙ length-map-range_with_len (fresh c.args.problem.m) 0 c.args.crew
+    sym (length-map c.in_ok-views.views.items sight_of) ∙ ap length c.in_ok-views.ensures.views
+    ∙ length-map-range_with_len (fresh c.args.problem.m) 0 c.args.crew
 
 pub invariant_of-result : goal.invariant_of-result
 invariant_of-result c =
@@ -21,10 +22,16 @@ invariant_of-result c =
     let views : List View = c.in_ok-views.views.items in
     let crew : length views ≡ c.args.crew = returns-clause-crew c in
     let words : c.in_ok-words.words.items ≡ zeros (1 + m + problem.n * m) = c.in_ok-words.ensures.items_if_clones_equal (λ y e. e) in
-    let fresh_all : map sight_of views ≡ map (fresh m) (range_with_len 0 (length views)) = c.in_ok-views.ensures.views ∙ ap (λ (k : ℕ). map (fresh m) (range_with_len 0 k)) (sym crew) in
-    let none : sum_by one_ended (map sight_of views) ≡ 0 = ap (sum_by one_ended) fresh_all ∙ none_summed problem c.args.crew one_ended 0 (length views) (λ i. refl) in
+    let fresh_all : map sight_of views ≡ map (fresh m) (range_with_len 0 (length views)) = c.in_ok-views.ensures.views
+    ∙ ap (λ (k : ℕ). map (fresh m) (range_with_len 0 k)) (sym crew) in
+    let none : sum_by one_ended (map sight_of views) ≡ 0 = ap (sum_by one_ended) fresh_all
+    ∙ none_summed problem c.args.crew one_ended 0 (length views) (λ i. refl) in
     record {
-      setting = record { field = subst IsFieldModulus c.requires.field c.modulus-modulus.ensures.field; some = omega (arith, crew, c.requires.some); few = omega (arith, crew, c.requires.few) };
+      setting = record {
+        field = subst IsFieldModulus c.requires.field c.modulus-modulus.ensures.field;
+        some = omega (arith, crew, c.requires.some);
+        few = omega (arith, crew, c.requires.few);
+      };
       same = c.in_ok-field.ensures ∙ c.requires.field;
       events = [];
       reached = λ i. record { words = words i; views = fresh_all i };

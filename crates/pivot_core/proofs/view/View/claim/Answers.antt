@@ -19,7 +19,8 @@ returns-then-old-eq0-clause-met c =
     ∙ ap zeros (ap length (c.as_mut_slice.ensures.value ∙ ap (λ (w : Sight). w.current) c.keep_call.ensures.kept) ∙ c.requires.may.sight.current) in
     let now : record (sight_of c.keep_call.new.self) { phase = phase.Fresh; current = _ } ≡ after_won problem v c.args.old c.args.row c.args.column =
     λ i. record (c.keep_call.ensures.kept i) { phase = phase.Fresh; current = cleared i } in
-    subst (λ (w : Sight). IsMet problem v c.args.old w (reply.Claimed answer.Won)) (sym now) (meets_won problem v c.args.old c.args.row c.args.column c.requires.phase c.if-old-eq0.true)
+    subst (λ (w : Sight). IsMet problem v c.args.old w (reply.Claimed answer.Won)) (sym now)
+    (meets_won problem v c.args.old c.args.row c.args.column c.requires.phase c.if-old-eq0.true)
 
 pub returns-clause-met : goal.returns-clause-met
 returns-clause-met c =
@@ -34,11 +35,18 @@ returns-clause-met c =
     ∙ (λ i. record v {
       steps = v.steps + 1;
       clock = clock i;
-      calls = v.calls ++ record { seat = v.seat; stamp = clock i; column = c.args.column; row = c.args.row; answer = answer.Lost (c.row_told.ensures i) (c.stamp_told.ensures i) } ∷ [];
+      calls = v.calls ++ record {
+        seat = v.seat;
+        stamp = clock i;
+        column = c.args.column;
+        row = c.args.row;
+        answer = answer.Lost (c.row_told.ensures i) (c.stamp_told.ensures i);
+      } ∷ [];
       phase = phase.Reading c.args.row c.args.column (row_in old) c.args.column;
       seen = zeros problem.m;
     }) in
-    let told : reply.Claimed (answer.Lost c.row_told.result c.stamp_told.result) ≡ reply.Claimed (answer.Lost (row_in old) (stamp_in old)) = ap₂ (λ (r n : ℕ). reply.Claimed (answer.Lost r n)) c.row_told.ensures c.stamp_told.ensures in
+    let told : reply.Claimed (answer.Lost c.row_told.result c.stamp_told.result) ≡ reply.Claimed (answer.Lost (row_in old) (stamp_in old)) =
+    ap₂ (λ (r n : ℕ). reply.Claimed (answer.Lost r n)) c.row_told.ensures c.stamp_told.ensures in
     subst (λ (w : Sight). IsMet problem v old w (reply.Claimed (answer.Lost c.row_told.result c.stamp_told.result))) (sym now)
     (subst (λ (r : Reply). IsMet problem v old (after_lost problem v old c.args.row c.args.column) r) (sym told)
     (meets_lost problem v old c.args.row c.args.column c.requires.phase c.if-old-eq0.false))

@@ -8,7 +8,8 @@ use Rattle.pivot_core.proofs.MetRows.{meets_draw, meets_end}
 use Rattle.pivot_core.proofs.view.View.draw.Goals as goal
 
 pub returns-then-old-from-clause-met : goal.returns-then-old-from-clause-met
-returns-then-old-from-clause-met c = meets_end c.args.problem.now (sight_of c.args.self.now) c.args.old c.requires.phase (omega (arith, c.from.ensures, c.if-old-from.true))
+returns-then-old-from-clause-met c = meets_end c.args.problem.now (sight_of c.args.self.now) c.args.old c.requires.phase
+    (omega (arith, c.from.ensures, c.if-old-from.true))
 
 pub returns-clause-met : goal.returns-clause-met
 returns-clause-met c =

@@ -15,11 +15,25 @@ returns-clause-met c =
     let v : Sight = sight_of c.args.self.now in
     let old : ℕ = c.args.old in
     let clock : c.later-self.result ≡ max v.clock (stamp_in old) = c.later-self.ensures ∙ ap (max v.clock) c.stamp_told-stamp.ensures in
-    let same : record v { steps = v.steps + 1; clock = c.later-self.result; phase = phase.Reading c.args.row c.args.column c.row_told-holder.result c.args.column; seen = zeros (length v.seen) }
+    let same : record v {
+      steps = v.steps + 1;
+      clock = c.later-self.result;
+      phase = phase.Reading c.args.row c.args.column c.row_told-holder.result c.args.column;
+      seen = zeros (length v.seen);
+    }
     ≡ begin problem (record v { steps = v.steps + 1; clock = max v.clock (stamp_in old) }) c.args.row c.args.column (row_in old) =
-    λ i. record v { steps = v.steps + 1; clock = clock i; phase = phase.Reading c.args.row c.args.column (c.row_told-holder.ensures i) c.args.column; seen = zeros (c.requires.may.sight.seen i) } in
-    let now : sight_of c.begin.new.self ≡ begin problem (record v { steps = v.steps + 1; clock = max v.clock (stamp_in old) }) c.args.row c.args.column (row_in old) = c.begin.ensures.begun ∙ same in
-    let told : reply.Held c.row_told-holder.result c.stamp_told-stamp.result ≡ reply.Held (row_in old) (stamp_in old) = ap₂ (λ (r n : ℕ). reply.Held r n) c.row_told-holder.ensures c.stamp_told-stamp.ensures in
+    λ i. record v {
+      steps = v.steps + 1;
+      clock = clock i;
+      phase = phase.Reading c.args.row c.args.column (c.row_told-holder.ensures i)
+          c.args.column;
+      seen = zeros (c.requires.may.sight.seen i);
+    } in
+    let now : sight_of c.begin.new.self ≡ begin problem (record v { steps = v.steps + 1; clock = max v.clock (stamp_in old) }) c.args.row
+    c.args.column (row_in old) = c.begin.ensures.begun ∙ same in
+    let told : reply.Held c.row_told-holder.result c.stamp_told-stamp.result ≡ reply.Held (row_in old) (stamp_in old) =
+    ap₂ (λ (r n : ℕ). reply.Held r n) c.row_told-holder.ensures c.stamp_told-stamp.ensures in
     subst (λ (w : Sight). IsMet problem v old w (reply.Held c.row_told-holder.result c.stamp_told-stamp.result)) (sym now)
-    (subst (λ (r : Reply). IsMet problem v old (begin problem (record v { steps = v.steps + 1; clock = max v.clock (stamp_in old) }) c.args.row c.args.column (row_in old)) r) (sym told)
+    (subst (λ (r : Reply). IsMet problem v old (begin problem (record v { steps = v.steps + 1; clock = max v.clock (stamp_in old) })
+    c.args.row c.args.column (row_in old)) r) (sym told)
     (meets_held problem v old c.args.row c.args.column c.requires.phase c.if-old-eq0.false))

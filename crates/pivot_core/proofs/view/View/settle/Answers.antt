@@ -27,13 +27,18 @@ returns-in-Some-clause-settled c =
     let y : List ℕ = c.args.self.now.current.items in
     let at : c.in-Some.column ≡ lead_at y = c.in-Some.ensures.0 ∙ ap lead_at c.as_slice.ensures.value in
     let within : c.in-Some.column < length y = omega (arith, c.in-Some.ensures.1, ap length c.as_slice.ensures.value) in
-    let entry : c.index.result.now ≡ get_or y (lead_at y) 0 = get_or_read y c.in-Some.column c.index.result.now within c.index.ensures 0 ∙ ap (λ (k : ℕ). get_or y k 0) at in
-    let one : product_of p (get_or y (lead_at y) 0) c.inv-a.result ≡ 1 = ap (λ (q : ℕ). product_of q (get_or y (lead_at y) 0) c.inv-a.result) (sym c.requires.field) ∙ ap (λ (k : ℕ). product_of c.args.field.now k c.inv-a.result) (sym entry) ∙ c.inv-a.ensures.one in
+    let entry : c.index.result.now ≡ get_or y (lead_at y) 0 = get_or_read y c.in-Some.column c.index.result.now within c.index.ensures 0
+    ∙ ap (λ (k : ℕ). get_or y k 0) at in
+    let one : product_of p (get_or y (lead_at y) 0) c.inv-a.result ≡ 1 =
+    ap (λ (q : ℕ). product_of q (get_or y (lead_at y) 0) c.inv-a.result) (sym c.requires.field)
+    ∙ ap (λ (k : ℕ). product_of c.args.field.now k c.inv-a.result) (sym entry) ∙ c.inv-a.ensures.one in
     let scaled : c.scale.new.multiple ≡ made_monic p y =
     c.scale.ensures ∙ ap (λ (ys : List ℕ). map (λ r. product_of c.args.field.now c.inv-a.result r) ys) c.as_slice-in-Some.ensures.value
-    ∙ ap (λ (q : ℕ). map (λ r. product_of q c.inv-a.result r) y) c.requires.field ∙ made_monic-is p y c.inv-a.result (omega (arith, c.inv-a.ensures.residue, c.requires.field)) one in
+    ∙ ap (λ (q : ℕ). map (λ r. product_of q c.inv-a.result r) y) c.requires.field
+    ∙ made_monic-is p y c.inv-a.result (omega (arith, c.inv-a.ensures.residue, c.requires.field)) one in
     looking-is c.args.problem.now (sight_of c.args.self.now) y c.args.row c.in-Some.column _ _ (omega (arith, at, within, c.requires.current)) at
-    (ap items_of c.swap.ensures.x_after ∙ with_items_is c.args.self.now.seen c.scale.new.multiple (omega (arith, c.scale.auto.multiple, c.as_mut_slice.ensures.len)) ∙ scaled)
+    (ap items_of c.swap.ensures.x_after ∙ with_items_is c.args.self.now.seen c.scale.new.multiple
+    (omega (arith, c.scale.auto.multiple, c.as_mut_slice.ensures.len)) ∙ scaled)
     (with_items_is c.swap.new.y c.clear.new.row (omega (arith, c.clear.auto.row, c.as_mut_slice-in-Some.ensures.len)) ∙ c.clear.ensures
     ∙ ap zeros (ap length (c.as_mut_slice-in-Some.ensures.value ∙ ap items_of c.swap.ensures.y_after) ∙ c.requires.current))
 
@@ -42,4 +47,6 @@ returns-in-None-clause-settled c =
     let y : List ℕ = c.args.self.now.current.items in
     let past : length y ≤ lead_at y = subst (λ (ys : List ℕ). length ys ≤ lead_at ys) c.as_slice.ensures.value c.in-None.ensures in
     fresh-is c.args.problem.now (sight_of c.args.self.now) y c.args.row _ (omega (arith, past, c.requires.current)) c.requires.current
-    (with_items_is c.args.self.now.seen c.clear-in-None.new.row (omega (arith, c.clear-in-None.auto.row, c.as_mut_slice-in-None.ensures.len)) ∙ c.clear-in-None.ensures ∙ ap zeros (ap length c.as_mut_slice-in-None.ensures.value ∙ c.requires.seen))
+    (with_items_is c.args.self.now.seen c.clear-in-None.new.row (omega
+    (arith, c.clear-in-None.auto.row, c.as_mut_slice-in-None.ensures.len)) ∙ c.clear-in-None.ensures
+    ∙ ap zeros (ap length c.as_mut_slice-in-None.ensures.value ∙ c.requires.seen))

@@ -16,8 +16,10 @@ returns-in-Looking c = leaves_look c.args.problem.now (sight_of c.args.self.now)
 pub returns-in-Putting : goal.returns-in-Putting
 returns-in-Putting c =
     let problem = c.args.problem.now in
-    let numbers : IsPhase problem.m problem.n (phase.Putting c.in-Putting.row c.in-Putting.column c.in-Putting.at) = subst (IsPhase problem.m problem.n) c.in-Putting.is c.requires.may.sight.numbers in
-    let entry = get_or_read c.args.self.now.current.items c.in-Putting.at c.index.result.now (omega (arith, numbers.2, c.requires.may.sight.current)) c.index.ensures 0 in
+    let numbers : IsPhase problem.m problem.n (phase.Putting c.in-Putting.row c.in-Putting.column c.in-Putting.at) =
+    subst (IsPhase problem.m problem.n) c.in-Putting.is c.requires.may.sight.numbers in
+    let entry = get_or_read c.args.self.now.current.items c.in-Putting.at c.index.result.now
+    (omega (arith, numbers.2, c.requires.may.sight.current)) c.index.ensures 0 in
     subst (LeavesWord problem (sight_of c.args.self.now) c.args.old) (sym (c.from.ensures ∙ entry))
     (leaves_put problem (sight_of c.args.self.now) c.args.old c.in-Putting.row c.in-Putting.column c.in-Putting.at c.in-Putting.is)
 
@@ -27,7 +29,9 @@ returns-then-old-eq0 c =
     (leaves_won c.args.problem.now (sight_of c.args.self.now) c.args.old c.in-Claiming.row c.in-Claiming.column c.in-Claiming.is c.if-old-eq0.true)
 
 pub returns-else-old-eq0 : goal.returns-else-old-eq0
-returns-else-old-eq0 c = leaves_lost c.args.problem.now (sight_of c.args.self.now) c.args.old c.in-Claiming.row c.in-Claiming.column c.in-Claiming.is c.if-old-eq0.false
+returns-else-old-eq0 c = leaves_lost c.args.problem.now (sight_of c.args.self.now) c.args.old c.in-Claiming.row c.in-Claiming.column
+    c.in-Claiming.is c.if-old-eq0.false
 
 pub returns-in-Reading : goal.returns-in-Reading
-returns-in-Reading c = leaves_read c.args.problem.now (sight_of c.args.self.now) c.args.old c.in-Reading.row c.in-Reading.column c.in-Reading.holder c.in-Reading.at c.in-Reading.is
+returns-in-Reading c = leaves_read c.args.problem.now (sight_of c.args.self.now) c.args.old c.in-Reading.row c.in-Reading.column
+    c.in-Reading.holder c.in-Reading.at c.in-Reading.is

@@ -19,9 +19,11 @@ elements_of-requires-clause-letters g c =
     let lists = c.in_ok-lists.lists.items in
     let d = c.args.d in
     let st = c.setting_law.ensures in
-    let columns : c.as_slice-columns.result.now ≡ words_of_degree weights d = c.as_slice-columns.ensures ∙ get_or_read lists d c.index.result.now (omega (arith, c.in_ok-lists.ensures.size)) c.index.ensures []
+    let columns : c.as_slice-columns.result.now ≡ words_of_degree weights d = c.as_slice-columns.ensures
+    ∙ get_or_read lists d c.index.result.now (omega (arith, c.in_ok-lists.ensures.size)) c.index.ensures []
     ∙ columns_are c.args.field.now weights c.args.presentation.now.relations st d lists c.in_ok-lists.ensures in
-    subst (All (IsOver (length weights))) (sym columns) (All-from_members (IsOver (length weights)) (words_of_degree weights d) (λ w m. (words_of_degree-says weights st.are_weights d w m).0))
+    subst (All (IsOver (length weights))) (sym columns) (All-from_members (IsOver (length weights)) (words_of_degree weights d)
+    (λ w m. (words_of_degree-says weights st.are_weights d w m).0))
 
 pub elements_of-requires-clause-small : goal.elements_of-requires-clause-small
 elements_of-requires-clause-small g c =
@@ -29,7 +31,8 @@ elements_of-requires-clause-small g c =
     let lists = c.in_ok-lists.lists.items in
     let d = c.args.d in
     let st = c.setting_law.ensures in
-    let columns : c.as_slice-columns.result.now ≡ words_of_degree weights d = c.as_slice-columns.ensures ∙ get_or_read lists d c.index.result.now (omega (arith, c.in_ok-lists.ensures.size)) c.index.ensures []
+    let columns : c.as_slice-columns.result.now ≡ words_of_degree weights d = c.as_slice-columns.ensures
+    ∙ get_or_read lists d c.index.result.now (omega (arith, c.in_ok-lists.ensures.size)) c.index.ensures []
     ∙ columns_are c.args.field.now weights c.args.presentation.now.relations st d lists c.in_ok-lists.ensures in
     subst (All (λ w. degree_of weights w ≤ 64)) (sym columns) (All-from_members (λ w. degree_of weights w ≤ 64) (words_of_degree weights d) (λ w m.
     omega (arith, (words_of_degree-says weights st.are_weights d w m).1, c.requires.small)))
@@ -40,10 +43,12 @@ elements_of-requires-clause-one_degree g c =
     let lists = c.in_ok-lists.lists.items in
     let d = c.args.d in
     let st = c.setting_law.ensures in
-    let columns : c.as_slice-columns.result.now ≡ words_of_degree weights d = c.as_slice-columns.ensures ∙ get_or_read lists d c.index.result.now (omega (arith, c.in_ok-lists.ensures.size)) c.index.ensures []
+    let columns : c.as_slice-columns.result.now ≡ words_of_degree weights d = c.as_slice-columns.ensures
+    ∙ get_or_read lists d c.index.result.now (omega (arith, c.in_ok-lists.ensures.size)) c.index.ensures []
     ∙ columns_are c.args.field.now weights c.args.presentation.now.relations st d lists c.in_ok-lists.ensures in
     let all = all_of_degree weights st.are_weights d in
-    subst (AllPairs (λ (v w : List ℕ). degree_of weights v ≡ degree_of weights w)) (sym columns) (λ i j x below within. all i x (omega (arith, below, within)) ∙ sym (all j x within))
+    subst (AllPairs (λ (v w : List ℕ). degree_of weights v ≡ degree_of weights w)) (sym columns)
+    (λ i j x below within. all i x (omega (arith, below, within)) ∙ sym (all j x within))
 
 pub elements_of-requires-clause-falling : goal.elements_of-requires-clause-falling
 elements_of-requires-clause-falling g c =
@@ -51,7 +56,8 @@ elements_of-requires-clause-falling g c =
     let lists = c.in_ok-lists.lists.items in
     let d = c.args.d in
     let st = c.setting_law.ensures in
-    let columns : c.as_slice-columns.result.now ≡ words_of_degree weights d = c.as_slice-columns.ensures ∙ get_or_read lists d c.index.result.now (omega (arith, c.in_ok-lists.ensures.size)) c.index.ensures []
+    let columns : c.as_slice-columns.result.now ≡ words_of_degree weights d = c.as_slice-columns.ensures
+    ∙ get_or_read lists d c.index.result.now (omega (arith, c.in_ok-lists.ensures.size)) c.index.ensures []
     ∙ columns_are c.args.field.now weights c.args.presentation.now.relations st d lists c.in_ok-lists.ensures in
     subst (AllPairs IsLetterwiseGreater) (sym columns) (words_of_degree-falling weights st.are_weights d)
 
@@ -66,11 +72,20 @@ returns-clause-elements g c =
     let d = c.args.d in
     let st = c.setting_law.ensures in
     let al = subst (λ (ls : List (List (List ℕ))). AreLists weights d ls (d + 1)) (sym c.as_slice.ensures.value) c.in_ok-lists.ensures in
-    let columns : c.as_slice-columns.result.now ≡ list_at lists d = c.as_slice-columns.ensures ∙ get_or_read items d c.index.result.now (omega (arith, c.in_ok-lists.ensures.size)) c.index.ensures []
+    let columns : c.as_slice-columns.result.now ≡ list_at lists d = c.as_slice-columns.ensures
+    ∙ get_or_read items d c.index.result.now (omega (arith, c.in_ok-lists.ensures.size)) c.index.ensures []
     ∙ ap (λ (ls : List (List (List ℕ))). list_at ls d) (sym c.as_slice.ensures.value) in
-    let lower = c.lower_law.ensures.lower p weights relations st d below (record { kept = c.done-done.ensures.kept; next = sym c.requires.next; same_weights = c.requires.weights; reduced = c.requires.reduced }) in
+    let lower = c.lower_law.ensures.lower p weights relations st d below
+    (record {
+      kept = c.done-done.ensures.kept;
+      next = sym c.requires.next;
+      same_weights = c.requires.weights;
+      reduced = c.requires.reduced;
+    }) in
     let table = c.in_ok-table.table.items in
-    let given = subst (λ (t : List (List ℕ)). AreElements p c.as_slice-columns.result.now t below.elements c.in_ok-elements.elements.items (length c.as_slice-columns.result.now)) c.as_slice-2.ensures.value c.in_ok-elements.ensures in
+    let given = subst (λ (t : List (List ℕ)). AreElements p c.as_slice-columns.result.now t below.elements c.in_ok-elements.elements.items
+    (length c.as_slice-columns.result.now)) c.as_slice-2.ensures.value c.in_ok-elements.ensures in
     let are = subst (λ (ws : List (List ℕ)). AreElements p ws table below.elements c.in_ok-elements.elements.items (length ws)) columns given in
     subst (IsReducedBasis p weights relations d) (sym c.from_vec.ensures)
-    (basis_from_elements p weights relations st d lists al table c.in_ok-table.ensures.table c.in_ok-table.ensures.built below.elements lower c.in_ok-elements.elements.items are)
+    (basis_from_elements p weights relations st d lists al table c.in_ok-table.ensures.table c.in_ok-table.ensures.built below.elements
+    lower c.in_ok-elements.elements.items are)

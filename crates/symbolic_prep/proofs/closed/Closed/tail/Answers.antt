@@ -17,18 +17,28 @@ returns-in-Some c =
     let s : Span = c.in-Some.span in
     let lt : c.args.column < length spans = omega (arith, c.requires, ap (λ t. length t.columns) c.self.view_is, c.self.invariant.size) in
     let here : get_or spans c.args.column c.index.result.now ≡ Some s = sym c.index.ensures ∙ c.in-Some.is in
-    let within : IsSpanWithin (length words) numbers residues (Some s) = subst (IsSpanWithin (length words) numbers residues) here (c.self.invariant.within c.args.column c.index.result.now lt) in
+    let within : IsSpanWithin (length words) numbers residues (Some s) =
+    subst (IsSpanWithin (length words) numbers residues) here (c.self.invariant.within c.args.column c.index.result.now lt) in
     let ns = slice_range numbers s.start s.end in
     let rs = slice_range residues s.start s.end in
     let reducer : get_or c.args.self.now.reducers c.args.column None ≡ Some (terms_on words ns rs) =
-    ap (λ t. get_or t.reducers c.args.column None) (sym c.self.view_is) ∙ get_or-map (reducer_on words numbers residues) spans c.args.column c.index.result.now None lt ∙ ap (reducer_on words numbers residues) here in
-    let terms = tail_terms words ns rs (λ k d inside. within.3 k d inside) (omega (arith, range_long numbers s.start s.end within.0 within.1, range_long residues s.start s.end within.0 within.2)) in
-    let ns_same : drop 1 ns ≡ take (s.end - (s.start + 1)) (drop (s.start + 1) c.as_slice.result.now) = sym (range_tail numbers s.start s.end within.0) ∙ ap (λ (xs : List ℕ). take (s.end - (s.start + 1)) (drop (s.start + 1) xs)) (sym c.as_slice.ensures.value) in
-    let rs_same : drop 1 rs ≡ take (s.end - (s.start + 1)) (drop (s.start + 1) c.as_slice-in-Some.result.now) = sym (range_tail residues s.start s.end within.0) ∙ ap (λ (xs : List ℕ). take (s.end - (s.start + 1)) (drop (s.start + 1) xs)) (sym c.as_slice-in-Some.ensures.value) in
+    ap (λ t. get_or t.reducers c.args.column None) (sym c.self.view_is)
+    ∙ get_or-map (reducer_on words numbers residues) spans c.args.column c.index.result.now None lt
+    ∙ ap (reducer_on words numbers residues) here in
+    let terms = tail_terms words ns rs (λ k d inside. within.3 k d inside)
+    (omega (arith, range_long numbers s.start s.end within.0 within.1, range_long residues s.start s.end within.0 within.2)) in
+    let ns_same : drop 1 ns ≡ take (s.end - (s.start + 1)) (drop (s.start + 1) c.as_slice.result.now) =
+    sym (range_tail numbers s.start s.end within.0) ∙ ap (λ (xs : List ℕ). take (s.end - (s.start + 1)) (drop (s.start + 1) xs))
+    (sym c.as_slice.ensures.value) in
+    let rs_same : drop 1 rs ≡ take (s.end - (s.start + 1)) (drop (s.start + 1) c.as_slice-in-Some.result.now) =
+    sym (range_tail residues s.start s.end within.0) ∙ ap (λ (xs : List ℕ). take (s.end - (s.start + 1)) (drop (s.start + 1) xs))
+    (sym c.as_slice-in-Some.ensures.value) in
     let columns : words ≡ c.args.self.now.columns = ap (λ t. t.columns) c.self.view_is in (
       terms_on words ns rs,
       reducer,
-      subst (λ (ws : List (List ℕ)). AreTerms ws (take (s.end - (s.start + 1)) (drop (s.start + 1) c.as_slice.result.now)) (take (s.end - (s.start + 1)) (drop (s.start + 1) c.as_slice-in-Some.result.now)) (below_lead (terms_on words ns rs))) columns
-          (subst (λ (xs : List ℕ). AreTerms words xs (take (s.end - (s.start + 1)) (drop (s.start + 1) c.as_slice-in-Some.result.now)) (below_lead (terms_on words ns rs))) ns_same
+      subst (λ (ws : List (List ℕ)). AreTerms ws (take (s.end - (s.start + 1)) (drop (s.start + 1) c.as_slice.result.now))
+          (take (s.end - (s.start + 1)) (drop (s.start + 1) c.as_slice-in-Some.result.now)) (below_lead (terms_on words ns rs))) columns
+          (subst (λ (xs : List ℕ). AreTerms words xs (take (s.end - (s.start + 1)) (drop (s.start + 1) c.as_slice-in-Some.result.now))
+          (below_lead (terms_on words ns rs))) ns_same
           (subst (λ (ys : List ℕ). AreTerms words (drop 1 ns) ys (below_lead (terms_on words ns rs))) rs_same terms)),
     )

@@ -9,6 +9,11 @@ unpack-requires-clause-fits c =
     let bits = c.self.inside.packing.bits in
     let room = c.self.inside.packing.room in
     let keys : List ℕ = c.self.inside.keys.items in
-    let lt : c.args.column < length keys = omega (arith, c.requires, ap (λ (ws : List (List ℕ)). length ws) c.self.view_is, length-map keys (unpacked (2 ^ bits) room)) in
+    let lt : c.args.column < length keys = omega (
+      arith,
+      c.requires,
+      ap (λ (ws : List (List ℕ)). length ws) c.self.view_is,
+      length-map keys (unpacked (2 ^ bits) room),
+    ) in
     let here : c.index.result.now ≡ get_or keys c.args.column 0 = c.index.ensures ∙ get_or_default keys c.args.column c.index.result.now 0 lt in
     omega (arith, here, key_below bits room (get_or keys c.args.column 0) (c.self.invariant.table.each c.args.column 0 lt))
