@@ -7,8 +7,6 @@ mod listing;
 mod longer;
 mod next;
 mod order;
-mod piece;
-mod place;
 #[cfg(test)]
 mod tests;
 mod text;

@@ -4,9 +4,9 @@ ghost use Rattle.lead_index.specs.Leads.{IsIndexOf};
 ghost use Rattle.anick_chains.specs.BasisTips.{leads_of};
 ghost use Rattle.anick_chains.specs.Walk.{ends_of, next_pieces, unless_stands};
 
-use crate::place::{first_place, lead_at};
 use ideal_laws::Basis;
 use lead_index::LeadIndex;
+use overlaps::{first_place, lead_at};
 use std::alloc::Global;
 use words::{NoMemory, Word, occurs_at};
 

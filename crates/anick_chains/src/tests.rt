@@ -4,11 +4,11 @@ ghost use Rattle.free_poly.specs.Poly.{IsMonic};
 ghost use Rattle.free_poly.specs.Terms.{HasDegree, HasResidues, UsesLetters};
 ghost use Rattle.ideal_laws.specs.Closure.{IsFactorFree};
 
-use crate::place::lead_at;
 use crate::{Chain, ChainFault, chains};
 use field_table::{Field, listed_moduli_law};
 use free_poly::{Poly, Term};
 use ideal_laws::Basis;
+use overlaps::lead_at;
 use std::alloc::Global;
 use std::process::Abort;
 use std::test::Fail;

@@ -8,7 +8,7 @@ ghost use Rattle.anick_chains.specs.Listed.{pieces_of};
 ghost use Rattle.anick_chains.specs.Texts.{HasShape, block_text, chain_line, chain_text, count_line};
 
 use crate::chain::Chain;
-use crate::piece::{push_number, push_word};
+use poly_writer::{push_number, push_word};
 use std::alloc::Global;
 use words::{Alphabet, NoMemory, Word};
 

@@ -6,7 +6,6 @@ mod certificate;
 mod factors;
 mod laws;
 mod leaders;
-mod piece;
 mod product;
 mod row;
 mod sum;

@@ -7,10 +7,10 @@ ghost use Rattle.cofactors.specs.Texts.{answer_text, factor_text, first_text, mi
 ghost use Rattle.cofactors.specs.Texts.{residue_text};
 
 use crate::certificate::Certificate;
-use crate::piece::{push_number, push_word};
 use crate::product::Product;
 use field_table::Field;
 use free_poly::{Poly, Term};
+use poly_writer::{push_number, push_size, push_term, push_word};
 use std::alloc::Global;
 use words::{Alphabet, NoMemory};
 
@@ -76,36 +76,6 @@ fn push_first(
     push_minus(text, field, term.coefficient)?;
     push_size(text, size(field, term.coefficient))?;
     push_word(text, alphabet, term.word.letters())
-}
-
-/// A term after the first, with its balanced coefficient.
-fn push_term(
-    text: &mut Vec<u8>,
-    alphabet: &Alphabet,
-    field: &Field,
-    term: &Term,
-) -> Result<(), NoMemory>
-    requires letters { IsOver (length alphabet.now.weights) term.now.word }
-    requires residue { term.now.coefficient < field.now }
-    ensures { IfOk result (λ _. text.new.items ≡ text.old.items ++ term_text alphabet.now.names field.now term.now) }
-{
-    if term.coefficient <= field.modulus() / 2 {
-        text.extend_from_slice(b"+")?;
-    } else {
-        text.extend_from_slice(b"-")?;
-    }
-    push_size(text, size(field, term.coefficient))?;
-    push_word(text, alphabet, term.word.letters())
-}
-
-fn push_size(text: &mut Vec<u8>, size: u32) -> Result<(), NoMemory>
-    ensures { IfOk result (λ _. text.new.items ≡ text.old.items ++ size_text size) }
-{
-    if size != 1 {
-        push_number(text, u64::from(size))?;
-        text.extend_from_slice(b"*")?;
-    }
-    Ok(())
 }
 
 /// The size of the balanced residue.

@@ -11,3 +11,4 @@ mod tests;
 
 pub use listing::{OverlapFault, obstructions};
 pub use obstruction::Obstruction;
+pub use place::{first_place, lead_at};

@@ -7,8 +7,8 @@ use ideal_laws::Basis;
 use std::cmp::Ordering;
 use words::letterwise;
 
-/// The leading word of an element.
-pub(crate) fn lead_at(basis: &Basis, place: u32) -> &[u8]
+/// The leading word of the element at this place of the basis.
+pub fn lead_at(basis: &Basis, place: u32) -> &[u8]
     requires { place < length basis.now.elements }
     ensures kept { IsKept basis.now }
     ensures lead { result.now ≡ lead_word basis.now.elements place }
@@ -23,8 +23,8 @@ pub(crate) fn lead_at(basis: &Basis, place: u32) -> &[u8]
 }
 
 /// Among places with falling leading words, the first one whose leading word does not stand above those that begin
-/// with the word.
-pub(crate) fn first_place(basis: &Basis, first: u32, end: u32, word: &[u8]) -> u32
+/// with the word: found by halving.
+pub fn first_place(basis: &Basis, first: u32, end: u32, word: &[u8]) -> u32
     requires ordered { first ≤ end }
     requires within { end ≤ length basis.now.elements }
     requires falling { IsFalling basis.now.elements first end }

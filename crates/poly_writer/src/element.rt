@@ -121,8 +121,9 @@ fn push_poly(
     }
 }
 
-/// A term after the first, with its balanced coefficient.
-fn push_term(
+/// Adds a term after the first to the text: its sign, the size of its balanced coefficient unless it is 1, and its
+/// word.
+pub fn push_term(
     text: &mut Vec<u8>,
     alphabet: &Alphabet,
     field: &Field,
@@ -143,7 +144,8 @@ fn push_term(
     push_word(text, alphabet, term.word.letters())
 }
 
-fn push_size(text: &mut Vec<u8>, size: u32) -> Result<(), NoMemory>
+/// Adds the size of a coefficient and a star to the text, and nothing where it is 1.
+pub fn push_size(text: &mut Vec<u8>, size: u32) -> Result<(), NoMemory>
     ensures { IfOk result (λ _. text.new.items ≡ text.old.items ++ size_text size) }
 {
     if size != 1 {

@@ -5,18 +5,16 @@ ghost use Rattle.poly_writer.specs.Texts.{run_text, word_text};
 use itoa::Buffer;
 use words::{Alphabet, NoMemory};
 
-pub(crate) fn push_number(text: &mut Vec<u8>, number: u64) -> Result<(), NoMemory>
+/// Adds the decimal digits of a number to the text.
+pub fn push_number(text: &mut Vec<u8>, number: u64) -> Result<(), NoMemory>
     ensures { IfOk result (λ _. text.new.items ≡ text.old.items ++ decimal number) }
 {
     let mut digits = Buffer::new();
     text.extend_from_slice(digits.format(number).as_bytes())
 }
 
-pub(crate) fn push_word(
-    text: &mut Vec<u8>,
-    alphabet: &Alphabet,
-    word: &[u8],
-) -> Result<(), NoMemory>
+/// Adds a word to the text as its runs of equal letters, `x^2*y`; the empty word adds nothing.
+pub fn push_word(text: &mut Vec<u8>, alphabet: &Alphabet, word: &[u8]) -> Result<(), NoMemory>
     requires { IsOver (length alphabet.now.weights) word.now }
     ensures { IfOk result (λ _. text.new.items ≡ text.old.items ++ word_text alphabet.now.names word.now) }
 {
