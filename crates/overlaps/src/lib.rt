@@ -6,8 +6,6 @@
 mod listing;
 mod obstruction;
 mod place;
-#[cfg(test)]
-mod tests;
 
 pub use listing::{OverlapFault, obstructions};
 pub use obstruction::Obstruction;

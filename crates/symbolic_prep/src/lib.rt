@@ -15,8 +15,6 @@ mod packed;
 mod packing;
 mod pending;
 mod table;
-#[cfg(test)]
-mod tests;
 mod walk;
 
 pub use closed::Closed;

@@ -184,6 +184,18 @@ fn regular_algebras_have_their_coefficients(rt: HostRuntime) -> Result<(), Fail>
     Ok(())
 }
 
+/// Words of degree 22 over five letters are too long to be packed into 64 bits.
+#[test]
+fn long_words_have_their_bases(rt: HostRuntime) -> Result<(), Fail> {
+    let alloc = rt.alloc();
+    let field = residues(&rt, alloc, 101)?;
+    let given = presented(&rt, alloc, &field, "vars a,b,c,d,e; a^22-b^22;")?;
+    let mut engine = SeqEngine::new(Limits::standard());
+    let basis = run(&rt, alloc, &mut engine, &field, &given, 23)?;
+    let elements = "vars a,b,c,d,e; a^22-b^22, a*b^22-b^22*a;";
+    assert_basis(&rt, alloc, &field, &basis, elements, "long")
+}
+
 /// In degree 4 the algebra of x^2-y*x has 5 normal words.
 #[test]
 fn too_many_normal_words_are_refused(rt: HostRuntime) -> Result<(), Fail> {

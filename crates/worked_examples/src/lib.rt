@@ -9,6 +9,8 @@ mod engines;
 #[cfg(test)]
 mod modules;
 #[cfg(test)]
+mod monomials;
+#[cfg(test)]
 mod presented;
 #[cfg(test)]
 mod problems;

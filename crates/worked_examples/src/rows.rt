@@ -38,6 +38,20 @@ fn assert_columns(
     Ok(())
 }
 
+/// Of four columns the second and the third have reducers that go on with -1 at the last, and the others have none.
+fn assert_tails(rt: &impl Abort, closed: &Closed) {
+    assert!(rt; closed.len() == 4);
+    for column in [1, 2] {
+        match closed.tail(column) {
+            Some((columns, residues)) => assert!(rt;
+                columns == [3].as_slice() && residues == [100].as_slice()
+            ),
+            None => panic!(rt; "{column}"),
+        }
+    }
+    assert!(rt; closed.tail(0).is_none() && closed.tail(3).is_none());
+}
+
 /// The rows of the obstructions.
 fn rows_of(
     alloc: Global,
@@ -206,6 +220,7 @@ fn assert_closures<R: Abort + Threads + Sync>(
                     &[&[0, 1, 1, 0], &[1, 0, 1, 0], &[1, 1, 0, 0], &[1, 1, 1, 0]],
                 )?;
                 assert_words(rt, closed.contested(), &[&[0, 1, 1, 0], &[1, 1, 1, 0]]);
+                assert_tails(rt, &closed);
                 assert_cells(rt, alloc, algebra, rows, &closed)?;
             }
             Err(
