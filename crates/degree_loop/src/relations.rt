@@ -3,6 +3,7 @@ ghost use Rattle.words.specs.Words.{IsOver, degree_of};
 ghost use Rattle.free_poly.specs.Terms.{UsesLetters};
 ghost use Rattle.ideal_laws.specs.Engine.{of_degree};
 
+use degree_words::degree_within;
 use free_poly::Poly;
 use ideal_laws::Presentation;
 use std::alloc::Global;
@@ -52,17 +53,4 @@ fn has_degree(alphabet: &Alphabet, relation: &Poly, d: u32) -> bool
         Some(lead) => degree_within(alphabet, lead.letters(), d + 1) == d,
         None => false,
     }
-}
-
-/// The degree of a word, where it is at most this number, and else this number.
-fn degree_within(alphabet: &Alphabet, word: &[u8], most: u32) -> u32
-    requires small { most ≤ 65 }
-    requires letters { IsOver (length alphabet.now.weights) word.now }
-    ensures { result ≡ min (degree_of alphabet.now.weights word.now) most }
-{
-    let mut degree = 0;
-    for letter in word {
-        degree = most.min(degree + u32::from(alphabet.weight(*letter)));
-    }
-    degree
 }

@@ -11,7 +11,7 @@ use crate::relations::{count_of_degree, relations_of_degree};
 use field_table::Field;
 use free_poly::Poly;
 use ideal_laws::{Basis, EngineFault, LimitKind, Presentation};
-use overlaps::{Obstruction, OverlapFault, obstructions};
+use overlaps::{Obstruction, OverlapFault, obstruction_rows, obstructions};
 use std::alloc::Global;
 use words::NoMemory;
 
@@ -43,7 +43,7 @@ pub(crate) fn rows_of_degree(
     let given = count_of_degree(presentation, d);
     let found = obstructions_within(alloc, below, d, given, most)?;
     let mut rows = relations_of_degree(alloc, presentation, d)?;
-    let mut others = overlap_rows(alloc, field, below, found.as_slice())?;
+    let mut others = obstruction_rows(alloc, field, below, found.as_slice())?;
     rows.append(&mut others)?;
     Ok(rows)
 }
@@ -86,24 +86,4 @@ fn too_many(d: u32, most: u32) -> EngineFault
         degree: d,
         value: u64::from(most) + 1,
     }
-}
-
-/// The rows of the obstructions.
-fn overlap_rows(
-    alloc: Global,
-    field: &Field,
-    below: &Basis,
-    found: &[Obstruction],
-) -> Result<Vec<Poly>, NoMemory>
-    requires obstructions { All (IsOf below.now.weights below.now.elements) found.now }
-    requires residues { All (HasResidues field.now) below.now.elements }
-    ensures { IfOk result (λ rows. AllZip (IsRowFor field.now below.now.weights below.now.elements) found.now
-        rows.items) }
-{
-    let mut rows = Vec::with_capacity(alloc, found.len())?;
-    for obstruction in found {
-        let row = obstruction.row(alloc, field, below)?;
-        rows.push(row)?;
-    }
-    Ok(rows)
 }

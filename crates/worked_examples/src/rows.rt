@@ -13,7 +13,7 @@ use field_table::Field;
 use free_poly::Poly;
 use ideal_laws::{Basis, EngineFault, LimitKind, Limits, Presentation, lower_law, setting_law};
 use lead_index::index_of;
-use overlaps::{Obstruction, OverlapFault, obstructions};
+use overlaps::{Obstruction, OverlapFault, obstruction_rows, obstructions};
 use row_store::contested_rows;
 use std::alloc::Global;
 use std::process::Abort;
@@ -52,26 +52,6 @@ fn assert_tails(rt: &impl Abort, closed: &Closed) {
     assert!(rt; closed.tail(0).is_none() && closed.tail(3).is_none());
 }
 
-/// The rows of the obstructions.
-fn rows_of(
-    alloc: Global,
-    field: &Field,
-    basis: &Basis,
-    found: &[Obstruction],
-) -> Result<Vec<Poly>, NoMemory>
-    requires obstructions { All (IsOf basis.now.weights basis.now.elements) found.now }
-    requires residues { All (HasResidues field.now) basis.now.elements }
-    ensures { IfOk result (λ rows. AllZip (IsRowFor field.now basis.now.weights basis.now.elements) found.now
-        rows.items) }
-{
-    let mut rows = Vec::with_capacity(alloc, found.len())?;
-    for obstruction in found {
-        let row = obstruction.row(alloc, field, basis)?;
-        rows.push(row)?;
-    }
-    Ok(rows)
-}
-
 /// The rows of the degree above those of a reduced basis, where no relation has this degree.
 fn rows_above(
     alloc: Global,
@@ -96,7 +76,7 @@ fn rows_above(
     lower_law();
     setting_law(field, given);
     let _done = basis.done();
-    let rows = rows_of(alloc, field, basis, found)?;
+    let rows = obstruction_rows(alloc, field, basis, found)?;
     Ok(rows)
 }
 

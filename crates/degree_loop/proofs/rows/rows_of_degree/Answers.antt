@@ -30,8 +30,8 @@ returns-in_err-found-clause-limit c = λ kind degree value e.
       ),
     )
 
-pub overlap_rows-requires-clause-obstructions : goal.overlap_rows-requires-clause-obstructions
-overlap_rows-requires-clause-obstructions c =
+pub obstruction_rows-requires-clause-obstructions : goal.obstruction_rows-requires-clause-obstructions
+obstruction_rows-requires-clause-obstructions c =
     let below = c.args.below.now in
     subst (All (IsOf below.weights below.elements)) (sym c.as_slice.ensures.value)
     (each_is below.weights below.elements c.args.d c.in_ok-found.found.items c.in_ok-found.ensures.listed)

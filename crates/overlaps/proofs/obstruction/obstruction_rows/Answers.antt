@@ -4,7 +4,7 @@ use Rattle.std.proofs.lemmas.List.{take_more}
 use Rattle.std.proofs.lemmas.Slice.Zip.{all_zipped_more}
 use Rattle.overlaps.specs.declared.obstruction.Obstruction.{Obstruction}
 use Rattle.overlaps.specs.Listed.{IsRowFor}
-use Rattle.worked_examples.proofs.rows.rows_of.Goals as goal
+use Rattle.overlaps.proofs.obstruction.obstruction_rows.Goals as goal
 
 pub loop-obstruction-preserved : goal.loop-obstruction-preserved
 loop-obstruction-preserved c =

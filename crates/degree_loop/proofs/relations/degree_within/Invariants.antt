@@ -1,6 +1,0 @@
-use Rattle.std.proofs.Common.{◌≡◌, min, take}
-use Rattle.words.specs.Words.{degree_of}
-use Rattle.degree_loop.proofs.relations.degree_within.Given as goal
-
-abbrev pub invariant-loop-letter : goal.invariant-loop-letter
-invariant-loop-letter l = l.degree ≡ min (degree_of l.alphabet.weights (take l.letter-index l.word)) l.most
