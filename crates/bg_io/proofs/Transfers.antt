@@ -6,7 +6,7 @@ use Rattle.std.specs.declared.option.Option.{Option}
 use Rattle.std.specs.declared.option.Option.TheVariants.{None, Some}
 use Rattle.std.specs.Io.KnownBytes.{Appends, Consumes, Keeps}
 use Rattle.std.proofs.KnownBytes.{Appends-trans, Appends-kept, Consumes-trans}
-use Rattle.bg_io.specs.Ends.{IsCutShort, Loses, LosesAtMost, RoomFalls}
+use Rattle.bg_io.specs.Ends.{CountsAtMost, CountsGained, CountsTaken, IsCutShort, Loses, LosesAtMost, RoomFalls}
 
 -- what was taken of the front, and then of the rest, is a longer front
 pub Appends-more : (a b c : Option (List ℕ)) (m n : ℕ) (xs : List ℕ) → Appends a b (take m xs) → Appends b c (take n (drop m xs)) →
@@ -18,6 +18,16 @@ RoomFalls-more None b c m n p q = tt
 RoomFalls-more (Some r) None c m n p q = absurd p
 RoomFalls-more (Some r) (Some s) None m n p q = absurd q
 RoomFalls-more (Some r) (Some s) (Some t) m n p q = omega (arith, p, q)
+
+pub CountsAtMost-none : (a : Option ℕ) → CountsAtMost a a 0
+CountsAtMost-none None = tt
+CountsAtMost-none (Some n) = (omega arith, omega arith)
+
+pub CountsAtMost-more : (a b c : Option ℕ) (m n most : ℕ) → CountsAtMost a b m → CountsAtMost b c n → m + n ≤ most → CountsAtMost a c most
+CountsAtMost-more None b c m n most p q le = tt
+CountsAtMost-more (Some x) None c m n most p q le = absurd p
+CountsAtMost-more (Some x) (Some y) None m n most p q le = absurd q
+CountsAtMost-more (Some x) (Some y) (Some z) m n most p q le = (omega (arith, p.0, q.0), omega (arith, p.1, q.1, le))
 
 -- a text of which not all was taken is cut short
 pub cut_short : (a b c : Option (List ℕ)) (m : ℕ) (xs : List ℕ) → m < length xs → Appends a b (take m xs) → Keeps b c →
@@ -31,6 +41,15 @@ cut_short a b c m xs within p k = (
   },
   Appends-kept a b c (take m xs) p k,
 )
+
+-- a call that took nothing of the rest is the one call more
+pub counts_failed : (a b c : Option (List ℕ)) (x y z : Option ℕ) (m : ℕ) (xs : List ℕ) → m < length xs → Appends a b (take m xs) → Keeps b c →
+    CountsAtMost x y m → CountsAtMost y z 1 → CountsGained a c x z 1
+counts_failed a b c x y z m xs within p k q r = record {
+  gained = take m xs;
+  appended = Appends-kept a b c (take m xs) p k;
+  counted = CountsAtMost-more x y z m 1 (length (take m xs) + 1) q r (omega (arith, within, length-take m xs));
+}
 
 -- what is left of a piece is cut by no length
 pub whole_rest : (n m : ℕ) (xs : List ℕ) → n ≤ length xs - m → take n (take (length xs - m) (drop m xs)) ≡ take n (drop m xs)
@@ -61,4 +80,13 @@ LosesAtMost-more a b c n limit text piece p q within = record {
   taken = text ++ take n piece;
   long = omega (arith, length-append text (take n piece), length-take n piece, within);
   gone = Consumes-trans a b c text (take n piece) p q;
+}
+
+-- one more piece was taken by one more call
+pub CountsTaken-more : (a b c : Option (List ℕ)) (x y z : Option ℕ) (n : ℕ) (text piece : List ℕ) → Consumes a b text →
+    Consumes b c (take n piece) → CountsAtMost x y (length text) → CountsAtMost y z 1 → CountsTaken a c x z
+CountsTaken-more a b c x y z n text piece p q r s = record {
+  taken = text ++ take n piece;
+  gone = Consumes-trans a b c text (take n piece) p q;
+  counted = CountsAtMost-more x y z (length text) 1 (length (text ++ take n piece) + 1) r s (omega (arith, length-append text (take n piece)));
 }

@@ -1,7 +1,7 @@
 -- Sources and sinks of bytes that count their faults.
 use Rattle.std.specs.Prelude.{ℕ, ◌≡◌, ◌≢◌, ◌+◌, ◌-◌, ◌^◌, ◌≤◌, ◌<◌, min, List, [], ◌++◌, length, Result, OnErr, OnOk}
 use Rattle.std.specs.Prelude.{IfOk}
-use Rattle.std.specs.Io.KnownBytes.{Consumes}
+use Rattle.std.specs.Io.KnownBytes.{Appends, Consumes}
 use Rattle.std.specs.declared.option.Option.{Option}
 use Rattle.std.specs.declared.option.Option.TheVariants.{None, Some}
 
@@ -29,6 +29,24 @@ RoomFalls (Some room) (Some left) n = left + n ≡ room
 abbrev pub HasRoom : Option ℕ → ℕ → Type 0
 HasRoom None n = ⊥
 HasRoom (Some room) n = n ≤ room
+
+-- where a number of calls was told before, one is told now, and it is greater by at most so many
+abbrev pub CountsAtMost : Option ℕ → Option ℕ → ℕ → Type 0
+CountsAtMost None now most = Unit {0}
+CountsAtMost (Some before) None most = ⊥
+CountsAtMost (Some before) (Some now) most = (before ≤ now) × (now ≤ before + most)
+
+-- at most one call more than bytes that are gone from the front of what was left, where both are told
+pub record CountsTaken (left rest : Option (List ℕ)) (before now : Option ℕ) : Type 0 where
+  pub taken : List ℕ
+  pub gone : Consumes left rest taken
+  pub counted : CountsAtMost before now (length taken + 1)
+
+-- at most so many more calls than bytes that were gained, where both are told
+pub record CountsGained (held more : Option (List ℕ)) (before now : Option ℕ) (spare : ℕ) : Type 0 where
+  pub gained : List ℕ
+  pub appended : Appends held more gained
+  pub counted : CountsAtMost before now (length gained + spare)
 
 -- a write takes some of a piece that is not empty
 abbrev pub TakesSome : {E : Type 0} → Result ℕ E → List ℕ → Type 0

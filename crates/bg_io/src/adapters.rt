@@ -35,6 +35,8 @@ impl<R: Read> Source for StdSource<R> {
 
     ghost faults = { λ s. s.faults };
 
+    ghost calls = { λ _. None };
+
     fn read(&mut self, piece: &mut [u8]) -> Result<usize, Failed>
         ensures bound { ReadsAtMost result piece.new }
         ensures bytes { ReadConsumes (R.remaining self.old.inner) (R.remaining self.new.inner) result piece.new }
@@ -84,6 +86,8 @@ impl<W: Write> Sink for StdSink<W> {
     ghost room = { λ _. None };
 
     ghost faults = { λ s. s.faults };
+
+    ghost calls = { λ _. None };
 
     fn write(&mut self, piece: &[u8]) -> Result<usize, Failed>
         ensures bound { TakesSome result piece.now }

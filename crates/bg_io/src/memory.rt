@@ -1,5 +1,5 @@
 ghost use Rattle.std.specs.Prelude.{◌≡◌, ◌<◌, ◌+◌, ◌↔◌, ℕ, List, [], ◌++◌, min, length, take, Ok, IfOk, IsErr};
-ghost use Rattle.std.specs.Prelude.{IsOk, OnErr, Some};
+ghost use Rattle.std.specs.Prelude.{IsOk, None, OnErr, Some};
 ghost use Rattle.std.specs.Io.{ReadsAtMost};
 ghost use Rattle.std.specs.Io.KnownBytes.{ReadConsumes, WriteAppends};
 ghost use Rattle.bg_io.specs.Ends.{HasCause, HasRoom, RoomFalls, TakesSome};
@@ -53,6 +53,8 @@ impl Source for SteadySource {
     ghost left = { λ s. Some s };
 
     ghost faults = { λ _. 0 };
+
+    ghost calls = { λ _. None };
 
     fn read(&mut self, piece: &mut [u8]) -> Result<usize, Failed>
         ensures bound { ReadsAtMost result piece.new }
@@ -110,6 +112,8 @@ impl Sink for FixedSink {
     ghost room = { λ s. Some s.room };
 
     ghost faults = { λ s. s.faults };
+
+    ghost calls = { λ _. None };
 
     fn write(&mut self, piece: &[u8]) -> Result<usize, Failed>
         ensures bound { TakesSome result piece.now }

@@ -2,7 +2,7 @@ ghost use Rattle.std.specs.Prelude.{◌≡◌, ◌<◌, ◌≤◌, ◌↔◌, []
 ghost use Rattle.std.specs.Prelude.{None, is_err, Contains};
 ghost use Rattle.std.specs.Io.{ReadsAtMost};
 ghost use Rattle.std.specs.Io.KnownBytes.{ReadConsumes, WriteAppends};
-ghost use Rattle.bg_io.specs.Ends.{HasCause, HasRoom, RoomFalls, TakesSome, one_more};
+ghost use Rattle.bg_io.specs.Ends.{CountsAtMost, HasCause, HasRoom, RoomFalls, TakesSome, one_more};
 ghost use Rattle.bg_io.specs.Memory.{FailsNext, after_call, new_plan};
 
 use crate::ends::{Failed, Sink, Source};
@@ -54,6 +54,7 @@ impl FailurePlan {
         ensures next { IsTrue result ↔ FailsNext self.old }
         ensures after { self.new ≡ after_call self.old result }
         ensures later { self.old.faults ≤ self.new.faults }
+        ensures counted { CountsAtMost (Some self.old.calls) (Some self.new.calls) 1 }
     {
         self.calls = self.calls.saturating_add(1);
         let fails = has_number(self.failing.as_slice(), self.calls);
@@ -115,10 +116,13 @@ impl Source for MemorySource {
 
     ghost faults = { λ s. s.plan.faults };
 
+    ghost calls = { λ s. Some s.plan.calls };
+
     fn read(&mut self, piece: &mut [u8]) -> Result<usize, Failed>
         ensures bound { ReadsAtMost result piece.new }
         ensures bytes { ReadConsumes (Some self.old.left) (Some self.new.left) result piece.new }
         ensures cause { HasCause self.old.plan.faults self.new.plan.faults result }
+        ensures calls { CountsAtMost (Some self.old.plan.calls) (Some self.new.plan.calls) 1 }
         ensures empty { piece.old ≡ [] → (result ≡ Ok 0) × (self.new ≡ self.old) }
         ensures fails { IsErr result ↔ ((0 < length piece.new) × FailsNext self.old.plan) }
         ensures count { IfOk result (λ n. n ≡ min (min (length piece.new) self.old.plan.piece) (length self.old.left)) }
@@ -176,10 +180,13 @@ impl Sink for MemorySink {
 
     ghost faults = { λ s. s.plan.faults };
 
+    ghost calls = { λ s. Some s.plan.calls };
+
     fn write(&mut self, piece: &[u8]) -> Result<usize, Failed>
         ensures bound { TakesSome result piece.now }
         ensures bytes { WriteAppends (Some self.old.held) (Some self.new.held) result piece.now }
         ensures cause { HasCause self.old.plan.faults self.new.plan.faults result }
+        ensures calls { CountsAtMost (Some self.old.plan.calls) (Some self.new.plan.calls) 1 }
         ensures empty { piece.now ≡ [] → (result ≡ Ok 0) × (self.new ≡ self.old) }
 
         // Want of memory may stand in the place of Ok.

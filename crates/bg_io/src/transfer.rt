@@ -1,6 +1,6 @@
-ghost use Rattle.std.specs.Prelude.{◌≡◌, ◌≢◌, ◌<◌, ◌≤◌, ◌+◌, ◌↔◌, ℕ, List, length, Err, IfOk, OnErr, OnOk};
+ghost use Rattle.std.specs.Prelude.{◌≡◌, ◌≢◌, ◌<◌, ◌≤◌, ◌+◌, ◌↔◌, ℕ, List, length, Err, IfOk, MatchResult, OnErr, OnOk};
 ghost use Rattle.std.specs.Io.KnownBytes.{Appends, Consumes, IsAtEnd};
-ghost use Rattle.bg_io.specs.Ends.{HasCause, HasRoom, IsCutShort, Loses, LosesAtMost, RoomFalls, Rose};
+ghost use Rattle.bg_io.specs.Ends.{CountsAtMost, CountsGained, CountsTaken, HasCause, HasRoom, IsCutShort, Loses, LosesAtMost, RoomFalls, Rose};
 
 use crate::ends::{Sink, Source};
 use std::alloc::{AllocError, Global};
@@ -42,6 +42,13 @@ pub fn read_all<S: Source>(
 
     ensures cause { result ≡ Err ReadAllFault.ReadFault → Rose (S.faults source.old) (S.faults source.new) }
     ensures kept { result ≢ Err ReadAllFault.ReadFault → S.faults source.new ≡ S.faults source.old }
+
+    // Each read but the last takes at least one byte, and none is made after one that failed.
+    ensures calls { CountsAtMost (S.calls source.old) (S.calls source.new) (limit + 1) }
+    ensures calls_taken { CountsTaken (S.left source.old) (S.left source.new) (S.calls source.old)
+        (S.calls source.new) }
+    ensures calls_ok { IfOk result (λ text. CountsAtMost (S.calls source.old) (S.calls source.new)
+        (length text.items + 1)) }
 {
     let limit = limit as usize;
     let mut text = Vec::new(alloc);
@@ -77,6 +84,12 @@ pub fn write_all<K: Sink>(sink: &mut K, bytes: &[u8]) -> Result<(), WriteFault>
         × Appends (K.held sink.old) (K.held sink.new) gained) }
     ensures taken { OnErr result (HasRoom (K.room sink.old) (length bytes.now) → ⊥) }
     ensures cause { HasCause (K.faults sink.old) (K.faults sink.new) result }
+
+    // Each write but a failed one takes at least one byte.
+    ensures calls { CountsAtMost (K.calls sink.old) (K.calls sink.new) (length bytes.now) }
+    ensures calls_gained { MatchResult result
+        (λ _. CountsGained (K.held sink.old) (K.held sink.new) (K.calls sink.old) (K.calls sink.new) 0)
+        (λ _. CountsGained (K.held sink.old) (K.held sink.new) (K.calls sink.old) (K.calls sink.new) 1) }
 {
     let mut done = 0;
     while done < bytes.len() {

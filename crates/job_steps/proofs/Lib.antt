@@ -6,3 +6,4 @@ pub mod Ended
 pub mod DegreeLines
 pub mod Counted
 pub mod Statuses
+pub mod Writes

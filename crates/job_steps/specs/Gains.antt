@@ -1,7 +1,7 @@
 -- What a sink gains of a text that is written to it.
-use Rattle.std.specs.Prelude.{ℕ, ◌≡◌, List, Option, length}
+use Rattle.std.specs.Prelude.{ℕ, ◌≡◌, List, Option, Result, MatchResult, length}
 use Rattle.std.specs.Io.KnownBytes.{Appends}
-use Rattle.bg_io.specs.Ends.{HasRoom, IsCutShort, RoomFalls, Rose}
+use Rattle.bg_io.specs.Ends.{CountsGained, HasRoom, IsCutShort, RoomFalls, Rose}
 use Rattle.job_steps.specs.declared.print.PrintFault.{PrintFault}
 use Rattle.job_steps.specs.declared.print.PrintFault.TheVariants.{Limit, WriteFault, NoMemory}
 use Rattle.job_steps.specs.Progress.{HasLinesBelow, IsBeginning, IsDue, IsReach, IsStoppedBy, IsText, Reach, Task}
@@ -28,6 +28,11 @@ pub record GainsSome (held more : Option (List ℕ)) (text : List ℕ) : Type 0 
   pub gained : List ℕ
   pub appended : Appends held more gained
   pub beginning : IsBeginning gained text
+
+-- at most as many writes were made as bytes were gained, and one more where it ended with a fault
+abbrev pub CountsWrites : {T E : Type 0} → Option (List ℕ) → Option (List ℕ) → Option ℕ → Option ℕ → Result T E → Type 0
+CountsWrites held more calls later result =
+    MatchResult result (λ _. CountsGained held more calls later 0) (λ _. CountsGained held more calls later 1)
 
 -- why a text was not written, and what was gained of it
 abbrev pub IsUnwritten : Option (List ℕ) → Option (List ℕ) → Option ℕ → ℕ → ℕ → List ℕ → PrintFault → Type 0

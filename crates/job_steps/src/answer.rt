@@ -1,4 +1,5 @@
 ghost use Rattle.std.specs.Prelude.{◌≡◌, ◌≢◌, []};
+ghost use Rattle.bg_io.specs.Ends.{CountsGained};
 ghost use Rattle.job_steps.specs.declared.status.Status.TheVariants.{Limit};
 ghost use Rattle.job_steps.specs.Statuses.{IsAnswered, IsOwn, IsThis};
 
@@ -38,6 +39,7 @@ pub fn write_answer<K: Sink>(answer: Answer, out: &mut K) -> Status
         (K.faults out.old) (K.faults out.new) result }
     ensures nothing { answer.text ≡ [] → out.new ≡ out.old }
     ensures steady { result ≢ Status.WriteFault → K.faults out.new ≡ K.faults out.old }
+    ensures calls { CountsGained (K.held out.old) (K.held out.new) (K.calls out.old) (K.calls out.new) 1 }
 {
     let text = answer.text.as_slice();
     if text.is_empty() {

@@ -1,6 +1,6 @@
 ghost use Rattle.std.specs.Prelude.{◌≡◌, ◌≢◌, All, Err, IfOk, MatchResult};
 ghost use Rattle.free_poly.specs.Terms.{HasResidues};
-ghost use Rattle.bg_io.specs.Ends.{LosesAtMost};
+ghost use Rattle.bg_io.specs.Ends.{CountsAtMost, CountsTaken, LosesAtMost};
 ghost use Rattle.job_steps.specs.Inputs.{IsInputEnd, IsTaken, ReadsInput};
 
 use crate::status::{InputProblem, Status};
@@ -26,6 +26,9 @@ pub fn read_input<S: Source>(
         (IsTaken (S.left source.old) (S.left source.new)) }
     ensures residues { IfOk result (λ given. All (HasResidues field.now) given.relations) }
     ensures kept { result ≢ Err Status.ReadFault → S.faults source.new ≡ S.faults source.old }
+    ensures calls { CountsAtMost (S.calls source.old) (S.calls source.new) 1048577 }
+    ensures calls_taken { CountsTaken (S.left source.old) (S.left source.new) (S.calls source.old)
+        (S.calls source.new) }
 {
     let bytes = match read_all(alloc, source, TEXT_LIMIT) {
         Ok(bytes) => bytes,

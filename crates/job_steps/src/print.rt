@@ -9,7 +9,7 @@ ghost use Rattle.ideal_laws.specs.Engine.{Elements, IsReducedUpto, of_degree};
 ghost use Rattle.ideal_laws.specs.Kept.{IsKept};
 ghost use Rattle.ideal_laws.specs.Limits.{standard_limits};
 ghost use Rattle.poly_writer.specs.Texts.{degree_text, element_line, series_text};
-ghost use Rattle.job_steps.specs.Gains.{GainsAll, HasPrinted, IsUndone, IsUnwritten};
+ghost use Rattle.job_steps.specs.Gains.{CountsWrites, GainsAll, HasPrinted, IsUndone, IsUnwritten};
 ghost use Rattle.job_steps.specs.Printing.{IsBasisUndone, IsNextUndone, IsSeriesUndone, IsWholeSeries, OfNext, task_of};
 ghost use Rattle.job_steps.specs.Progress.{IsBasisSoFar, whole};
 ghost use Rattle.job_steps.specs.Traces.{ArePrintable, OfNextTrace, OfTrace, Tells};
@@ -89,6 +89,7 @@ pub fn print_job<R: Threads + Sync, E: DegreeEngine, K: Sink, T: Sink>(
         asked.trace e (Tells (T.held err.old) (T.held err.new) (T.faults err.old) (T.faults err.new) failed.old
         failed.new))) }
     ensures steady { result ≢ Err PrintFault.WriteFault → K.faults out.new ≡ K.faults out.old }
+    ensures calls { CountsWrites (K.held out.old) (K.held out.new) (K.calls out.old) (K.calls out.new) result }
 {
     setting_law(field, given);
     let basis = print_basis(rt, alloc, engine, field, given, asked, out, err, failed)?;
@@ -133,6 +134,7 @@ fn print_basis<R: Threads + Sync, E: DegreeEngine, K: Sink, T: Sink>(
         asked.trace e (Tells (T.held err.old) (T.held err.new) (T.faults err.old) (T.faults err.new) failed.old
         failed.new))) }
     ensures steady { result ≢ Err PrintFault.WriteFault → K.faults out.new ≡ K.faults out.old }
+    ensures calls { CountsWrites (K.held out.old) (K.held out.new) (K.calls out.old) (K.calls out.new) result }
 {
     let mut basis = Basis::new(alloc, &given.alphabet);
     for _degree in 0..asked.bound {
@@ -179,6 +181,7 @@ fn print_next<R: Threads + Sync, E: DegreeEngine, K: Sink, T: Sink>(
         (OfNextTrace (E.may_account engine.old) field.now given.now basis.old asked.trace
         (Tells (T.held err.old) (T.held err.new) (T.faults err.old) (T.faults err.new) failed.old failed.new))) }
     ensures steady { result ≢ Err PrintFault.WriteFault → K.faults out.new ≡ K.faults out.old }
+    ensures calls { CountsWrites (K.held out.old) (K.held out.new) (K.calls out.old) (K.calls out.new) result }
 
     ensures kinds { E.kinds engine.new ≡ E.kinds engine.old }
     ensures accounts { (p : ℕ) (rs : Presentation) (b : Elements) (e : ℕ) (a : Account) →
@@ -240,6 +243,7 @@ fn write_degree<K: Sink>(
         (degree_text alphabet.now.names field.now basis.now.done
         (of_degree basis.now.weights basis.now.done basis.now.elements))) }
     ensures steady { result ≢ Err PrintFault.WriteFault → K.faults out.new ≡ K.faults out.old }
+    ensures calls { CountsWrites (K.held out.old) (K.held out.new) (K.calls out.old) (K.calls out.new) result }
 {
     let d = basis.done();
     let (first, end) = basis.of_degree(d);
@@ -276,6 +280,7 @@ fn write_elements<K: Sink>(
         (K.faults out.old) (K.faults out.new)
         (flat_map (element_line alphabet.now.names field.now) (slice_range basis.now.elements first end))) }
     ensures steady { result ≢ Err PrintFault.WriteFault → K.faults out.new ≡ K.faults out.old }
+    ensures calls { CountsWrites (K.held out.old) (K.held out.new) (K.calls out.old) (K.calls out.new) result }
 {
     let _done = basis.done();
     for place in first..end {
@@ -303,6 +308,7 @@ fn write_element<K: Sink>(
         (K.faults out.old) (K.faults out.new)
         (element_line alphabet.now.names field.now element.now)) }
     ensures steady { result ≢ Err PrintFault.WriteFault → K.faults out.new ≡ K.faults out.old }
+    ensures calls { CountsWrites (K.held out.old) (K.held out.new) (K.calls out.old) (K.calls out.new) result }
 {
     let line = element_line(alloc, alphabet, field, element)?;
     match write_text(out, line.as_slice()) {
@@ -331,6 +337,7 @@ fn print_series<K: Sink>(
         standard_limits.normal_words basis.now.done (K.held out.old) (K.held out.new) (K.room out.old)
         (K.faults out.old) (K.faults out.new)) }
     ensures steady { result ≢ Err PrintFault.WriteFault → K.faults out.new ≡ K.faults out.old }
+    ensures calls { CountsWrites (K.held out.old) (K.held out.new) (K.calls out.old) (K.calls out.new) result }
 {
     setting_law(field, given);
     lower_law();
@@ -366,6 +373,7 @@ fn write_series<K: Sink>(alloc: Global, numbers: &[u64], out: &mut K) -> Result<
     ensures unwritten { IfErr result (IsUnwritten (K.held out.old) (K.held out.new) (K.room out.old)
         (K.faults out.old) (K.faults out.new) (series_text numbers.now)) }
     ensures steady { result ≢ Err PrintFault.WriteFault → K.faults out.new ≡ K.faults out.old }
+    ensures calls { CountsWrites (K.held out.old) (K.held out.new) (K.calls out.old) (K.calls out.new) result }
 {
     let text = series_text(alloc, numbers)?;
     match write_text(out, text.as_slice()) {
@@ -380,6 +388,7 @@ fn write_text<K: Sink>(out: &mut K, text: &[u8]) -> Result<(), PrintFault>
     ensures unwritten { IfErr result (IsUnwritten (K.held out.old) (K.held out.new) (K.room out.old)
         (K.faults out.old) (K.faults out.new) text.now) }
     ensures steady { result ≢ Err PrintFault.WriteFault → K.faults out.new ≡ K.faults out.old }
+    ensures calls { CountsWrites (K.held out.old) (K.held out.new) (K.calls out.old) (K.calls out.new) result }
 {
     match write_all(out, text) {
         Ok(()) => Ok(()),

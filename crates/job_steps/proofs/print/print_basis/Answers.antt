@@ -7,6 +7,7 @@ use Rattle.job_steps.proofs.Gaining.{all_behind, all_none}
 use Rattle.job_steps.proofs.DegreeLines.{if_err}
 use Rattle.job_steps.proofs.Printed.{so_far_next, stands_start, undone_next}
 use Rattle.job_steps.proofs.Traced.{part_start, told_here, told_next, tells_none}
+use Rattle.job_steps.proofs.Writes.{counts_fault, counts_more, counts_none}
 use Rattle.job_steps.proofs.print.print_basis.Goals as goal
 
 pub loop-degree-init : goal.loop-degree-init
@@ -23,6 +24,7 @@ loop-degree-init g c =
         part_start (g.E.DegreeEngine.may_account c.args.engine.now) task c.args.asked.trace,
         tells_none (g.T.Sink.held c.args.err.now) (g.T.Sink.faults c.args.err.now) c.args.failed.now,
       ),
+      counts_none _ _ 0,
     )
 
 pub print_next-requires-clause-printable : goal.print_next-requires-clause-printable
@@ -81,4 +83,11 @@ loop-degree-preserved g c =
       λ p rs b e a may. inv.4 p rs b e a (next.accounts p rs b e a may),
       told_next May Now task c.args.given.now c.args.field.now refl refl refl inv.4 c.args.asked.trace c.loop-degree._degree below inv.0
           inv.1 _ _ _ _ _ _ _ _ _ inv.5 next.told,
+      counts_more _ _ _ _ _ _ 0 inv.6 next.calls,
     )
+
+pub returns-in_err-print_next-clause-calls : goal.returns-in_err-print_next-clause-calls
+returns-in_err-print_next-clause-calls g c =
+    let e = err_from_is_err_and c.from_residual.result c.from_residual.ensures.1 in
+    counts_fault _ _ _ _ c.from_residual.result e.0 e.1
+    (counts_more _ _ _ _ _ _ 1 c.loop-degree.invariant.6 c.in_err-print_next.ensures.calls)

@@ -2,6 +2,7 @@ use Rattle.std.proofs.Common.{◌≡◌, ℕ, List}
 use Rattle.ideal_laws.specs.declared.account.Account.{Account}
 use Rattle.ideal_laws.specs.declared.presentation.Presentation.{Presentation}
 use Rattle.ideal_laws.specs.Engine.{Elements}
+use Rattle.bg_io.specs.Ends.{CountsGained}
 use Rattle.job_steps.specs.Gains.{GainsAll}
 use Rattle.job_steps.specs.Printing.{task_of}
 use Rattle.job_steps.specs.Traces.{OfTrace, Tells}
@@ -19,3 +20,4 @@ invariant-loop-degree g l =
     g.E.DegreeEngine.may_account l.fn.engine p rs b e a)
     × OfTrace (g.E.DegreeEngine.may_account l.fn.engine) (task_of l.field l.given (g.E.DegreeEngine.kinds l.fn.engine) l.asked) l.asked.trace l._degree
     (Tells (g.T.Sink.held l.fn.err) (g.T.Sink.held l.err) (g.T.Sink.faults l.fn.err) (g.T.Sink.faults l.err) l.fn.failed l.failed)
+    × CountsGained (g.K.Sink.held l.fn.out) (g.K.Sink.held l.out) (g.K.Sink.calls l.fn.out) (g.K.Sink.calls l.out) 0

@@ -7,6 +7,7 @@ use Rattle.job_steps.specs.Traces.{OfTrace, Tells}
 use Rattle.job_steps.proofs.Ended.{done_with_series, undone_series}
 use Rattle.job_steps.proofs.DegreeLines.{if_err, is_shown}
 use Rattle.job_steps.proofs.Reaches.{undone_basis}
+use Rattle.job_steps.proofs.Writes.{counts_more}
 use Rattle.job_steps.proofs.print.print_job.Goals as goal
 
 pub returns-in_err-basis-clause-undone : goal.returns-in_err-basis-clause-undone
@@ -43,3 +44,9 @@ returns-clause-undone g c =
     c.in_ok-basis.ensures.done c.in-Err.ensures.undone in
     undone_series task basis.0 basis.1 (is_shown c.args.asked.series c.if-not-asked.false) c.setting_law.ensures _ _ _ _ _ _ _ _ Holds
     c.in-Err.fault told basis.2 undone
+
+pub returns-in-Ok-clause-calls : goal.returns-in-Ok-clause-calls
+returns-in-Ok-clause-calls g c = counts_more _ _ _ _ _ _ 0 c.in_ok-basis.ensures.calls c.in-Ok.ensures.calls
+
+pub returns-clause-calls : goal.returns-clause-calls
+returns-clause-calls g c = counts_more _ _ _ _ _ _ 1 c.in_ok-basis.ensures.calls c.in-Err.ensures.calls

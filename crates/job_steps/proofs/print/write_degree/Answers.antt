@@ -5,6 +5,7 @@ use Rattle.poly_writer.specs.Texts.{element_line, head_line}
 use Rattle.job_steps.specs.Gains.{GainsAll, IsUnwritten}
 use Rattle.job_steps.proofs.Gaining.{all_behind, beginning_front, unwritten_before, unwritten_behind}
 use Rattle.job_steps.proofs.DegreeLines.{degree_lines, if_err}
+use Rattle.job_steps.proofs.Writes.{counts_more}
 use Rattle.job_steps.proofs.print.write_degree.Goals as goal
 
 pub returns-in_err-write_text-clause-unwritten : goal.returns-in_err-write_text-clause-unwritten
@@ -51,3 +52,9 @@ returns-clause-unwritten g c =
     subst (λ (text : List ℕ). IsUnwritten (g.K.Sink.held c.args.out.now) (g.K.Sink.held c.write_elements.new.out)
     (g.K.Sink.room c.args.out.now) (g.K.Sink.faults c.args.out.now) (g.K.Sink.faults c.write_elements.new.out) text c.in-Err.fault)
     (sym whole) (unwritten_behind _ _ _ _ _ _ _ _ _ _ c.in-Err.fault head c.in-Err.ensures.unwritten)
+
+pub returns-in-Ok-clause-calls : goal.returns-in-Ok-clause-calls
+returns-in-Ok-clause-calls g c = counts_more _ _ _ _ _ _ 0 c.in_ok-write_text.ensures.calls c.in-Ok.ensures.calls
+
+pub returns-clause-calls : goal.returns-clause-calls
+returns-clause-calls g c = counts_more _ _ _ _ _ _ 1 c.in_ok-write_text.ensures.calls c.in-Err.ensures.calls
