@@ -13,7 +13,6 @@ use Rattle.pivot_table.specs.declared.share.Hand.{Hand}
 use Rattle.pivot_table.specs.declared.share.Share.{Share}
 use Rattle.pivot_table.specs.Cells.{cell_of, pair_at}
 use Rattle.pivot_table.specs.Law.{IsKept, met_by, put_by}
-use Rattle.pivot_table.specs.Shares.{share}
 use Rattle.pivot_table.proofs.Turns.{IsLoad, claims_goes, draws_goes, loads_goes, one, puts_goes}
 
 -- a seat whose share is one hand

@@ -8,6 +8,7 @@ pub mod Allowed
 pub mod NextKinds
 pub mod WorkerTurns
 pub mod WorkersTold
+pub mod RowReads
 pub mod Sharing
 pub mod Begin
 pub mod FoundCells

@@ -1,6 +1,5 @@
 -- What the next kind of step says of a phase.
 use Rattle.std.proofs.Common.{◌≡◌, ◌≢◌, true, ℕ, refl, sym, ap, ◌∙◌}
-use Rattle.atomic_table.specs.Table.{step}
 use Rattle.pivot_core.specs.declared.view.Phase.{Phase}
 use Rattle.pivot_core.specs.declared.view.Phase.TheVariants as phase
 use Rattle.pivot_core.specs.declared.event.Kind.{Kind}

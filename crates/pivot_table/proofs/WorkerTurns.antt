@@ -1,5 +1,5 @@
 -- A worker at its next step, and what the step asks of the table.
-use Rattle.std.proofs.Common.{◌≡◌, ◌≢◌, ◌==◌, ◌%◌, set, ℕ, ◌+◌, ◌<◌, ◌^◌, inl, length, refl, sym, ap, ◌∙◌, arith, subst}
+use Rattle.std.proofs.Common.{◌≡◌, ◌≢◌, ◌==◌, ◌%◌, set, ℕ, ◌+◌, ◌-◌, ◌<◌, ◌^◌, inl, length, refl, sym, ap, ◌∙◌, arith, subst}
 use prog.Atomic.{either}
 use mathlib.Core.Option.{none}
 use Rattle.std.specs.Prelude.{slice_index}
@@ -8,7 +8,7 @@ use Rattle.back_reduce.specs.declared.problem.Problem.{Problem}
 use Rattle.pivot_core.specs.declared.view.Phase.{Phase}
 use Rattle.pivot_core.specs.declared.view.Phase.TheVariants as phase
 use Rattle.pivot_core.specs.Views.{sight_of}
-use Rattle.pivot_core.specs.Steps.{met, spot_of}
+use Rattle.pivot_core.specs.Steps.{spot_of}
 use Rattle.pivot_core.specs.Runs.{State, state_after, word_at}
 use Rattle.pivot_core.specs.Phases.{IsPhase, IsSight}
 use Rattle.pivot_core.specs.Claimed.{ClaimedPivots}
@@ -80,6 +80,16 @@ module _ (race : race.Inside) (w : worker.Inside) (turn : IsTurn race w) where
 
   may_next : w.view.phase ≢ phase.Ended → MayMeet p (sight_of w.view) (word_at p s (spot_of w.view.phase))
   may_next next = steps.may p c own.place own.events x own.stands next
+
+  -- there is room to count the step
+  pub steps_small : w.view.phase ≢ phase.Ended → w.view.steps < 2 ^ 64 - 1
+  steps_small next = (may_next next).steps
+
+  -- where a read stands in the words seen
+  pub read_within : (row column holder at : ℕ) → w.view.phase ≡ phase.Reading row column holder at → at < length w.view.seen.items
+  read_within row column holder at is =
+      let numbers : IsPhase p.m p.n (phase.Reading row column holder at) = subst (IsPhase p.m p.n) is own_sight.numbers in
+      omega (arith, numbers.3, own_sight.seen)
 
   -- before a claim, the word may be 0
   pub may_claim : (row column : ℕ) → w.view.phase ≡ phase.Claiming row column → MayMeet race.setting.problem (sight_of w.view) 0

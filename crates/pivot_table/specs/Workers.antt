@@ -1,7 +1,9 @@
 -- Workers and races, as contracts see them.
-use Rattle.std.specs.Prelude.{ℕ, ◌≡◌, ◌<◌, List, map}
+use Rattle.std.specs.Prelude.{ℕ, ◌≡◌, ◌+◌, ◌<◌, List, map}
 use Rattle.atomic_table.specs.Seated.{TableId}
 use Rattle.back_reduce.specs.declared.problem.Problem.{Problem}
+use Rattle.pivot_core.specs.declared.view.Phase.{Phase}
+use Rattle.pivot_core.specs.declared.view.Phase.TheVariants as phase
 use Rattle.pivot_core.specs.declared.sight.Sight.{Sight}
 use Rattle.pivot_core.specs.declared.event.Event.{Event}
 use Rattle.pivot_core.specs.declared.event.Kind.{Kind}
@@ -51,6 +53,21 @@ pub record IsTaken (race : Arena) (before after : Standing) (reply : Reply) : Ty
   pub kind : Kind
   pub stands : after.sight ≡ view_at race.problem
       (state_after race.problem race.crew (one_more events before.sight.seat kind)) after.sight.seat
+
+-- the worker has taken one step or more, each as `IsTaken` says
+pub data AreTaken (race : Arena) (before : Standing) : Standing → Type 0 where
+  begun : (after : Standing) (r : Reply) → IsTaken race before after r → AreTaken race before after
+  gone_on : (between after : Standing) (r : Reply) → AreTaken race before between → IsTaken race between after r →
+      AreTaken race before after
+
+-- all words of the holder are read but the last
+pub record IsReadUpto (m : ℕ) (f : Phase) : Type 0 where
+  pub row : ℕ
+  pub column : ℕ
+  pub holder : ℕ
+  pub at : ℕ
+  pub is : f ≡ phase.Reading row column holder at
+  pub last : at + 1 ≡ m
 
 -- a worker before its first step
 abbrev pub fresh_worker : Arena → ℕ → Standing

@@ -7,6 +7,7 @@ mod cells;
 mod finish;
 mod law;
 mod race;
+mod reads;
 mod share;
 mod steps;
 #[cfg(test)]

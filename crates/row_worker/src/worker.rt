@@ -1,8 +1,7 @@
 ghost use Rattle.std.specs.Prelude.{◌≡◌, ◌≢◌, ◌+◌, ◌*◌, ◌≤◌};
 ghost use Rattle.pivot_core.specs.declared.view.Phase.TheVariants as phase;
-ghost use Rattle.pivot_core.specs.declared.event.Reply.{Reply};
 ghost use Rattle.pivot_core.specs.Calls.{steps_of_row};
-ghost use Rattle.pivot_table.specs.Workers.{IsOf, IsTaken};
+ghost use Rattle.pivot_table.specs.Workers.{AreTaken, IsOf};
 
 use bg_io::{Gate, Spot};
 use pivot_core::Phase;
@@ -23,13 +22,13 @@ pub fn run_worker<G: Gate>(race: &Race, worker: &mut Worker, gate: &G)
     }
 }
 
-/// Makes the next step of a worker that has not ended.
+/// Makes the next step of a worker that has not ended, and where it reads a row all steps to the end of the row.
 fn make_step<G: Gate>(race: &Race, worker: &mut Worker, gate: &G)
     requires same { IsOf race.now worker.old }
     requires next { worker.old.sight.phase ≢ phase.Ended }
     ensures same { IsOf race.now worker.new }
     ensures seat { worker.new.sight.seat ≡ worker.old.sight.seat }
-    ensures taken { (r : Reply) × IsTaken race.now worker.old worker.new r }
+    ensures taken { AreTaken race.now worker.old worker.new }
 {
     let seat = worker.view().seat;
     let phase = worker.view().phase;
@@ -62,7 +61,7 @@ fn make_step<G: Gate>(race: &Race, worker: &mut Worker, gate: &G)
             );
         }
         Phase::Reading { .. } => {
-            race.read_word(worker);
+            race.read_row(worker);
         }
         Phase::Ended => {}
     }

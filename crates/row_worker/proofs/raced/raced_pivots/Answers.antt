@@ -1,7 +1,7 @@
-use Rattle.std.proofs.Common.{◌≡◌, ℕ, All, List, length, map, sym, ap, ◌∙◌, arith, subst}
+use Rattle.std.proofs.Common.{◌≡◌, All, map, sym, ap, ◌∙◌, arith, subst}
 use Rattle.std.proofs.lemmas.List.{with_items_is}
 use Rattle.pivot_core.specs.declared.view.Phase.TheVariants as phase
-use Rattle.pivot_table.specs.Workers.{IsOf, Standing, fresh_crew}
+use Rattle.pivot_table.specs.Workers.{IsOf, Standing}
 use Rattle.pivot_table.proofs.Crews.{crew_belongs, crew_fresh, crew_seats}
 use Rattle.row_worker.proofs.raced.raced_pivots.Goals as goal
 
