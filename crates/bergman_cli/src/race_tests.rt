@@ -1,7 +1,7 @@
 //! Runs in which two workers are at work at once, held and slowed by their gates.
 
 use crate::run::bergman;
-use crate::tests::{SQUARE, SQUARE_ANSWER, words_of};
+use crate::tests::{COMMUTING_ANSWER, SQUARE, SQUARE_ANSWER, long_answer, words_of};
 use bg_io::{MemorySink, MemorySource, Plan, PlannedGate, Spot};
 use job_steps::Status;
 use std::alloc::Global;
@@ -9,10 +9,12 @@ use std::process::Abort;
 use std::test::Fail;
 use std::thread::Threads;
 
-/// Runs the words with this gate, each write of `out` as asked, and asks for this status and output. The trace is told.
+/// Runs the words on the text with this gate, each write of `out` as asked, and asks for this status and output. The
+/// trace is told.
 fn raced<R: Threads + Sync + Abort + AllocGlobal>(
     rt: &R,
     line: &str,
+    text: &str,
     gate: &PlannedGate,
     failing: u32,
     status: Status,
@@ -20,7 +22,7 @@ fn raced<R: Threads + Sync + Abort + AllocGlobal>(
 ) -> Result<MemorySink, Fail> {
     let alloc = rt.alloc();
     let words = words_of(alloc, line)?;
-    let text = Vec::from_slice(alloc, SQUARE.as_bytes())?;
+    let text = Vec::from_slice(alloc, text.as_bytes())?;
     let mut source = MemorySource::new(text, 4, Vec::new(alloc));
     let mut out = MemorySink::new(alloc, 3, Vec::from_slice(alloc, &[failing])?);
     let mut err = MemorySink::new(alloc, 3, Vec::new(alloc));
@@ -64,7 +66,7 @@ fn two_claims_in_flight(rt: HostRuntime) -> Result<(), Fail> {
     let alloc = rt.alloc();
     let gate = PlannedGate::new(alloc, Plan::Hold { degree: 4 })?;
     let words = "gb mod=101 deg=4 workers=2 trace=yes";
-    let err = raced(&rt, words, &gate, 0, Status::Done, SQUARE_ANSWER)?;
+    let err = raced(&rt, words, SQUARE, &gate, 0, Status::Done, SQUARE_ANSWER)?;
     assert!(rt; !gate.ran_out());
     assert!(rt; has_two_claims(alloc, err.held())?);
     // Degrees 2 and 3 have one row each, so seat 0 alone is at work there.
@@ -100,7 +102,7 @@ fn claims_that_meet_are_told(rt: HostRuntime) -> Result<(), Fail> {
         },
     )?;
     let words = "gb mod=101 deg=4 workers=2 trace=yes engine=race";
-    let err = raced(&rt, words, &gate, 0, Status::Done, SQUARE_ANSWER)?;
+    let err = raced(&rt, words, SQUARE, &gate, 0, Status::Done, SQUARE_ANSWER)?;
     assert!(rt; !gate.ran_out());
     assert!(rt; has_two_claims(alloc, err.held())?);
     Ok(())
@@ -117,7 +119,7 @@ fn no_degree_is_computed_after_a_failed_write(rt: HostRuntime) -> Result<(), Fai
         },
     )?;
     let words = "gb mod=101 deg=4 workers=2";
-    raced(&rt, words, &gate, 1, Status::WriteFault, "")?;
+    raced(&rt, words, SQUARE, &gate, 1, Status::WriteFault, "")?;
     assert_eq!(rt; (gate.met(0), gate.met(1)), (2, 0));
     let spot = Spot {
         degree: 2,
@@ -130,14 +132,22 @@ fn no_degree_is_computed_after_a_failed_write(rt: HostRuntime) -> Result<(), Fai
 
 #[test]
 fn slow_seats_change_nothing(rt: HostRuntime) -> Result<(), Fail> {
-    for parity in [0, 1] {
-        let plan = Plan::Slow {
-            parity,
-            turns: 1000,
-        };
-        let gate = PlannedGate::new(rt.alloc(), plan)?;
-        let words = "gb mod=101 deg=4 workers=2";
-        raced(&rt, words, &gate, 0, Status::Done, SQUARE_ANSWER)?;
+    let alloc = rt.alloc();
+    let twice = "vars x,y; x*y-y*x, x*y-y*x;";
+    let long = long_answer(alloc)?;
+    for (words, text, output) in [
+        ("gb mod=101 deg=3 workers=2", twice, COMMUTING_ANSWER),
+        ("gb mod=101 deg=20 workers=8", SQUARE, long.as_str()),
+        ("gb mod=101 deg=4 workers=2", SQUARE, SQUARE_ANSWER),
+    ] {
+        for parity in [0, 1] {
+            let plan = Plan::Slow {
+                parity,
+                turns: 1000,
+            };
+            let gate = PlannedGate::new(alloc, plan)?;
+            raced(&rt, words, text, &gate, 0, Status::Done, output)?;
+        }
     }
     Ok(())
 }
