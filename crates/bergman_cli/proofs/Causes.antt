@@ -14,14 +14,12 @@ use Rattle.command_words.specs.declared.job.Job.{Job}
 use Rattle.command_words.specs.declared.job.UsageFault.{UsageFault}
 use Rattle.command_words.specs.JobOf.{HasOneAnswer, IsJob, IsUsageFault}
 use Rattle.job_steps.specs.declared.status.InputProblem.TheVariants.{TooLong, Text, TooFewNames, Shape, TooFewRelations, AboveBound}
-use Rattle.job_steps.specs.declared.status.Part.TheVariants as parts
 use Rattle.job_steps.specs.declared.status.Status.{Status}
-use Rattle.job_steps.specs.declared.status.Status.TheVariants.{Done, Usage, Input, Limit, Chains, Products, Unbuilt, ReadFault, WriteFault, NoMemory}
+use Rattle.job_steps.specs.declared.status.Status.TheVariants.{Done, Usage, Input, Limit, Chains, Products, ReadFault, WriteFault, NoMemory}
 use Rattle.job_steps.specs.Inputs.{IsInputEnd}
 use Rattle.job_steps.specs.Status.{IsOfInput, PrintsNothing, ReadsNothing}
 use Rattle.job_steps.specs.Statuses.{HasGained, IsOwn}
-use Rattle.bergman_cli.specs.Jobs.{IsBuiltCommand, IsBuiltJob, IsUnbuiltCommand, IsUnbuiltEngine, OfBuiltJob}
-use Rattle.bergman_cli.specs.Engines.{IsBuilt}
+use Rattle.bergman_cli.specs.Jobs.{OfJob}
 use Rattle.bergman_cli.specs.Outcomes.{HasWrittenPart, HasWrittenSome, IsDue, IsOutcome, IsWorkEnd}
 use Rattle.bergman_cli.specs.Run.{Completes, IsCaused, IsDueTo, IsEnd, IsJobEnd, IsMishap, IsUngivenTo, OfGiven, OfWork, ReadsSource}
 use Rattle.bergman_cli.proofs.Given.{fault_mishap, given_input, given_is, input_is, long_mishap, make_or_reads, make_reads_nothing, no_text_fault}
@@ -43,7 +41,6 @@ module _ (p : ℕ) (left now : Option (List ℕ)) (b a : ℕ) where
   input_not (Limit kind d value) h none memory = h
   input_not (Chains d value) h none memory = h
   input_not (Products d value) h none memory = h
-  input_not (Unbuilt part) h none memory = h
   input_not ReadFault h none memory = none tt
   input_not WriteFault h none memory = h
   input_not NoMemory h none memory = memory refl
@@ -67,7 +64,6 @@ own_is_not_of_input (Usage fault) own of = of
 own_is_not_of_input (Limit kind d value) own of = of
 own_is_not_of_input (Chains d value) own of = of
 own_is_not_of_input (Products d value) own of = of
-own_is_not_of_input (Unbuilt part) own of = of
 own_is_not_of_input WriteFault own of = of
 own_is_not_of_input NoMemory own of = of
 
@@ -79,7 +75,6 @@ of_input_is_not status other none own is = none (subst IsOfInput is own)
 
 not_both : (status : Status) → ReadsNothing status → IsOwn status → ⊥
 not_both (Usage fault) none own = own
-not_both (Unbuilt part) none own = own
 not_both Done none own = none
 not_both (Input problem) none own = none
 not_both (Limit kind d value) none own = none
@@ -91,7 +86,6 @@ not_both NoMemory none own = none
 
 not_both_input : (status : Status) → ReadsNothing status → IsOfInput status → ⊥
 not_both_input (Usage fault) none of = of
-not_both_input (Unbuilt part) none of = of
 not_both_input Done none of = none
 not_both_input (Input problem) none of = none
 not_both_input (Limit kind d value) none of = none
@@ -173,27 +167,25 @@ module _ (words : List (List ℕ)) (left now : Option (List ℕ)) (b a : ℕ) (h
   JobEnds job = IsJobEnd job left now b a held more room before after
 
   -- a status of a job is one of the run
-  pub end_of_job : (status : Status) (job : Job) → IsBuiltJob words job → JobEnds job status → End status
+  pub end_of_job : (status : Status) (job : Job) → IsJob words job → JobEnds job status → End status
   end_of_job Done job is h = (job, is, h)
   end_of_job (Usage fault) job is h = absurd (job_reads job left now b a held more room before after (Usage fault) h tt)
   end_of_job (Input problem) job is h = (job, is, h)
   end_of_job (Limit kind d value) job is h = (job, is, h)
   end_of_job (Chains d value) job is h = (job, is, h)
   end_of_job (Products d value) job is h = (job, is, h)
-  end_of_job (Unbuilt part) job is h = absurd (job_reads job left now b a held more room before after (Unbuilt part) h tt)
   end_of_job ReadFault job is h = (job, is, h)
   end_of_job WriteFault job is h = (job, is, h)
   end_of_job NoMemory job is h = (job, is, h)
 
   -- and back
-  job_of_end : (status : Status) → End status → (ReadsNothing status → ⊥) → OfBuiltJob words (λ job. JobEnds job status)
+  job_of_end : (status : Status) → End status → (ReadsNothing status → ⊥) → OfJob words (λ job. JobEnds job status)
   job_of_end Done end some = end
   job_of_end (Usage fault) end some = absurd (some tt)
   job_of_end (Input problem) end some = end
   job_of_end (Limit kind d value) end some = end
   job_of_end (Chains d value) end some = end
   job_of_end (Products d value) end some = end
-  job_of_end (Unbuilt part) end some = absurd (some tt)
   job_of_end ReadFault end some = end
   job_of_end WriteFault end some = end
   job_of_end NoMemory end some = end
@@ -203,7 +195,7 @@ module _ (words : List (List ℕ)) (left now : Option (List ℕ)) (b a : ℕ) (h
     end_own own = let e = job_of_end status end (λ none. not_both status none own) in
         (e.0, e.1, job_own e.0 left now b a held more room before after status e.2 own)
 
-    pub end_input : IsOfInput status → OfBuiltJob words (λ job. ReadsSource job.command × IsInputEnd job.modulus left now b a status)
+    pub end_input : IsOfInput status → OfJob words (λ job. ReadsSource job.command × IsInputEnd job.modulus left now b a status)
     end_input of = let e = job_of_end status end (λ none. not_both_input status none of) in
         (e.0, e.1, job_input e.0 left now b a held more room before after status e.2 of)
 
@@ -222,8 +214,8 @@ module _ (words : List (List ℕ)) (left now : Option (List ℕ)) (b a : ℕ) (h
         ]
 
   module _ (one : HasOneAnswer words) where
-    fault_and_job : (fault : UsageFault) (Holds : Job → Type 0) → IsUsageFault words fault → OfBuiltJob words Holds → ⊥
-    fault_and_job fault Holds h e = no_fault words one e.0 fault e.1.is_job h
+    fault_and_job : (fault : UsageFault) (Holds : Job → Type 0) → IsUsageFault words fault → OfJob words Holds → ⊥
+    fault_and_job fault Holds h e = no_fault words one e.0 fault e.1 h
 
     -- with a job there is no usage fault, and so on
     usage_only : (fault : UsageFault) (status : Status) → IsUsageFault words fault → End status → status ≡ Usage fault
@@ -233,49 +225,9 @@ module _ (words : List (List ℕ)) (left now : Option (List ℕ)) (b a : ℕ) (h
     usage_only fault (Limit kind d value) h end = absurd (fault_and_job fault _ h end)
     usage_only fault (Chains d value) h end = absurd (fault_and_job fault _ h end)
     usage_only fault (Products d value) h end = absurd (fault_and_job fault _ h end)
-    usage_only fault (Unbuilt parts.Command) h end = absurd (no_fault words one end.0 fault end.1 h)
-    usage_only fault (Unbuilt parts.Engine) h end = absurd (no_fault words one end.0 fault end.1 h)
     usage_only fault ReadFault h end = absurd (fault_and_job fault _ h end)
     usage_only fault WriteFault h end = absurd (fault_and_job fault _ h end)
     usage_only fault NoMemory h end = absurd (fault_and_job fault _ h end)
 
     pub usage_exactly : (fault : UsageFault) (status : Status) → End status → (status ≡ Usage fault) ↔ IsUsageFault words fault
     usage_exactly fault status end = (λ is. subst End is end, λ h. usage_only fault status h end)
-
-    unbuilt_command : (j : Job) → IsJob words j → (IsBuiltCommand j.command → ⊥) → (k : Job) → IsBuiltJob words k → ⊥
-    unbuilt_command j h none k is = none (subst (λ (job : Job). IsBuiltCommand job.command) (sym (one_job words one j k h is.is_job)) is.command)
-
-    unbuilt_engine : (j : Job) → IsJob words j → (IsBuilt j.engine → ⊥) → (k : Job) → IsBuiltJob words k → ⊥
-    unbuilt_engine j h none k is = none (subst (λ (job : Job). IsBuilt job.engine) (sym (one_job words one j k h is.is_job)) is.engine)
-
-    command_only : (status : Status) → IsUnbuiltCommand words → End status → status ≡ Unbuilt parts.Command
-    command_only (Unbuilt parts.Command) h end = refl
-    command_only (Unbuilt parts.Engine) h end = absurd (h.2 (subst (λ (job : Job). IsBuiltCommand job.command) (one_job words one end.0 h.0 end.1 h.1) end.2))
-    command_only (Usage fault) h end = absurd (no_fault words one h.0 fault h.1 end)
-    command_only Done h end = absurd (unbuilt_command h.0 h.1 h.2 end.0 end.1)
-    command_only (Input problem) h end = absurd (unbuilt_command h.0 h.1 h.2 end.0 end.1)
-    command_only (Limit kind d value) h end = absurd (unbuilt_command h.0 h.1 h.2 end.0 end.1)
-    command_only (Chains d value) h end = absurd (unbuilt_command h.0 h.1 h.2 end.0 end.1)
-    command_only (Products d value) h end = absurd (unbuilt_command h.0 h.1 h.2 end.0 end.1)
-    command_only ReadFault h end = absurd (unbuilt_command h.0 h.1 h.2 end.0 end.1)
-    command_only WriteFault h end = absurd (unbuilt_command h.0 h.1 h.2 end.0 end.1)
-    command_only NoMemory h end = absurd (unbuilt_command h.0 h.1 h.2 end.0 end.1)
-
-    pub command_exactly : (status : Status) → End status → (status ≡ Unbuilt parts.Command) ↔ IsUnbuiltCommand words
-    command_exactly status end = (λ is. subst End is end, λ h. command_only status h end)
-
-    engine_only : (status : Status) → IsUnbuiltEngine words → End status → status ≡ Unbuilt parts.Engine
-    engine_only (Unbuilt parts.Engine) h end = refl
-    engine_only (Unbuilt parts.Command) h end = absurd (end.2 (subst (λ (job : Job). IsBuiltCommand job.command) (one_job words one h.0 end.0 h.1 end.1) h.2))
-    engine_only (Usage fault) h end = absurd (no_fault words one h.0 fault h.1 end)
-    engine_only Done h end = absurd (unbuilt_engine h.0 h.1 h.3 end.0 end.1)
-    engine_only (Input problem) h end = absurd (unbuilt_engine h.0 h.1 h.3 end.0 end.1)
-    engine_only (Limit kind d value) h end = absurd (unbuilt_engine h.0 h.1 h.3 end.0 end.1)
-    engine_only (Chains d value) h end = absurd (unbuilt_engine h.0 h.1 h.3 end.0 end.1)
-    engine_only (Products d value) h end = absurd (unbuilt_engine h.0 h.1 h.3 end.0 end.1)
-    engine_only ReadFault h end = absurd (unbuilt_engine h.0 h.1 h.3 end.0 end.1)
-    engine_only WriteFault h end = absurd (unbuilt_engine h.0 h.1 h.3 end.0 end.1)
-    engine_only NoMemory h end = absurd (unbuilt_engine h.0 h.1 h.3 end.0 end.1)
-
-    pub engine_exactly : (status : Status) → End status → (status ≡ Unbuilt parts.Engine) ↔ IsUnbuiltEngine words
-    engine_exactly status end = (λ is. subst End is end, λ h. engine_only status h end)

@@ -19,7 +19,7 @@ use Rattle.command_words.specs.declared.job.Command.TheVariants as commands
 use Rattle.command_words.specs.declared.job.Job.{Job}
 use Rattle.job_steps.specs.declared.answer.Answer.{Answer}
 use Rattle.job_steps.specs.declared.status.Status.{Status}
-use Rattle.job_steps.specs.declared.status.Status.TheVariants.{Done, Usage, Input, Limit, Chains, Products, Unbuilt, ReadFault, WriteFault, NoMemory}
+use Rattle.job_steps.specs.declared.status.Status.TheVariants.{Done, Usage, Input, Limit, Chains, Products, ReadFault, WriteFault, NoMemory}
 use Rattle.job_steps.specs.Progress.{refused}
 use Rattle.job_steps.specs.Status.{PrintsNothing}
 use Rattle.job_steps.specs.Statuses.{IsOwn, IsTaskStatus}
@@ -47,7 +47,6 @@ module _ (job : Job) (letters : Letters) (relations : List (List Term)) where
   chains_own (Limit kind d value) h = tt
   chains_own (Chains d value) h = tt
   chains_own (Products d value) h = absurd h
-  chains_own (Unbuilt part) h = absurd h
   chains_own ReadFault h = absurd h
   chains_own WriteFault h = absurd h
   chains_own NoMemory h = absurd h
@@ -60,7 +59,6 @@ module _ (job : Job) (letters : Letters) (relations : List (List Term)) where
   chains_prints (Limit kind d value) h none = none
   chains_prints (Chains d value) h none = none
   chains_prints (Products d value) h none = none
-  chains_prints (Unbuilt part) h none = h
   chains_prints ReadFault h none = h
   chains_prints WriteFault h none = none
   chains_prints NoMemory h none = none
@@ -74,7 +72,6 @@ module _ (job : Job) (letters : Letters) (relations : List (List Term)) where
   chains_writes (Limit kind d value) text due h some = some h
   chains_writes (Chains d value) text due h some = some h
   chains_writes (Products d value) text due h some = absurd due
-  chains_writes (Unbuilt part) text due h some = absurd due
   chains_writes ReadFault text due h some = absurd due
   chains_writes WriteFault text due h some = absurd due
   chains_writes NoMemory text due h some = absurd due
@@ -103,7 +100,6 @@ module _ (job : Job) (letters : Letters) (relations : List (List Term)) where
     done_is_one (Limit kind d value) a b = stopped kind d value a.0 b
     done_is_one (Chains d value) a b = absurd (few_or_many a.1 d value b.1)
     done_is_one (Products d value) a b = absurd b
-    done_is_one (Unbuilt part) a b = absurd b
     done_is_one ReadFault a b = absurd b
     done_is_one WriteFault a b = absurd b
     done_is_one NoMemory a b = absurd b
@@ -115,7 +111,6 @@ module _ (job : Job) (letters : Letters) (relations : List (List Term)) where
     many_is_one d value (Limit kind e other) a b = absurd (not_stopped kind e other a.0 b)
     many_is_one d value (Chains e other) a b = one_many d value e other a.1 b.1
     many_is_one d value (Products e other) a b = absurd b
-    many_is_one d value (Unbuilt part) a b = absurd b
     many_is_one d value ReadFault a b = absurd b
     many_is_one d value WriteFault a b = absurd b
     many_is_one d value NoMemory a b = absurd b
@@ -127,7 +122,6 @@ module _ (job : Job) (letters : Letters) (relations : List (List Term)) where
     limit_is_one kind d value (Limit k e other) a b = one_task_status (chains_task job letters relations) st (Limit kind d value) (Limit k e other) a b
     limit_is_one kind d value (Chains e other) a b = absurd (not_stopped kind d value b.0 a)
     limit_is_one kind d value (Products e other) a b = absurd b
-    limit_is_one kind d value (Unbuilt part) a b = absurd b
     limit_is_one kind d value ReadFault a b = absurd b
     limit_is_one kind d value WriteFault a b = absurd b
     limit_is_one kind d value NoMemory a b = absurd b
@@ -140,7 +134,6 @@ module _ (job : Job) (letters : Letters) (relations : List (List Term)) where
     one_chains_status (Limit kind d value) other a b = limit_is_one kind d value other a b
     one_chains_status (Chains d value) other a b = many_is_one d value other a b
     one_chains_status (Products d value) other a b = absurd a
-    one_chains_status (Unbuilt part) other a b = absurd a
     one_chains_status ReadFault other a b = absurd a
     one_chains_status WriteFault other a b = absurd a
     one_chains_status NoMemory other a b = absurd a

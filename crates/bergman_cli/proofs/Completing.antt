@@ -9,17 +9,14 @@ use Rattle.relation_reader.specs.declared.fault.InputFault.{InputFault}
 use Rattle.relation_reader.specs.Meaning.{FirstFault, HasOneReading, Reads}
 use Rattle.command_words.specs.declared.job.Command.{Command}
 use Rattle.command_words.specs.declared.job.Job.{Job}
-use Rattle.command_words.specs.JobOf.{HasOneAnswer}
+use Rattle.command_words.specs.JobOf.{HasOneAnswer, IsJob}
 use Rattle.job_steps.specs.declared.status.InputProblem.TheVariants.{TooLong, Text, TooFewNames, Shape, TooFewRelations, AboveBound}
-use Rattle.job_steps.specs.declared.status.Part.{Part}
-use Rattle.job_steps.specs.declared.status.Part.TheVariants as parts
 use Rattle.job_steps.specs.declared.status.Status.{Status}
-use Rattle.job_steps.specs.declared.status.Status.TheVariants.{Done, Usage, Input, Limit, Chains, Products, Unbuilt, ReadFault, WriteFault, NoMemory}
+use Rattle.job_steps.specs.declared.status.Status.TheVariants.{Done, Usage, Input, Limit, Chains, Products, ReadFault, WriteFault, NoMemory}
 use Rattle.job_steps.specs.Inputs.{IsInput}
 use Rattle.job_steps.specs.Status.{ReadsNothing}
 use Rattle.job_steps.specs.Statuses.{IsOwn}
-use Rattle.bergman_cli.specs.Engines.{IsBuilt}
-use Rattle.bergman_cli.specs.Jobs.{IsBuiltCommand, IsBuiltJob, OfBuiltJob}
+use Rattle.bergman_cli.specs.Jobs.{OfJob}
 use Rattle.bergman_cli.specs.Outcomes.{IsDue, IsWorkEnd, IsWorkEndOf}
 use Rattle.bergman_cli.specs.Run.{Completes, IsCaused, IsDueTo, IsEnd, IsJobEnd, IsMishap, IsUngivenTo, OfGiven, ReadsSource}
 use Rattle.bergman_cli.proofs.Given.{fault_mishap, given_input, given_is, input_is, long_mishap, make_or_reads, no_text_fault, one_reading}
@@ -102,7 +99,6 @@ module _ (job : Job) (law : HasOneReading) (some : 0 < job.modulus) (left now : 
         by_status (Limit kind d value) e = own_comes (Limit kind d value) tt e
         by_status (Chains d value) e = own_comes (Chains d value) tt e
         by_status (Products d value) e = own_comes (Products d value) tt e
-        by_status (Unbuilt part) e = not_comes (Unbuilt part) (λ none. none) (λ same. cc) (λ same. cc) e
         by_status ReadFault e = not_comes ReadFault (λ none. none) (λ same. cc) (λ same. cc) e
         by_status WriteFault e = inr (
           failed_writes job letters relations held more room before after job.command own st is e,
@@ -129,39 +125,36 @@ module _ (job : Job) (law : HasOneReading) (some : 0 < job.modulus) (left now : 
   caused_comes (Limit kind d value) status end c = due_comes (Limit kind d value) c status end
   caused_comes (Chains d value) status end c = due_comes (Chains d value) c status end
   caused_comes (Products d value) status end c = due_comes (Products d value) c status end
-  caused_comes (Unbuilt part) status end c = due_comes (Unbuilt part) c status end
   caused_comes ReadFault status end c = due_comes ReadFault c status end
   caused_comes WriteFault status end c = due_comes WriteFault c status end
   caused_comes NoMemory status end c = due_comes NoMemory c status end
 
 module _ (words : List (List ℕ)) (left now : Option (List ℕ)) (b a : ℕ) (held more : Option (List ℕ)) (room : Option ℕ) (before after : ℕ)
-    (one : HasOneAnswer words) (job : Job) (is : IsBuiltJob words job) where
+    (one : HasOneAnswer words) (job : Job) (is : IsJob words job) where
   abbrev End : Status → Type 0
   End = IsEnd words left now b a held more room before after
 
   abbrev JobEnds : Status → Type 0
   JobEnds = IsJobEnd job left now b a held more room before after
 
-  same_job : (status : Status) → OfBuiltJob words (λ own. IsJobEnd own left now b a held more room before after status) → JobEnds status
-  same_job status h = subst (λ (j : Job). IsJobEnd j left now b a held more room before after status) (one_job words one h.0 job h.1.is_job is.is_job) h.2
+  same_job : (status : Status) → OfJob words (λ own. IsJobEnd own left now b a held more room before after status) → JobEnds status
+  same_job status h = subst (λ (j : Job). IsJobEnd j left now b a held more room before after status) (one_job words one h.0 job h.1 is) h.2
 
   -- the run of a job ends as the job does
   ends_of : (status : Status) → End status → JobEnds status
   ends_of Done end = same_job Done end
-  ends_of (Usage fault) end = absurd (no_fault words one job fault is.is_job end)
+  ends_of (Usage fault) end = absurd (no_fault words one job fault is end)
   ends_of (Input problem) end = same_job (Input problem) end
   ends_of (Limit kind d value) end = same_job (Limit kind d value) end
   ends_of (Chains d value) end = same_job (Chains d value) end
   ends_of (Products d value) end = same_job (Products d value) end
-  ends_of (Unbuilt parts.Command) end = absurd (end.2 (subst (λ (j : Job). IsBuiltCommand j.command) (one_job words one job end.0 is.is_job end.1) is.command))
-  ends_of (Unbuilt parts.Engine) end = absurd (end.3 (subst (λ (j : Job). IsBuilt j.engine) (one_job words one job end.0 is.is_job end.1) is.engine))
   ends_of ReadFault end = same_job ReadFault end
   ends_of WriteFault end = same_job WriteFault end
   ends_of NoMemory end = same_job NoMemory end
 
   pub job_completes : HasOneReading → (own status : Status) → End status → IsCaused job left own →
       (status ≡ own) ⊎ IsMishap job.command own b a before after status
-  job_completes law own status end cause = caused_comes job law (listed_some job.modulus (listed words job is.is_job)) left now b a held
+  job_completes law own status end cause = caused_comes job law (listed_some job.modulus (listed words job is)) left now b a held
       more room before after own status (ends_of status end) cause
 
 pub completes : (words : List (List ℕ)) (left now : Option (List ℕ)) (b a : ℕ) (held more : Option (List ℕ)) (room : Option ℕ)

@@ -13,7 +13,7 @@ use Rattle.command_words.specs.declared.job.Command.TheVariants as commands
 use Rattle.command_words.specs.declared.job.Job.{Job}
 use Rattle.job_steps.specs.declared.status.InputProblem.TheVariants.{TooLong, Text, TooFewNames, Shape, TooFewRelations, AboveBound}
 use Rattle.job_steps.specs.declared.status.Status.{Status}
-use Rattle.job_steps.specs.declared.status.Status.TheVariants.{Done, Usage, Input, Limit, Chains, Products, Unbuilt, ReadFault, WriteFault, NoMemory}
+use Rattle.job_steps.specs.declared.status.Status.TheVariants.{Done, Usage, Input, Limit, Chains, Products, ReadFault, WriteFault, NoMemory}
 use Rattle.job_steps.specs.Inputs.{IsInput, IsInputEnd, IsRefusedInput}
 use Rattle.bergman_cli.specs.Run.{IsGivenTo, IsMishap, IsToldTo, IsUngivenTo, ReadsSource}
 
@@ -128,7 +128,6 @@ module _ (p : ℕ) (left now : Option (List ℕ)) (b a before after : ℕ) (text
   read_mishap short none own (Limit kind d value) h = absurd h
   read_mishap short none own (Chains d value) h = absurd h
   read_mishap short none own (Products d value) h = absurd h
-  read_mishap short none own (Unbuilt part) h = absurd h
   read_mishap short none own ReadFault h = (reads, h)
   read_mishap short none own WriteFault h = absurd h
   read_mishap short none own NoMemory h = tt
@@ -147,7 +146,6 @@ module _ (p : ℕ) (left now : Option (List ℕ)) (b a before after : ℕ) (text
   long_mishap long (Limit kind d value) h = absurd h
   long_mishap long (Chains d value) h = absurd h
   long_mishap long (Products d value) h = absurd h
-  long_mishap long (Unbuilt part) h = absurd h
   long_mishap long ReadFault h = inr (reads, h)
   long_mishap long WriteFault h = absurd h
   long_mishap long NoMemory h = inr tt
@@ -169,7 +167,6 @@ module _ (p : ℕ) (left now : Option (List ℕ)) (b a before after : ℕ) (text
   fault_mishap law some short fault first (Limit kind d value) h = absurd h
   fault_mishap law some short fault first (Chains d value) h = absurd h
   fault_mishap law some short fault first (Products d value) h = absurd h
-  fault_mishap law some short fault first (Unbuilt part) h = absurd h
   fault_mishap law some short fault first ReadFault h = inr (reads, h)
   fault_mishap law some short fault first WriteFault h = absurd h
   fault_mishap law some short fault first NoMemory h = inr tt

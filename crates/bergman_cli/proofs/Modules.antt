@@ -17,7 +17,7 @@ use Rattle.command_words.specs.declared.job.Command.TheVariants.{Module}
 use Rattle.command_words.specs.declared.job.Job.{Job}
 use Rattle.job_steps.specs.declared.status.InputProblem.TheVariants.{TooLong, Text, TooFewNames, Shape, TooFewRelations, AboveBound}
 use Rattle.job_steps.specs.declared.status.Status.{Status}
-use Rattle.job_steps.specs.declared.status.Status.TheVariants.{Done, Usage, Input, Limit, Chains, Products, Unbuilt, ReadFault, WriteFault, NoMemory}
+use Rattle.job_steps.specs.declared.status.Status.TheVariants.{Done, Usage, Input, Limit, Chains, Products, ReadFault, WriteFault, NoMemory}
 use Rattle.job_steps.specs.Progress.{IsReach, Task, refused, whole}
 use Rattle.job_steps.specs.Status.{PrintsNothing}
 use Rattle.job_steps.specs.Statuses.{IsOwn}
@@ -152,7 +152,6 @@ module _ (job : Job) (letters : Letters) (relations : List (List Term)) where
     kind_of (Limit kind d value) h = inr (inr (inr (kind, d, value, refl, h)))
     kind_of (Chains d value) h = absurd h
     kind_of (Products d value) h = absurd h
-    kind_of (Unbuilt part) h = absurd h
     kind_of ReadFault h = absurd h
     kind_of WriteFault h = absurd h
     kind_of NoMemory h = absurd h
@@ -193,7 +192,6 @@ module _ (job : Job) (letters : Letters) (relations : List (List Term)) where
   module_status_own (Limit kind d value) h = tt
   module_status_own (Chains d value) h = absurd h
   module_status_own (Products d value) h = absurd h
-  module_status_own (Unbuilt part) h = absurd h
   module_status_own ReadFault h = absurd h
   module_status_own WriteFault h = absurd h
   module_status_own NoMemory h = absurd h
@@ -206,7 +204,6 @@ module _ (job : Job) (letters : Letters) (relations : List (List Term)) where
   module_quiet (Limit kind d value) text h none = h
   module_quiet (Chains d value) text h none = h
   module_quiet (Products d value) text h none = h
-  module_quiet (Unbuilt part) text h none = h
   module_quiet ReadFault text h none = h
   module_quiet WriteFault text h none = h
   module_quiet NoMemory text h none = h
@@ -219,7 +216,6 @@ module _ (job : Job) (letters : Letters) (relations : List (List Term)) where
   module_writes (Limit kind d value) text h some = absurd (some h)
   module_writes (Chains d value) text h some = absurd (some h)
   module_writes (Products d value) text h some = tt
-  module_writes (Unbuilt part) text h some = absurd (some h)
   module_writes ReadFault text h some = absurd (some h)
   module_writes WriteFault text h some = absurd (some h)
   module_writes NoMemory text h some = absurd (some h)

@@ -13,17 +13,17 @@ use Rattle.ideal_laws.specs.Limits.{standard_limits}
 use Rattle.command_words.specs.declared.job.Command.{Command}
 use Rattle.command_words.specs.declared.job.Command.TheVariants as commands
 use Rattle.command_words.specs.declared.job.Job.{Job}
+use Rattle.command_words.specs.JobOf.{IsJob}
 use Rattle.job_steps.specs.declared.print.Asked.{Asked}
 use Rattle.job_steps.specs.declared.print.PrintFault.{PrintFault}
 use Rattle.job_steps.specs.declared.print.PrintFault.TheVariants as stops
 use Rattle.job_steps.specs.declared.status.Status.{Status}
-use Rattle.job_steps.specs.declared.status.Status.TheVariants.{Done, Usage, Input, Limit, Chains, Products, Unbuilt, ReadFault, WriteFault, NoMemory}
+use Rattle.job_steps.specs.declared.status.Status.TheVariants.{Done, Usage, Input, Limit, Chains, Products, ReadFault, WriteFault, NoMemory}
 use Rattle.job_steps.specs.Gains.{IsUndone}
 use Rattle.job_steps.specs.Printing.{task_of}
 use Rattle.job_steps.specs.Progress.{Task}
 use Rattle.bergman_cli.specs.Engines.{AreAmong, IsEngineOf, accounts_of, limits_of, traces_of}
 use Rattle.bergman_cli.specs.Gb.{gb_task, shows_basis, shows_series}
-use Rattle.bergman_cli.specs.Jobs.{IsBuiltJob}
 use Rattle.bergman_cli.specs.Outcomes.{IsWorkTrace, IsWorkTraceOf}
 use Rattle.bergman_cli.specs.Run.{IsGivenReading, IsRunTrace, OfWork}
 use Rattle.job_steps.specs.Traces.{Accounts, AreAccounts, IsAccountOf, IsTaskTrace, IsTrace, IsTracePart, OfTrace}
@@ -152,7 +152,6 @@ module _ (job : Job) (letters : Letters) (relations : List (List Term)) (held mo
   gb_untraced (Limit kind d value) none h = absurd (none tt)
   gb_untraced (Chains d value) none h = absurd h
   gb_untraced (Products d value) none h = absurd h
-  gb_untraced (Unbuilt part) none h = absurd h
   gb_untraced ReadFault none h = absurd h
   gb_untraced WriteFault none h = absurd (none tt)
   gb_untraced NoMemory none h = absurd (none tt)
@@ -180,7 +179,7 @@ module _ (words : List (List ℕ)) (left now held more : Option (List ℕ)) (roo
   Traces status trace = IsRunTrace words left now held more room status trace
 
   -- the trace of the work on what was given
-  module _ (job : Job) (is : IsBuiltJob words job) (letters : Letters) (relations : List (List Term))
+  module _ (job : Job) (is : IsJob words job) (letters : Letters) (relations : List (List Term))
       (reads : IsGivenReading job left now letters relations) (setting : IsSetting job.modulus letters.weights relations) (trace : List ℕ)
     where
       given_trace : (status : Status) → IsWorkTrace job letters relations held more room status trace →
@@ -209,7 +208,6 @@ module _ (words : List (List ℕ)) (left now held more : Option (List ℕ)) (roo
       work_trace (Limit kind d value) h = given_trace (Limit kind d value) h
       work_trace (Chains d value) h = none_of (Chains d value) (λ none. none) h
       work_trace (Products d value) h = none_of (Products d value) (λ none. none) h
-      work_trace (Unbuilt part) h = none_of (Unbuilt part) (λ none. none) h
       work_trace ReadFault h = none_of ReadFault (λ none. none) h
       work_trace WriteFault h = given_trace WriteFault h
       work_trace NoMemory h = inr (given_trace NoMemory h)

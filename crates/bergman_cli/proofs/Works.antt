@@ -69,7 +69,6 @@ module _ (job : Job) (letters : Letters) (relations : List (List Term)) where
   gb_writes (statuses.Limit kind d value) h = tt
   gb_writes (statuses.Chains d value) h = absurd h
   gb_writes (statuses.Products d value) h = absurd h
-  gb_writes (statuses.Unbuilt part) h = absurd h
   gb_writes statuses.ReadFault h = absurd h
   gb_writes statuses.WriteFault h = absurd h
   gb_writes statuses.NoMemory h = absurd h
@@ -82,7 +81,6 @@ module _ (job : Job) (letters : Letters) (relations : List (List Term)) where
   make_writes (statuses.Limit kind d value) text due h some = some h
   make_writes (statuses.Chains d value) text due h some = absurd due
   make_writes (statuses.Products d value) text due h some = absurd due
-  make_writes (statuses.Unbuilt part) text due h some = absurd due
   make_writes statuses.ReadFault text due h some = absurd due
   make_writes statuses.WriteFault text due h some = absurd due
   make_writes statuses.NoMemory text due h some = absurd due
@@ -153,7 +151,6 @@ module _ (job : Job) (letters : Letters) (relations : List (List Term)) where
     gb_never (statuses.Limit kind d value) own write memory h = own tt
     gb_never (statuses.Chains d value) own write memory h = h
     gb_never (statuses.Products d value) own write memory h = h
-    gb_never (statuses.Unbuilt part) own write memory h = h
     gb_never statuses.ReadFault own write memory h = h
     gb_never statuses.WriteFault own write memory h = write refl
     gb_never statuses.NoMemory own write memory h = memory refl
@@ -169,7 +166,6 @@ module _ (job : Job) (letters : Letters) (relations : List (List Term)) where
     answered_never command (statuses.Limit kind d value) own write memory h = own tt
     answered_never command (statuses.Chains d value) own write memory h = own tt
     answered_never command (statuses.Products d value) own write memory h = own tt
-    answered_never command (statuses.Unbuilt part) own write memory h = own (gained_own command (statuses.Unbuilt part) h)
     answered_never command statuses.ReadFault own write memory h = own (gained_own command statuses.ReadFault h)
     answered_never command statuses.WriteFault own write memory h = write refl
     answered_never command statuses.NoMemory own write memory h = memory refl

@@ -1,4 +1,4 @@
--- The engines: which are built, the limits that they ask, and the accounts that they may tell.
+-- The engines: the limits that they ask, and the accounts that they may tell.
 use Rattle.std.specs.Prelude.{ℕ, ◌≡◌, Bool, true, false, List, [], ◌∷◌}
 use Rattle.free_poly.specs.declared.term.Term.{Term}
 use Rattle.ideal_laws.specs.declared.account.Account.{Account}
@@ -18,13 +18,6 @@ use Rattle.command_words.specs.declared.job.EngineKind.{EngineKind}
 use Rattle.command_words.specs.declared.job.EngineKind.TheVariants.{Race, Core, Seq, Plain}
 use Rattle.command_words.specs.declared.job.Job.{Job}
 use Rattle.job_steps.specs.Traces.{Accounts, ArePrintable}
-
--- an engine that is built
-abbrev pub IsBuilt : EngineKind → Type 0
-IsBuilt Race = Unit {0}
-IsBuilt Core = Unit {0}
-IsBuilt Seq = Unit {0}
-IsBuilt Plain = Unit {0}
 
 -- the limits that an engine asks, in their order
 abbrev pub limits_of : EngineKind → List (LimitKind × ℕ)

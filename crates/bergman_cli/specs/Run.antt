@@ -12,12 +12,11 @@ use Rattle.command_words.specs.declared.job.Command.TheVariants as commands
 use Rattle.command_words.specs.declared.job.Job.{Job}
 use Rattle.command_words.specs.JobOf.{IsJob, IsUsageFault}
 use Rattle.job_steps.specs.declared.status.InputProblem.TheVariants.{TooLong, Text}
-use Rattle.job_steps.specs.declared.status.Part.TheVariants as parts
 use Rattle.job_steps.specs.declared.status.Status.{Status}
-use Rattle.job_steps.specs.declared.status.Status.TheVariants.{Done, Usage, Input, Limit, Chains, Products, Unbuilt}
+use Rattle.job_steps.specs.declared.status.Status.TheVariants.{Done, Usage, Input, Limit, Chains, Products}
 use Rattle.job_steps.specs.declared.status.Status.TheVariants.{ReadFault, WriteFault, NoMemory}
 use Rattle.job_steps.specs.Inputs.{IsInput, IsInputEnd, IsRefusedInput}
-use Rattle.bergman_cli.specs.Jobs.{IsBuiltJob, IsUnbuiltCommand, IsUnbuiltEngine, OfBuiltJob}
+use Rattle.bergman_cli.specs.Jobs.{OfJob}
 use Rattle.bergman_cli.specs.Outcomes.{IsDue, IsWorkEnd, IsWorkTrace, Writes}
 
 -- In the following, left and now are what the source tells of its bytes before and after; held, more, room and the
@@ -55,7 +54,7 @@ pub record OfGiven (job : Job) (left now : Option (List ℕ)) (Holds : Letters �
 -- the words are a job, and of it and what is given to it something holds
 abbrev pub OfWork : List (List ℕ) → Option (List ℕ) → Option (List ℕ) → (Job → Letters → List (List Term) → Type 0)
     → Type 0
-OfWork words left now Holds = OfBuiltJob words (λ job. OfGiven job left now (Holds job))
+OfWork words left now Holds = OfJob words (λ job. OfGiven job left now (Holds job))
 
 -- why a job had no reading to work on
 abbrev pub IsUngivenTo : Command → ℕ → Option (List ℕ) → Option (List ℕ) → ℕ → ℕ → Status → Type 0
@@ -73,10 +72,8 @@ IsJobEnd job left now b a held more room before after status =
 abbrev pub IsEnd : List (List ℕ) → Option (List ℕ) → Option (List ℕ) → ℕ → ℕ → Option (List ℕ) → Option (List ℕ) →
     Option ℕ → ℕ → ℕ → Status → Type 0
 IsEnd words left now b a held more room before after (Usage fault) = IsUsageFault words fault
-IsEnd words left now b a held more room before after (Unbuilt parts.Command) = IsUnbuiltCommand words
-IsEnd words left now b a held more room before after (Unbuilt parts.Engine) = IsUnbuiltEngine words
 IsEnd words left now b a held more room before after status =
-    OfBuiltJob words (λ job. IsJobEnd job left now b a held more room before after status)
+    OfJob words (λ job. IsJobEnd job left now b a held more room before after status)
 
 -- the trace of a run that ended so: that of the work of its job, or none
 abbrev pub IsRunTrace : List (List ℕ) → Option (List ℕ) → Option (List ℕ) → Option (List ℕ) → Option (List ℕ) →
@@ -125,5 +122,5 @@ IsMishap command own b a before after status = ⊥
 -- a status comes where its cause stands, or a mishap in its place
 abbrev pub Completes : List (List ℕ) → Option (List ℕ) → ℕ → ℕ → ℕ → ℕ → Status → Type 0
 Completes words left b a before after status =
-    (job : Job) (own : Status) → IsBuiltJob words job → IsCaused job left own → (status ≡ own)
+    (job : Job) (own : Status) → IsJob words job → IsCaused job left own → (status ≡ own)
     ⊎ IsMishap job.command own b a before after status

@@ -16,5 +16,5 @@ mod run;
 mod tests;
 
 pub use command_words::{Command, EngineKind, Job, Key, Show, UsageFault, read_words};
-pub use job_steps::{InputProblem, Part, Status};
+pub use job_steps::{InputProblem, Status};
 pub use run::bergman;

@@ -1,19 +1,18 @@
-ghost use Rattle.std.specs.Prelude.{◌≡◌, ◌≢◌, ◌↔◌, ◌⊎◌, ◌++◌, ℕ, List, [], All, Err, IfOk, IsTrue, MatchResult};
+ghost use Rattle.std.specs.Prelude.{◌≡◌, ◌≢◌, ◌↔◌, ◌⊎◌, ◌++◌, ℕ, List, [], All, Err, IfOk, MatchResult};
 ghost use Rattle.std.specs.Prelude.{map, string_bytes};
 ghost use Rattle.std.specs.Io.KnownBytes.{Appends};
 ghost use Rattle.free_poly.specs.Terms.{HasResidues};
 ghost use Rattle.bg_io.specs.Ends.{LosesAtMost, Rose};
 ghost use Rattle.command_words.specs.declared.job.Command.{Command};
 ghost use Rattle.command_words.specs.declared.job.UsageFault.{UsageFault};
-ghost use Rattle.command_words.specs.JobOf.{IsUsageFault};
+ghost use Rattle.command_words.specs.JobOf.{IsJob, IsUsageFault};
 ghost use Rattle.job_steps.specs.Inputs.{IsInputEnd, IsTaken};
 ghost use Rattle.job_steps.specs.Lines.{fault_line};
 ghost use Rattle.job_steps.specs.Status.{IsOfInput, PrintsNothing, ReadsNothing};
 ghost use Rattle.job_steps.specs.Statuses.{HasGained, IsOwn};
 ghost use Rattle.job_steps.specs.Traces.{IsTold, Tells};
 ghost use Rattle.bergman_cli.specs.Engines.{IsEngineOf, limits_of};
-ghost use Rattle.bergman_cli.specs.Jobs.{IsBuiltCommand, IsBuiltJob, IsSound, IsUnbuiltCommand, IsUnbuiltEngine};
-ghost use Rattle.bergman_cli.specs.Jobs.{OfBuiltJob};
+ghost use Rattle.bergman_cli.specs.Jobs.{IsSound, OfJob};
 ghost use Rattle.bergman_cli.specs.Outcomes.{HasWrittenPart, HasWrittenSome, IsOutcome, IsWorkEnd, IsWorkTrace};
 ghost use Rattle.bergman_cli.specs.Run.{Completes, IsEnd, IsGivenReading, IsJobEnd, IsMade, IsRunTrace};
 ghost use Rattle.bergman_cli.specs.Run.{IsUngivenTo, OfWork, ReadsSource};
@@ -29,7 +28,7 @@ use degree_loop::{CoreEngine, RaceEngine, SeqEngine, claim_history_law};
 use field_table::{Field, listed_moduli_law};
 use generated_text::generated_presentation;
 use ideal_laws::{DegreeEngine, Limits, Presentation, lower_law, setting_law};
-use job_steps::{Answer, Part, Status, read_input, tell_status, write_answer};
+use job_steps::{Answer, Status, read_input, tell_status, write_answer};
 use plain_engine::PlainEngine;
 use relation_reader::reading_laws;
 use std::alloc::Global;
@@ -58,13 +57,11 @@ pub fn bergman<R: Threads + Sync, S: Source, K: Sink, T: Sink>(
     // Each other status comes only for its cause, and of what words and source decide exactly there.
     ensures usage { (fault : UsageFault) → (result ≡ Status.Usage fault) ↔ IsUsageFault (map string_bytes words.now)
         fault }
-    ensures command { (result ≡ Status.Unbuilt Part.Command) ↔ IsUnbuiltCommand (map string_bytes words.now) }
-    ensures engine { (result ≡ Status.Unbuilt Part.Engine) ↔ IsUnbuiltEngine (map string_bytes words.now) }
     ensures unread { ReadsNothing result → source.new ≡ source.old }
     ensures made { IsMade (map string_bytes words.now) → source.new ≡ source.old }
     ensures taken { IsTaken (S.left source.old) (S.left source.new) result }
     ensures input { IsOfInput result
-        → OfBuiltJob (map string_bytes words.now) (λ job. ReadsSource job.command
+        → OfJob (map string_bytes words.now) (λ job. ReadsSource job.command
         × IsInputEnd job.modulus (S.left source.old) (S.left source.new) (S.faults source.old)
         (S.faults source.new) result) }
     ensures write { result ≡ Status.WriteFault → Rose (K.faults out.old) (K.faults out.new) }
@@ -125,11 +122,6 @@ fn run_words<R: Threads + Sync, S: Source, K: Sink, T: Sink>(
         Ok(job) => job,
         Err(fault) => return Status::Usage(fault),
     };
-    if !is_built(job.command) {
-        return Status::Unbuilt {
-            part: Part::Command,
-        };
-    }
     listed_moduli_law();
     lower_law();
     claim_history_law();
@@ -153,14 +145,6 @@ fn run_words<R: Threads + Sync, S: Source, K: Sink, T: Sink>(
     }
 }
 
-fn is_built(command: Command) -> bool
-    ensures { IsTrue result ↔ IsBuiltCommand command }
-{
-    match command {
-        Command::Gb | Command::Make | Command::Module | Command::Chains | Command::Normal => true,
-    }
-}
-
 /// Runs a job by the engine that it names.
 fn run_job<R: Threads + Sync, E: DegreeEngine, S: Source, K: Sink, T: Sink>(
     rt: &R,
@@ -173,7 +157,6 @@ fn run_job<R: Threads + Sync, E: DegreeEngine, S: Source, K: Sink, T: Sink>(
     failed: &mut bool,
 ) -> Status
     requires engine { IsEngineOf job.now (E.kinds engine.old) (E.may_account engine.old) }
-    requires built { IsBuiltCommand job.now.command }
     requires sound { IsSound job.now }
 
     ensures end { IsJobEnd job.now (S.left source.old) (S.left source.new) (S.faults source.old)
@@ -184,7 +167,7 @@ fn run_job<R: Threads + Sync, E: DegreeEngine, S: Source, K: Sink, T: Sink>(
     ensures nothing { PrintsNothing result → out.new ≡ out.old }
     ensures reads { result ≢ Status.ReadFault → S.faults source.new ≡ S.faults source.old }
     ensures writes { result ≢ Status.WriteFault → K.faults out.new ≡ K.faults out.old }
-    ensures told { (trace : List ℕ) × ((words : List (List ℕ)) → IsBuiltJob words job.now →
+    ensures told { (trace : List ℕ) × ((words : List (List ℕ)) → IsJob words job.now →
         IsRunTrace words (S.left source.old) (S.left source.new) (K.held out.old) (K.held out.new) (K.room out.old)
         result trace) × Tells (T.held err.old) (T.held err.new) (T.faults err.old) (T.faults err.new) failed.old
         failed.new trace }
@@ -240,7 +223,6 @@ fn work<R: Threads + Sync, E: DegreeEngine, K: Sink, T: Sink>(
     failed: &mut bool,
 ) -> Status
     requires engine { IsEngineOf job.now (E.kinds engine.old) (E.may_account engine.old) }
-    requires built { IsBuiltCommand job.now.command }
     requires sound { IsSound job.now }
     requires modulus { field.now ≡ job.now.modulus }
     requires residues { All (HasResidues field.now) given.now.relations }
@@ -273,7 +255,6 @@ fn answer_of<R: Threads + Sync, E: DegreeEngine>(
 ) -> Result<Answer, NoMemory>
     requires other { job.now.command ≢ Command.Gb }
     requires limits { E.kinds engine.old ≡ limits_of job.now.engine }
-    requires built { IsBuiltCommand job.now.command }
     requires sound { IsSound job.now }
     requires modulus { field.now ≡ job.now.modulus }
     requires residues { All (HasResidues field.now) given.now.relations }

@@ -7,7 +7,7 @@ use Rattle.bg_io.specs.Ends.{IsCutShort, Rose}
 use Rattle.ideal_laws.specs.Laws.{IsSetting}
 use Rattle.job_steps.specs.declared.status.InputProblem.TheVariants as problems
 use Rattle.job_steps.specs.declared.status.Status.{Status}
-use Rattle.job_steps.specs.declared.status.Status.TheVariants.{Done, Usage, Input, Limit, Chains, Products, Unbuilt, ReadFault, WriteFault, NoMemory}
+use Rattle.job_steps.specs.declared.status.Status.TheVariants.{Done, Usage, Input, Limit, Chains, Products, ReadFault, WriteFault, NoMemory}
 use Rattle.job_steps.specs.Gains.{GainsPart, HasPrinted, HasPrintedPart, HasPrintedSome}
 use Rattle.job_steps.specs.Progress.{Task}
 use Rattle.job_steps.specs.Status.{PrintsNothing}
@@ -22,7 +22,6 @@ task_status_own t (Input problem) h = absurd h
 task_status_own t (Limit kind d value) h = tt
 task_status_own t (Chains d value) h = absurd h
 task_status_own t (Products d value) h = absurd h
-task_status_own t (Unbuilt part) h = absurd h
 task_status_own t ReadFault h = absurd h
 task_status_own t WriteFault h = absurd h
 task_status_own t NoMemory h = absurd h
@@ -35,7 +34,6 @@ task_status_prints t (Input problem) h none = h
 task_status_prints t (Limit kind d value) h none = none
 task_status_prints t (Chains d value) h none = none
 task_status_prints t (Products d value) h none = none
-task_status_prints t (Unbuilt part) h none = h
 task_status_prints t ReadFault h none = h
 task_status_prints t WriteFault h none = none
 task_status_prints t NoMemory h none = none
@@ -48,7 +46,6 @@ task_outcome_status t (Input problem) text h = absurd h
 task_outcome_status t (Limit kind d value) text h = (h.0, h.1, h.2)
 task_outcome_status t (Chains d value) text h = absurd h
 task_outcome_status t (Products d value) text h = absurd h
-task_outcome_status t (Unbuilt part) text h = absurd h
 task_outcome_status t ReadFault text h = absurd h
 task_outcome_status t WriteFault text h = absurd h
 task_outcome_status t NoMemory text h = absurd h
@@ -62,7 +59,6 @@ module _ (t : Task) (st : IsSetting t.modulus t.letters.weights t.relations) whe
   done_is_one (Limit kind d value) a b = absurd (whole_is_not_stopped t st a b.0 kind d value b.1 b.2)
   done_is_one (Chains d value) a b = absurd b
   done_is_one (Products d value) a b = absurd b
-  done_is_one (Unbuilt part) a b = absurd b
   done_is_one ReadFault a b = absurd b
   done_is_one WriteFault a b = absurd b
   done_is_one NoMemory a b = absurd b
@@ -73,7 +69,6 @@ module _ (t : Task) (st : IsSetting t.modulus t.letters.weights t.relations) whe
   limit_is_one (Input problem) a again other b = absurd a
   limit_is_one (Chains d value) a again other b = absurd a
   limit_is_one (Products d value) a again other b = absurd a
-  limit_is_one (Unbuilt part) a again other b = absurd a
   limit_is_one ReadFault a again other b = absurd a
   limit_is_one WriteFault a again other b = absurd a
   limit_is_one NoMemory a again other b = absurd a
@@ -84,7 +79,6 @@ module _ (t : Task) (st : IsSetting t.modulus t.letters.weights t.relations) whe
   limit_is_one (Limit kind d value) a again (Input problem) b = absurd b
   limit_is_one (Limit kind d value) a again (Chains e v) b = absurd b
   limit_is_one (Limit kind d value) a again (Products e v) b = absurd b
-  limit_is_one (Limit kind d value) a again (Unbuilt part) b = absurd b
   limit_is_one (Limit kind d value) a again ReadFault b = absurd b
   limit_is_one (Limit kind d value) a again WriteFault b = absurd b
   limit_is_one (Limit kind d value) a again NoMemory b = absurd b
@@ -105,7 +99,6 @@ module _ (t : Task) (held more : Option (List ℕ)) (room : Option ℕ) (before 
   task_gained (Limit kind d value) h own = (h.2.text, (h.0, h.2.is_reach, h.1, h.2.is_text), h.2.appended)
   task_gained (Chains d value) h own = absurd h
   task_gained (Products d value) h own = absurd h
-  task_gained (Unbuilt part) h own = absurd h
   task_gained ReadFault h own = absurd h
   task_gained WriteFault h own = absurd own
   task_gained NoMemory h own = absurd own
@@ -132,7 +125,6 @@ module _ (Outcome : Status → List ℕ → Type 0) (held more : Option (List �
   answered_by own text is (Limit kind d value) h = gained_by own text is (Limit kind d value) h
   answered_by own text is (Chains d value) h = gained_by own text is (Chains d value) h
   answered_by own text is (Products d value) h = gained_by own text is (Products d value) h
-  answered_by own text is (Unbuilt part) h = gained_by own text is (Unbuilt part) h
   answered_by own text is ReadFault h = gained_by own text is ReadFault h
   answered_by own text is WriteFault h = (h.0, (h.1.0, h.1.1, this own text is h.1.0 h.1.1 h.1.2, h.1.3))
   answered_by own text is NoMemory h = h
@@ -145,7 +137,6 @@ module _ (Outcome : Status → List ℕ → Type 0) (held more : Option (List �
   answered_gained (Limit kind d value) h own = h
   answered_gained (Chains d value) h own = h
   answered_gained (Products d value) h own = h
-  answered_gained (Unbuilt part) h own = h
   answered_gained ReadFault h own = h
   answered_gained WriteFault h own = absurd own
   answered_gained NoMemory h own = absurd own
@@ -162,7 +153,6 @@ module _ (own : Status) (text : List ℕ) (held more : Option (List ℕ)) (room 
   answered_status (Limit kind d value) h none = absurd none
   answered_status (Chains d value) h none = absurd none
   answered_status (Products d value) h none = absurd none
-  answered_status (Unbuilt part) h none = h.1.0
   answered_status ReadFault h none = h.1.0
   answered_status WriteFault h none = absurd none
   answered_status NoMemory h none = absurd none

@@ -11,8 +11,6 @@ use Rattle.relation_reader.specs.declared.fault.Want.{Want}
 use Rattle.relation_reader.specs.declared.fault.Want.TheVariants as wants
 use Rattle.job_steps.specs.declared.status.InputProblem.{InputProblem}
 use Rattle.job_steps.specs.declared.status.InputProblem.TheVariants as problems
-use Rattle.job_steps.specs.declared.status.Part.{Part}
-use Rattle.job_steps.specs.declared.status.Part.TheVariants as parts
 use Rattle.job_steps.specs.declared.status.Status.{Status}
 use Rattle.job_steps.specs.declared.status.Status.TheVariants as statuses
 
@@ -84,10 +82,6 @@ problem_text (problems.AboveBound relation) = numbered (codes "relation") relati
 abbrev pub limit_text : List ℕ → ℕ → ℕ → List ℕ
 limit_text name degree value = codes "limit: " ++ (name ++ (codes " " ++ (decimal value ++ (codes " in degree " ++ decimal degree))))
 
-abbrev pub part_text : Part → List ℕ
-part_text parts.Command = codes "command"
-part_text parts.Engine = codes "engine"
-
 -- a run that is done tells nothing
 abbrev pub fault_line : Status → List ℕ
 fault_line statuses.Done = []
@@ -96,7 +90,6 @@ fault_line (statuses.Input problem) = line (codes "input: " ++ problem_text prob
 fault_line (statuses.Limit kind degree value) = line (limit_text (kind_text kind) degree value)
 fault_line (statuses.Chains degree value) = line (limit_text (codes "chains") degree value)
 fault_line (statuses.Products degree value) = line (limit_text (codes "products") degree value)
-fault_line (statuses.Unbuilt part) = line (codes "not built: " ++ part_text part)
 fault_line statuses.ReadFault = line (codes "read fault")
 fault_line statuses.WriteFault = line (codes "write fault")
 fault_line statuses.NoMemory = line (codes "no memory")

@@ -2,7 +2,7 @@
 use Rattle.std.specs.Prelude.{ℕ}
 use Rattle.job_steps.specs.declared.status.InputProblem.TheVariants.{TooLong, Text}
 use Rattle.job_steps.specs.declared.status.Status.{Status}
-use Rattle.job_steps.specs.declared.status.Status.TheVariants.{Done, Usage, Input, Limit, Chains, Products, Unbuilt}
+use Rattle.job_steps.specs.declared.status.Status.TheVariants.{Done, Usage, Input, Limit, Chains, Products}
 use Rattle.job_steps.specs.declared.status.Status.TheVariants.{ReadFault, WriteFault, NoMemory}
 
 -- the number that the process ends with
@@ -16,12 +16,10 @@ code_of (Products degree value) = 4
 code_of ReadFault = 5
 code_of WriteFault = 6
 code_of NoMemory = 7
-code_of (Unbuilt part) = 8
 
 -- a status of runs that read nothing
 abbrev pub ReadsNothing : Status → Type 0
 ReadsNothing (Usage fault) = Unit {0}
-ReadsNothing (Unbuilt part) = Unit {0}
 ReadsNothing status = ⊥
 
 -- a status of runs that had no reading of a text
@@ -35,6 +33,5 @@ IsOfInput status = ⊥
 abbrev pub PrintsNothing : Status → Type 0
 PrintsNothing (Usage fault) = Unit {0}
 PrintsNothing (Input problem) = Unit {0}
-PrintsNothing (Unbuilt part) = Unit {0}
 PrintsNothing ReadFault = Unit {0}
 PrintsNothing status = ⊥

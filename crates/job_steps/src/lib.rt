@@ -15,5 +15,5 @@ mod telling;
 pub use answer::{Answer, write_answer};
 pub use input::read_input;
 pub use print::{Asked, PrintFault, print_job};
-pub use status::{InputProblem, Part, Status};
+pub use status::{InputProblem, Status};
 pub use telling::tell_status;

@@ -1,5 +1,5 @@
 use crate::lines::fault_line;
-use crate::status::{InputProblem, Part, Status};
+use crate::status::{InputProblem, Status};
 use command_words::{Key, UsageFault};
 use ideal_laws::LimitKind;
 use relation_reader::{InputFault, Want};
@@ -7,7 +7,7 @@ use std::test::Fail;
 
 #[test]
 fn each_fault_has_its_line(rt: HostRuntime) -> Result<(), Fail> {
-    let table: [(Status, &str); 13] = [
+    let table: [(Status, &str); 12] = [
         (Status::Done, ""),
         (
             Status::Usage(UsageFault::NoCommand),
@@ -66,10 +66,6 @@ fn each_fault_has_its_line(rt: HostRuntime) -> Result<(), Fail> {
                 value: 16_385,
             },
             "bergman: limit: products 16385 in degree 3\n",
-        ),
-        (
-            Status::Unbuilt { part: Part::Engine },
-            "bergman: not built: engine\n",
         ),
     ];
     for (status, line) in table {

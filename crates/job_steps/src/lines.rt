@@ -1,9 +1,9 @@
 ghost use Rattle.std.specs.Prelude.{◌≡◌, ◌+◌, ◌≤◌, ◌++◌, ◌∷◌, [], codes, decimal, length};
 ghost use Rattle.command_words.specs.Keys.{name_of};
-ghost use Rattle.job_steps.specs.Lines.{counted, fault_line, input_text, kind_text, limit_text, line, part_text};
+ghost use Rattle.job_steps.specs.Lines.{counted, fault_line, input_text, kind_text, limit_text, line};
 ghost use Rattle.job_steps.specs.Lines.{problem_text, usage_text, want_text};
 
-use crate::status::{InputProblem, Part, Status};
+use crate::status::{InputProblem, Status};
 use command_words::{Key, UsageFault};
 use ideal_laws::LimitKind;
 use itoa::Buffer;
@@ -87,7 +87,6 @@ pub fn fault_line(status: &Status) -> Line
         } => limit_line(kind_name(*kind), *degree, *value),
         Status::Chains { degree, value } => limit_line(b"chains", *degree, *value),
         Status::Products { degree, value } => limit_line(b"products", *degree, *value),
-        Status::Unbuilt { part } => line_of(b"not built: ", part_name(*part)),
         Status::ReadFault => line_of(b"read fault", b""),
         Status::WriteFault => line_of(b"write fault", b""),
         Status::NoMemory => line_of(b"no memory", b""),
@@ -274,15 +273,5 @@ fn kind_name(kind: LimitKind) -> &'static [u8]
         LimitKind::Cells => b"cells",
         LimitKind::Terms => b"terms",
         LimitKind::NormalWords => b"normal words",
-    }
-}
-
-fn part_name(part: Part) -> &'static [u8]
-    ensures text { result.now ≡ part_text part }
-    ensures short { length result.now ≤ 30 }
-{
-    match part {
-        Part::Command => b"command",
-        Part::Engine => b"engine",
     }
 }

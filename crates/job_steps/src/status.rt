@@ -5,15 +5,6 @@ use command_words::UsageFault;
 use ideal_laws::LimitKind;
 use relation_reader::InputFault;
 
-/// A part of the program that is not built yet, as this run needs it.
-#[derive(Debug, Clone, Copy, PartialEq, Eq)]
-pub enum Part {
-    /// The command.
-    Command,
-    /// The race of workers.
-    Engine,
-}
-
 /// Why an input is no text with a reading, or none that the command can work on.
 #[derive(Debug, Clone, Copy, PartialEq, Eq)]
 pub enum InputProblem {
@@ -52,9 +43,6 @@ pub enum Status {
         degree: u32,
         value: u64,
     },
-    Unbuilt {
-        part: Part,
-    },
     ReadFault,
     WriteFault,
     NoMemory,
@@ -73,7 +61,6 @@ impl Status {
             Status::ReadFault => 5,
             Status::WriteFault => 6,
             Status::NoMemory => 7,
-            Status::Unbuilt { .. } => 8,
         }
     }
 }

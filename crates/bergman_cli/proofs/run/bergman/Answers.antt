@@ -1,7 +1,7 @@
 use Rattle.std.proofs.Common.{false, map, refl, string_bytes}
 use Rattle.job_steps.specs.Lines.{fault_line}
 use Rattle.job_steps.proofs.Traced.{tells_behind, told_end}
-use Rattle.bergman_cli.proofs.Causes.{command_exactly, end_input, end_memory, end_own, end_part, end_write, engine_exactly, usage_exactly}
+use Rattle.bergman_cli.proofs.Causes.{end_input, end_memory, end_own, end_part, end_write, usage_exactly}
 use Rattle.bergman_cli.proofs.Completing.{completes}
 use Rattle.bergman_cli.proofs.run.bergman.Goals as goal
 
@@ -11,14 +11,6 @@ returns-clause-ended g c = end_own (map string_bytes c.args.words.now) _ _ _ _ _
 pub returns-clause-usage : goal.returns-clause-usage
 returns-clause-usage g c = λ fault. usage_exactly (map string_bytes c.args.words.now) _ _ _ _ _ _ _ _ _
     (c.words_law.ensures (map string_bytes c.args.words.now)) fault c.run_words-status.result c.run_words-status.ensures.end
-
-pub returns-clause-command : goal.returns-clause-command
-returns-clause-command g c = command_exactly (map string_bytes c.args.words.now) _ _ _ _ _ _ _ _ _
-    (c.words_law.ensures (map string_bytes c.args.words.now)) c.run_words-status.result c.run_words-status.ensures.end
-
-pub returns-clause-engine : goal.returns-clause-engine
-returns-clause-engine g c = engine_exactly (map string_bytes c.args.words.now) _ _ _ _ _ _ _ _ _
-    (c.words_law.ensures (map string_bytes c.args.words.now)) c.run_words-status.result c.run_words-status.ensures.end
 
 pub returns-clause-input : goal.returns-clause-input
 returns-clause-input g c = end_input (map string_bytes c.args.words.now) _ _ _ _ _ _ _ _ _ c.run_words-status.result c.run_words-status.ensures.end
