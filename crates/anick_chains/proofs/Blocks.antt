@@ -1,6 +1,6 @@
 -- The chain text, degree and length after degree and length.
 use Rattle.std.proofs.Common.{◌≡◌, ◌+◌, ◌-◌, ◌<◌, ◌≤◌, ◌==◌, ◌&&◌, ℕ, Bool, true, false, List, [], ◌∷◌, ◌++◌, All, if◌then◌else◌, Some, length, take}
-use Rattle.std.proofs.Common.{drop, get_or, refl, sym, ap, ◌∙◌, arith, subst, eq-eqb, append-nil, append_assoc}
+use Rattle.std.proofs.Common.{drop, get_or, refl, sym, ap, ◌∙◌, arith, subst, eq-eqb, append_assoc}
 use Rattle.std.specs.List.{flat_map, join_by, slice_get}
 use Rattle.std.proofs.Common.{drop-cons, drop-drop, get_or-drop, get_or-take, length-drop, length-take, suc}
 use Rattle.std.proofs.lemmas.Bool.{eqb-true}
@@ -16,7 +16,8 @@ block d n chains = record { degree = d; size = n; chains = chains }
 fits-true : (c : Chain) (b : Block) → c.degree ≡ b.degree → length c.pieces ≡ b.size → fits c b ≡ true
 fits-true c b e f = rw (eq-eqb c.degree b.degree e) (eq-eqb (length c.pieces) b.size f)
 
-fits-says : (c : Chain) (b : Block) → fits c b ≡ true → (c.degree ≡ b.degree) × (length c.pieces ≡ b.size)
+-- and only there
+pub fits-says : (c : Chain) (b : Block) → fits c b ≡ true → (c.degree ≡ b.degree) × (length c.pieces ≡ b.size)
 fits-says c b e = by_tests (c.degree == b.degree) refl (length c.pieces == b.size) refl e
   where
     by_tests : (s : Bool) → (c.degree == b.degree) ≡ s → (t : Bool) → (length c.pieces == b.size) ≡ t → (s && t) ≡ true →

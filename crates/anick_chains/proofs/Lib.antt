@@ -21,3 +21,9 @@ pub mod Steps
 pub mod Onward
 pub mod MinimalChains
 pub mod Blocks
+pub mod Sums
+pub mod Tells
+pub mod ChainSort
+pub mod Counts
+pub mod CountBlocks
+pub mod Tallied

@@ -1,15 +1,15 @@
 -- The list of chains grows by the chains of one more degree.
-use Rattle.std.proofs.Common.{◌≡◌, ◌≢◌, ◌↔◌, ◌+◌, ◌-◌, ◌<◌, ◌≤◌, ℕ, List, [], ◌∷◌, ◌++◌, length, map, get_or, refl, sym, ap, ◌∙◌, inl, inr, arith}
+use Rattle.std.proofs.Common.{◌≡◌, ◌≢◌, ◌↔◌, ◌+◌, ◌<◌, ◌≤◌, ℕ, List, [], ◌∷◌, ◌++◌, length, get_or, sym, ap, ◌∙◌, inl, inr, arith}
 use Rattle.std.proofs.Common.{AllPairs, All, subst, length-append}
 use Rattle.std.specs.List.{Contains, flat_map}
 use Rattle.std.specs.List.Sorted.{IsPermutation, IsSorted}
 use Rattle.std.proofs.lemmas.Bool.{cases_lt}
 use Rattle.std.proofs.lemmas.List.{length-map, map-append}
-use Rattle.std.proofs.lemmas.List.Elements.{All-append, All-contains, All-nil, Contains-append_cases, Contains-append_left, Contains-append_right}
+use Rattle.std.proofs.lemmas.List.Elements.{All-append, All-nil, Contains-append_cases, Contains-append_left, Contains-append_right}
 use Rattle.std.proofs.lemmas.Option.{slice_get-get_or}
 use Rattle.words.proofs.Members.{AllPairs-append, AllPairs-nil, All-from_members, Contains-none}
 use Rattle.words.proofs.Weights.{degree_of-positive}
-use Rattle.words.specs.Words.{IsFactor, degree_of}
+use Rattle.words.specs.Words.{IsFactor}
 use Rattle.ideal_laws.specs.Closure.{IsFactorFree}
 use Rattle.ideal_laws.specs.Engine.{Elements}
 use Rattle.ideal_laws.specs.Kept.{IsKept}
@@ -91,7 +91,7 @@ module _ (b : Elements) (kept : IsKept b) (free : IsFactorFree b.elements) where
       tips : AreListedTips names (leads_of b.elements)
       tips = listed_tips b kept free
 
-      says : (c : List (List ℕ)) → Contains all c → IsChain T names c × (chain_degree weights c ≡ d)
+      pub says : (c : List (List ℕ)) → Contains all c → IsChain T names c × (chain_degree weights c ≡ d)
       says c m = chains_at-says weights b.elements tips kept.weights d below chains_below c m
 
       has : (c : List (List ℕ)) → IsChain T names c → chain_degree weights c ≡ d → Contains all c

@@ -7,3 +7,4 @@ pub mod Listed
 pub mod Walk
 pub mod Compare
 pub mod Texts
+pub mod Tallies

@@ -3,10 +3,14 @@
 #![tactic(auto)]
 
 mod chain;
+mod counting;
 mod listing;
 mod longer;
+mod merging;
 mod next;
 mod order;
+mod tallies;
+mod tally;
 #[cfg(test)]
 mod tests;
 mod text;
@@ -15,8 +19,10 @@ ghost use Rattle.anick_chains.specs.BasisTips.{HasMinimalChains};
 ghost use Rattle.anick_chains.specs.Laws.{HasExtensions, HasListedMates, HasMates, IsPairing};
 
 pub use chain::{Chain, ChainFault};
+pub use counting::chain_counts;
 pub use listing::chains;
-pub use text::chain_text;
+pub use tally::ChainCount;
+pub use text::{chain_text, count_text};
 
 /// The pairing law: each pair of a chain, or none, and a normal word has exactly one mate, which has the same degree
 /// and a length greater or less by 1, and is the mate of its mate; so a list of all pairs of one degree of 1 or more

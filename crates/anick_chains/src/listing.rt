@@ -69,7 +69,7 @@ pub fn chains(
 }
 
 /// The weights of the letters.
-fn weights_of(alloc: Global, basis: &Basis) -> Result<Vec<u8>, NoMemory>
+pub(crate) fn weights_of(alloc: Global, basis: &Basis) -> Result<Vec<u8>, NoMemory>
     ensures { IfOk result (λ weights. weights.items ≡ basis.now.weights) }
 {
     let mut weights = Vec::new(alloc);

@@ -4,7 +4,7 @@ ghost use Rattle.free_poly.specs.Poly.{IsMonic};
 ghost use Rattle.free_poly.specs.Terms.{HasDegree, HasResidues, UsesLetters};
 ghost use Rattle.ideal_laws.specs.Closure.{IsFactorFree};
 
-use crate::{Chain, ChainFault, chains};
+use crate::{Chain, ChainFault, chain_counts, chains};
 use field_table::{Field, listed_moduli_law};
 use free_poly::{Poly, Term};
 use ideal_laws::Basis;
@@ -275,5 +275,33 @@ fn chains_stand_by_degree_and_length(rt: HostRuntime) -> Result<(), Fail> {
         3,
         &[second, (2, &[x][..]), (3, &[x, y][..])],
     )?;
+    Ok(())
+}
+
+/// The numbers of chains over x^2 and x*y*x by degree and length up to degree 4; and of the 8 chains no 7 are enough.
+#[test]
+fn chains_are_counted_by_degree_and_length(rt: HostRuntime) -> Result<(), Fail> {
+    let alloc = rt.alloc();
+    let tips: [(u32, &[u8]); 2] = [(2, &[0, 0]), (3, &[0, 1, 0])];
+    let expected = [
+        (1, 1, 2),
+        (2, 2, 1),
+        (3, 2, 1),
+        (3, 3, 1),
+        (4, 3, 2),
+        (4, 4, 1),
+    ];
+    let alphabet = letters_of(alloc, 1)?;
+    let basis = basis_of(&rt, alloc, &alphabet, &tips, 4)?;
+    assert!(rt; 4 <= basis.done());
+    let found = chain_counts(alloc, &alphabet, &basis, 4, 8)?;
+    assert_eq!(rt; found.as_slice().len(), expected.len());
+    for (count, wanted) in found.as_slice().iter().zip(expected.as_slice()) {
+        assert_eq!(rt; (count.degree, count.size, count.count), *wanted);
+    }
+    match chain_counts(alloc, &alphabet, &basis, 4, 7) {
+        Err(ChainFault::TooMany { degree }) => assert_eq!(rt; degree, 4),
+        _ => panic!(rt; "7 chains"),
+    }
     Ok(())
 }

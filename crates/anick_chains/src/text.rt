@@ -5,9 +5,11 @@ ghost use Rattle.words.specs.Words.{IsOver};
 ghost use Rattle.poly_writer.specs.Texts.{word_text};
 ghost use Rattle.anick_chains.specs.declared.chain.Chain.{Chain};
 ghost use Rattle.anick_chains.specs.Listed.{pieces_of};
+ghost use Rattle.anick_chains.specs.Tallies.{count_text};
 ghost use Rattle.anick_chains.specs.Texts.{HasShape, block_text, chain_line, chain_text, count_line};
 
 use crate::chain::Chain;
+use crate::tally::ChainCount;
 use poly_writer::{push_number, push_word};
 use std::alloc::Global;
 use words::{Alphabet, NoMemory, Word};
@@ -31,6 +33,22 @@ pub fn chain_text(
         let end = block_end(chains, at, degree, size);
         push_block(&mut text, alphabet, &chains[at..end], degree, size, list)?;
         at = end;
+    }
+    Ok(text)
+}
+
+/// For each degree and length that has a chain the line with their number alone.
+pub fn count_text(alloc: Global, counts: &[ChainCount]) -> Result<Vec<u8>, NoMemory>
+    ensures { IfOk result (λ text. text.items ≡ count_text counts.now) }
+{
+    let mut text = Vec::new(alloc);
+    for count in counts {
+        push_count(
+            &mut text,
+            count.degree,
+            count.size as usize,
+            count.count as usize,
+        )?;
     }
     Ok(text)
 }

@@ -5,6 +5,8 @@
 #[cfg(test)]
 mod bases;
 #[cfg(test)]
+mod chains;
+#[cfg(test)]
 mod engines;
 #[cfg(test)]
 mod modules;
