@@ -134,6 +134,32 @@ fn close(race: Race, crew: Vec<Worker>) -> Result<Finish, Fail>
     }
 }
 
+/// Reads the rest of a row, where the worker reads one.
+fn read_rest(race: &Race, worker: &mut Worker)
+    requires same { IsOf race.now worker.old }
+{
+    let phase = worker.view().phase;
+    if let Phase::Reading { .. } = phase {
+        race.read_row(worker);
+    }
+}
+
+/// Seat 1 has drawn 2, 3 and found that column 0 is held by 1, 100, which leaves it a row at column 1.
+#[test]
+fn a_row_is_read_at_once(rt: HostRuntime) -> Result<(), Fail> {
+    let (race, mut crew) = race_of(rt.alloc(), 2, 2, &[1, 100, 2, 3], 2)?;
+    for seat in [0, 0, 0, 0, 0, 1, 1] {
+        make_step_of(&race, &mut crew, seat);
+    }
+    let Some(worker) = crew.get_mut(1) else {
+        return Err(Fail::new("another crew"));
+    };
+    read_rest(&race, worker);
+    assert_eq!(rt; worker.view().phase, Phase::Looking { row: 1, column: 1 });
+    assert_eq!(rt; worker.view().steps, 4);
+    Ok(())
+}
+
 #[test]
 fn workers_begin_fresh_by_seat(rt: HostRuntime) -> Result<(), Fail> {
     let (race, crew) = race_of(rt.alloc(), 2, 2, &[1, 100, 1, 100], 2)?;
