@@ -15,6 +15,8 @@ mod monomials;
 #[cfg(test)]
 mod presented;
 #[cfg(test)]
+mod printing;
+#[cfg(test)]
 mod problems;
 #[cfg(test)]
 mod rows;
