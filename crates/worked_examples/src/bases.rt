@@ -14,7 +14,7 @@ use std::test::Fail;
 use std::thread::Threads;
 
 /// The reduced basis up to a degree, which all engines find.
-fn basis_of<R: Abort + Threads + Sync>(
+pub fn basis_of<R: Abort + Threads + Sync>(
     rt: &R,
     alloc: Global,
     field: &Field,
@@ -25,6 +25,7 @@ fn basis_of<R: Abort + Threads + Sync>(
     requires some { 1 ≤ done }
     requires small { done ≤ 64 }
     requires residues { All (HasResidues field.now) given.now.relations }
+    ensures done { IfOk result (λ basis. basis.done ≡ done) }
     ensures weights { IfOk result (λ basis. basis.weights ≡ given.now.alphabet.weights) }
     ensures reduced { IfOk result (IsReducedUpto field.now given.now.relations) }
 {

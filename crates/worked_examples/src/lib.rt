@@ -7,6 +7,8 @@ mod bases;
 #[cfg(test)]
 mod engines;
 #[cfg(test)]
+mod lists;
+#[cfg(test)]
 mod modules;
 #[cfg(test)]
 mod presented;
