@@ -3,10 +3,11 @@ ghost use Rattle.free_poly.specs.Terms.{HasResidues};
 ghost use Rattle.ideal_laws.specs.Engine.{IsReducedUpto};
 
 use crate::presented::{algebra_of, assert_basis, assert_same, presented, residues};
-use degree_loop::{CoreEngine, SeqEngine};
+use bg_io::PlannedGate;
+use degree_loop::{CoreEngine, RaceEngine, SeqEngine};
 use field_table::Field;
 use hilbert::{SeriesFault, series};
-use ideal_laws::{Basis, Limits, Presentation, lower_law, run, setting_law};
+use ideal_laws::{Basis, EngineFault, Limits, Presentation, lower_law, run, setting_law};
 use plain_engine::PlainEngine;
 use std::alloc::Global;
 use std::process::Abort;
@@ -14,7 +15,7 @@ use std::test::Fail;
 use std::thread::Threads;
 
 /// The reduced basis up to a degree, which all engines find.
-fn basis_of<R: Abort + Threads + Sync>(
+pub fn basis_of<R: Abort + Threads + Sync>(
     rt: &R,
     alloc: Global,
     field: &Field,
@@ -25,6 +26,7 @@ fn basis_of<R: Abort + Threads + Sync>(
     requires some { 1 ≤ done }
     requires small { done ≤ 64 }
     requires residues { All (HasResidues field.now) given.now.relations }
+    ensures done { IfOk result (λ basis. basis.done ≡ done) }
     ensures weights { IfOk result (λ basis. basis.weights ≡ given.now.alphabet.weights) }
     ensures reduced { IfOk result (IsReducedUpto field.now given.now.relations) }
 {
@@ -41,7 +43,32 @@ fn basis_of<R: Abort + Threads + Sync>(
             assert_equal(rt, &found, &basis, case);
         }
     }
+    for workers in [1, 2, 4] {
+        assert!(rt; 1 <= workers && workers <= 64);
+        let found = raced_basis(rt, alloc, field, given, done, workers)?;
+        assert_equal(rt, &found, &basis, case);
+    }
     Ok(basis)
+}
+
+/// The basis that so many workers find, each passing an open gate.
+fn raced_basis<R: Threads + Sync>(
+    rt: &R,
+    alloc: Global,
+    field: &Field,
+    given: &Presentation,
+    done: u32,
+    workers: u32,
+) -> Result<Basis, EngineFault>
+    requires some { 1 ≤ done }
+    requires small { done ≤ 64 }
+    requires worker { 1 ≤ workers }
+    requires few { workers ≤ 64 }
+    requires residues { All (HasResidues field.now) given.now.relations }
+{
+    let gate = PlannedGate::open(alloc);
+    let mut race = RaceEngine::new(Limits::standard(), workers, &gate);
+    run(rt, alloc, &mut race, field, given, done)
 }
 
 /// Both bases have the same elements.

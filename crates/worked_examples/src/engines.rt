@@ -4,7 +4,8 @@ ghost use Rattle.ideal_laws.specs.Engine.{IsReducedUpto};
 ghost use Rattle.ideal_laws.specs.Limits.{AreLimits};
 
 use crate::presented::{Algebra, algebra_of, assert_elements, assert_words, presented, residues};
-use degree_loop::{CoreEngine, SeqEngine};
+use bg_io::PlannedGate;
+use degree_loop::{CoreEngine, RaceEngine, SeqEngine};
 use field_table::Field;
 use ideal_laws::{
     Answer, Basis, Call, DegreeEngine, EngineFault, LimitKind, Limits, Presentation, advance,
@@ -73,6 +74,29 @@ fn assert_degree<R: Abort + Threads + Sync, E: DegreeEngine>(
     }
 }
 
+/// The same of the race of one, two and four workers.
+fn assert_races<R: Abort + Threads + Sync>(
+    rt: &R,
+    alloc: Global,
+    limits: Limits,
+    algebra: &Algebra,
+    refused: Option<(LimitKind, u64)>,
+) -> Result<(), Fail>
+    requires limits { AreLimits limits }
+    requires done { algebra.now.basis.done ≡ 3 }
+    requires weights { algebra.now.basis.weights ≡ algebra.now.given.alphabet.weights }
+    requires reduced { IsReducedUpto algebra.now.field algebra.now.given.relations algebra.now.basis }
+    requires residues { All (HasResidues algebra.now.field) algebra.now.given.relations }
+{
+    let gate = PlannedGate::open(alloc);
+    for workers in [1, 2, 4] {
+        assert!(rt; 1 <= workers && workers <= 64);
+        let mut race = RaceEngine::new(limits, workers, &gate);
+        assert_degree(rt, alloc, &mut race, algebra, refused)?;
+    }
+    Ok(())
+}
+
 /// In degree 4 the algebra of x^2-y*x has 16 words, 2 rows, 4 columns, 8 entries and 4 cells, and with it the basis has
 /// 6 terms.
 #[test]
@@ -104,6 +128,7 @@ fn a_quantity_above_its_limit_is_refused(rt: HostRuntime) -> Result<(), Fail> {
             assert_degree(&rt, alloc, &mut SeqEngine::new(limits), &algebra, others)?;
             let mut core = CoreEngine::new(limits, 2, 0);
             assert_degree(&rt, alloc, &mut core, &algebra, others)?;
+            assert_races(&rt, alloc, limits, &algebra, others)?;
         }
     }
     Ok(())

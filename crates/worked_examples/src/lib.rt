@@ -9,6 +9,8 @@ mod chains;
 #[cfg(test)]
 mod engines;
 #[cfg(test)]
+mod lists;
+#[cfg(test)]
 mod modules;
 #[cfg(test)]
 mod monomials;
