@@ -18,7 +18,13 @@ fn assert_alternating<R: Abort + Threads + Sync>(
     assert!(rt; 0 < bound && bound <= 64);
     let algebra = algebra_of(rt, alloc, text, bound)?;
     let limits = Limits::standard();
-    let numbers = series(alloc, &algebra.given.alphabet, &algebra.basis, bound, &limits)?;
+    let numbers = series(
+        alloc,
+        &algebra.given.alphabet,
+        &algebra.basis,
+        bound,
+        &limits,
+    )?;
     let numbers = numbers.as_slice();
     let found = chains(alloc, &algebra.given.alphabet, &algebra.basis, bound, 4_096)?;
     for degree in 1..bound + 1 {
@@ -55,7 +61,10 @@ fn chains_alternate_to_the_inverse_series(rt: HostRuntime) -> Result<(), Fail> {
         (7, "vars x:2,y; x^2-y^4;"),
         (9, "vars x:3,y:2; x^2-y^3;"),
         (6, "vars x,y; x^2*y-2*x*y*x+y*x^2, x*y^2-2*y*x*y+y^2*x;"),
-        (5, "vars x,y,z; x*y+2*y*x+3*z^2, y*z+2*z*y+3*x^2, z*x+2*x*z+3*y^2;"),
+        (
+            5,
+            "vars x,y,z; x*y+2*y*x+3*z^2, y*z+2*z*y+3*x^2, z*x+2*x*z+3*y^2;",
+        ),
         (5, "vars x,y,z; x^2, y^2, z^2, x*y+y*x, x*z+z*x, y*z+z*y;"),
     ] {
         assert_alternating(&rt, alloc, text, bound)?;

@@ -45,10 +45,7 @@ fn asked_by(rt: &impl Abort, alloc: Global, field: &Field, text: &str) -> Result
         alphabet,
         relations: Items::from_vec(relations),
     };
-    Ok(Asked {
-        given,
-        question,
-    })
+    Ok(Asked { given, question })
 }
 
 /// The degree of an element, where it is at most 64, and else 65.
@@ -95,10 +92,7 @@ fn assert_answer<R: Abort + Threads + Sync>(
     normal: Option<&str>,
 ) -> Result<(), Fail> {
     let field = residues(rt, alloc, modulus)?;
-    let Asked {
-        given,
-        question,
-    } = asked_by(rt, alloc, &field, text)?;
+    let Asked { given, question } = asked_by(rt, alloc, &field, text)?;
     let degree = degree_of(&given.alphabet, &question);
     assert!(rt; 1 <= degree && degree <= 64);
     let basis = basis_of(rt, alloc, &field, &given, degree, text)?;
@@ -136,11 +130,7 @@ fn products_make_up_what_a_normal_form_leaves_out(rt: HostRuntime) -> Result<(),
         (101, "vars x,y; x^2-y*x, x*y^2*x-y^3*x;", None),
         (101, "vars x,y; x^2-y*x, x^4;", Some("vars x,y; y^3*x;")),
         (101, "vars x:2,y; x^2-y^4, x*y^4-y^4*x;", None),
-        (
-            101,
-            "vars x:2,y; x^2-y^4, x^3;",
-            Some("vars x:2,y; y^4*x;"),
-        ),
+        (101, "vars x:2,y; x^2-y^4, x^3;", Some("vars x:2,y; y^4*x;")),
         // Braids of three strands: the square of a*b*a commutes with a, and a^2*b is not a*b^2.
         (
             101,

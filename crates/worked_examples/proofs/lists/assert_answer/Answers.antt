@@ -11,8 +11,7 @@ expand-requires-clause-products g c =
     let a = c.in_ok-given.field-0 in
     let weights = c.in_ok-basis.basis.weights in
     let d = lead_degree weights a.question in
-    let found = c.as_slice.result.now in
-    (
+    let found = c.as_slice.result.now in (
       d,
       subst (λ (ws : List ℕ). All (IsProduct p ws a.given.relations d) found) c.in_ok-basis.ensures.weights
           (All-same (IsProduct p weights a.given.relations d) found c.in_ok-found.found.products c.as_slice.ensures
