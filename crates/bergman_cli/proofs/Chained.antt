@@ -24,7 +24,7 @@ use Rattle.job_steps.specs.Progress.{refused}
 use Rattle.job_steps.specs.Status.{PrintsNothing}
 use Rattle.job_steps.specs.Statuses.{IsOwn, IsTaskStatus}
 use Rattle.job_steps.proofs.Statuses.{one_task_status}
-use Rattle.bergman_cli.specs.Chains.{HasFewChains, HasManyChains, IsChainList, IsChainsOutcome, IsChainsStatus, IsChainsText, chains_task, most_chains}
+use Rattle.bergman_cli.specs.Chains.{HasChainText, HasFewChains, HasManyChains, IsChainList, IsChainsOutcome, IsChainsStatus, IsChainsText, chains_task, most_chains}
 use Rattle.bergman_cli.specs.Engines.{limits_of}
 use Rattle.bergman_cli.specs.Outcomes.{Writes}
 use Rattle.bergman_cli.proofs.ChainNumbers.{few_not_many, listed_number, many_minimal, one_first_many}
@@ -176,19 +176,17 @@ module _ (job : Job) (letters : Letters) (relations : List (List Term)) where
           ((own_whole none, record { first = many; kept = plus ∙ ap (λ (n : ℕ). n + 1) count }), empty)
 
       -- the chain text
-      pub few_chains : (found : List Chain) (most : ℕ) (text : List ℕ) → most ≡ most_chains
-          → ((q : ℕ) (rs : List (List Term)) → IsSetting q basis.weights rs → IsReducedUpto q rs basis →
-          AreListed (IsMinimal q basis.weights rs) (length basis.weights) basis.weights job.bound found)
-          → length found ≤ most → text ≡ chain_text letters.names job.list found → IsChainsOutcome job letters relations Done text
-      few_chains found most text count listed within printed =
-          let minimal = listed p relations own_setting reduced in
-          let own : AreListed T (length letters.weights) letters.weights job.bound found =
-          subst (λ (m : ℕ). AreListed (IsMinimal m letters.weights relations) (length letters.weights) letters.weights job.bound found) field
-          (subst (λ (ws : List ℕ). AreListed (IsMinimal p ws relations) (length ws) ws job.bound found) weights minimal) in
+      pub told_chains : (text out : List ℕ) → out ≡ text → (IsSetting p basis.weights relations → IsReducedUpto p relations basis
+          → HasChainText (IsMinimal p basis.weights relations) letters job text) → IsChainsOutcome job letters relations Done out
+      told_chains text out is told =
+          let h = told own_setting reduced in
+          let own : AreListed T (length letters.weights) letters.weights job.bound h.chains =
+          subst (λ (m : ℕ). AreListed (IsMinimal m letters.weights relations) (length letters.weights) letters.weights job.bound h.chains) field
+          (subst (λ (ws : List ℕ). AreListed (IsMinimal p ws relations) (length letters.weights) letters.weights job.bound h.chains) weights h.listed) in
           let few : HasFewChains job letters relations = record {
-            number = length found;
-            is_number = listed_number T (length letters.weights) letters.weights job.bound found own;
-            few = omega (arith, within, count);
+            number = length h.chains;
+            is_number = listed_number T (length letters.weights) letters.weights job.bound h.chains own;
+            few = h.few;
           } in
-          let list : IsChainList job letters relations text = record { chains = found; listed = own; printed = printed } in
+          let list : IsChainList job letters relations out = record { chains = h.chains; listed = own; printed = is ∙ h.printed } in
           ((own_whole none, few), list)

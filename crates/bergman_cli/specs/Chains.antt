@@ -55,6 +55,13 @@ IsChainsStatus job letters relations (Chains d value) =
     IsTaskStatus (chains_task job letters relations) Done × HasManyChains job letters relations d value
 IsChainsStatus job letters relations status = IsTaskStatus (chains_task job letters relations) status
 
+-- the chain text of no more chains, which are those over T up to the bound
+pub record HasChainText (T : List ℕ → Type 0) (letters : Letters) (job : Job) (text : List ℕ) : Type 0 where
+  pub chains : List Chain
+  pub listed : AreListed T (length letters.weights) letters.weights job.bound chains
+  pub few : length chains ≤ most_chains
+  pub printed : text ≡ chain_text letters.names job.list chains
+
 -- the chain text of the chains up to the bound
 pub record IsChainList (job : Job) (letters : Letters) (relations : List (List Term)) (text : List ℕ) : Type 0 where
   pub chains : List Chain

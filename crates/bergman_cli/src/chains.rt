@@ -1,17 +1,24 @@
-ghost use Rattle.std.specs.Prelude.{◌≡◌, All, IfOk};
+ghost use Rattle.std.specs.Prelude.{◌≡◌, ◌≤◌, List, ℕ, All, Contains, IfOk, IsErrOf, length};
+ghost use Rattle.free_poly.specs.declared.term.Term.{Term};
 ghost use Rattle.free_poly.specs.Terms.{HasResidues};
-ghost use Rattle.bergman_cli.specs.Chains.{IsChainsOutcome};
+ghost use Rattle.ideal_laws.specs.Closure.{IsFactorFree};
+ghost use Rattle.ideal_laws.specs.Engine.{IsReducedUpto};
+ghost use Rattle.ideal_laws.specs.Ideal.{IsMinimal};
+ghost use Rattle.ideal_laws.specs.Laws.{IsSetting};
+ghost use Rattle.anick_chains.specs.BasisTips.{leads_of};
+ghost use Rattle.anick_chains.specs.Listing.{IsFirstMany};
+ghost use Rattle.bergman_cli.specs.Chains.{HasChainText, IsChainsOutcome, most_chains};
 ghost use Rattle.bergman_cli.specs.Engines.{limits_of};
 ghost use Rattle.bergman_cli.specs.Jobs.{IsSound};
 
-use anick_chains::{ChainFault, chain_laws, chain_text, chains};
+use anick_chains::{ChainFault, chain_counts, chain_laws, chain_text, chains, count_text};
 use command_words::Job;
 use field_table::Field;
-use ideal_laws::{DegreeEngine, EngineFault, Presentation, lower_law, run, setting_law};
+use ideal_laws::{Basis, DegreeEngine, EngineFault, Presentation, lower_law, run, setting_law};
 use job_steps::{Answer, Status};
 use std::alloc::{AllocError, Global};
 use std::thread::Threads;
-use words::{Items, NoMemory};
+use words::{Alphabet, Items, NoMemory};
 
 /// So many chains are listed at most.
 const MOST_CHAINS: u32 = 1_048_576;
@@ -46,14 +53,11 @@ pub fn chains_answer<R: Threads + Sync, E: DegreeEngine>(
         ) => return Ok(Answer::limit(alloc, kind, degree, value)),
         Err(EngineFault::NoMemory) => return Err(AllocError),
     };
-    match chains(alloc, &given.alphabet, &basis, job.bound, MOST_CHAINS) {
-        Ok(found) => {
-            let text = chain_text(alloc, &given.alphabet, found.as_slice(), job.list)?;
-            Ok(Answer {
-                status: Status::Done,
-                text: Items::from_vec(text),
-            })
-        }
+    match chain_lines(alloc, job, &given.alphabet, &basis) {
+        Ok(text) => Ok(Answer {
+            status: Status::Done,
+            text: Items::from_vec(text),
+        }),
         Err(ChainFault::TooMany { degree }) => Ok(Answer {
             status: Status::Chains {
                 degree,
@@ -63,4 +67,31 @@ pub fn chains_answer<R: Threads + Sync, E: DegreeEngine>(
         }),
         Err(ChainFault::NoMemory) => Err(AllocError),
     }
+}
+
+/// The chain text of the chains over the leading words of the basis, which are listed only where the list is printed.
+fn chain_lines(
+    alloc: Global,
+    job: &Job,
+    alphabet: &Alphabet,
+    basis: &Basis,
+) -> Result<Vec<u8>, ChainFault>
+    requires done { job.now.bound ≤ basis.now.done }
+    requires weights { basis.now.weights ≡ alphabet.now.weights }
+    requires factor_free { IsFactorFree basis.now.elements }
+
+    ensures printed { IfOk result (λ text.
+        (p : ℕ) (relations : List (List Term)) → IsSetting p basis.now.weights relations
+        → IsReducedUpto p relations basis.now
+        → HasChainText (IsMinimal p basis.now.weights relations) alphabet.now job.now text.items) }
+    ensures many { (degree : ℕ) → IsErrOf result (ChainFault.TooMany degree)
+        → IsFirstMany (Contains (leads_of basis.now.elements)) (length basis.now.weights) basis.now.weights job.now.bound
+        most_chains degree }
+{
+    if job.list {
+        let found = chains(alloc, alphabet, basis, job.bound, MOST_CHAINS)?;
+        return Ok(chain_text(alloc, alphabet, found.as_slice(), true)?);
+    }
+    let counts = chain_counts(alloc, alphabet, basis, job.bound, MOST_CHAINS)?;
+    Ok(count_text(alloc, counts.as_slice())?)
 }

@@ -1,6 +1,6 @@
 use Rattle.std.proofs.Common.{◌+◌, ℕ, Err, refl, ap, ◌∙◌}
 use Rattle.anick_chains.specs.Texts.{chain_text}
-use Rattle.bergman_cli.proofs.Chained.{few_chains, many_chains, refused_chains}
+use Rattle.bergman_cli.proofs.Chained.{many_chains, refused_chains, told_chains}
 use Rattle.bergman_cli.proofs.chains.chains_answer.Goals as goal
 
 pub returns-in-Err-Limit : goal.returns-in-Err-Limit
@@ -10,8 +10,8 @@ returns-in-Err-Limit g c =
     c.requires.modulus c.limit.result _ _ _ c.limit.ensures
     (at.ensures.limit at.kind at.degree at.value (ap Err at.field-0-is))
 
-pub chains-requires-clause-factor_free : goal.chains-requires-clause-factor_free
-chains-requires-clause-factor_free g c = c.lower_law.ensures.factors c.args.field.now c.args.given.now.alphabet.weights
+pub chain_lines-requires-clause-factor_free : goal.chain_lines-requires-clause-factor_free
+chain_lines-requires-clause-factor_free g c = c.lower_law.ensures.factors c.args.field.now c.args.given.now.alphabet.weights
     c.args.given.now.relations c.setting_law.ensures (c.in-Ok.basis.done + 1) c.in-Ok.basis (record {
       kept = c.in-Ok.ensures.kept;
       next = refl;
@@ -19,13 +19,12 @@ chains-requires-clause-factor_free g c = c.lower_law.ensures.factors c.args.fiel
       reduced = c.in-Ok.ensures.reduced;
     })
 
-pub returns-in-Ok-chains : goal.returns-in-Ok-chains
-returns-in-Ok-chains g c =
+pub returns-in-Ok-chain_lines : goal.returns-in-Ok-chain_lines
+returns-in-Ok-chain_lines g c =
     let run = c.in-Ok.ensures in
-    let listed = c.in-Ok-chains.ensures in
-    few_chains c.args.job.now c.args.given.now.alphabet c.args.given.now.relations _ c.requires.limits c.args.field.now c.requires.modulus c.setting_law.ensures
-    c.in-Ok.basis run.weights run.kept run.reduced run.done run.within c.in-Ok-chains.found _ c.from_vec.result refl listed.minimal listed.within
-    (c.from_vec.ensures ∙ c.in_ok-text-in-Ok-chains.ensures ∙ ap (chain_text c.args.given.now.alphabet.names c.args.job.now.list) c.as_slice.ensures)
+    told_chains c.args.job.now c.args.given.now.alphabet c.args.given.now.relations _ c.requires.limits c.args.field.now c.requires.modulus c.setting_law.ensures
+    c.in-Ok.basis run.weights run.kept run.reduced run.done run.within c.in-Ok-chain_lines.text.items c.from_vec.result c.from_vec.ensures
+    (c.in-Ok-chain_lines.ensures.printed c.args.field.now c.args.given.now.relations)
 
 pub returns-in-Err-TooMany : goal.returns-in-Err-TooMany
 returns-in-Err-TooMany g c =
