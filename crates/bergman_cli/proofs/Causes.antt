@@ -1,15 +1,9 @@
 -- What the end of a run says of its status.
-use Rattle.std.proofs.Common.{◌≡◌, ◌≢◌, ◌⊎◌, ◌↔◌, ◌<◌, ◌≤◌, ℕ, List, [], length, refl, sym, ap, ◌∙◌, inl, inr, subst}
+use Rattle.std.proofs.Common.{◌≡◌, ◌≢◌, ◌⊎◌, ◌↔◌, ℕ, List, [], refl, ap, inl, inr, subst}
 use Rattle.std.specs.declared.option.Option.{Option}
-use Rattle.std.specs.declared.option.Option.TheVariants.{None, Some}
 use Rattle.std.specs.Io.KnownBytes.{Appends}
-use Rattle.words.specs.Names.{Letters}
-use Rattle.free_poly.specs.declared.term.Term.{Term}
 use Rattle.bg_io.specs.Ends.{Rose}
-use Rattle.ideal_laws.specs.Laws.{IsSetting}
-use Rattle.relation_reader.specs.Meaning.{HasOneReading, Reads}
 use Rattle.command_words.specs.declared.job.Command.{Command}
-use Rattle.command_words.specs.declared.job.Command.TheVariants.{Make}
 use Rattle.command_words.specs.declared.job.Job.{Job}
 use Rattle.command_words.specs.declared.job.UsageFault.{UsageFault}
 use Rattle.command_words.specs.JobOf.{HasOneAnswer, IsJob, IsUsageFault}
@@ -17,15 +11,15 @@ use Rattle.job_steps.specs.declared.status.InputProblem.TheVariants.{TooLong, Te
 use Rattle.job_steps.specs.declared.status.Status.{Status}
 use Rattle.job_steps.specs.declared.status.Status.TheVariants.{Done, Usage, Input, Limit, Chains, Products, ReadFault, WriteFault, NoMemory}
 use Rattle.job_steps.specs.Inputs.{IsInputEnd}
-use Rattle.job_steps.specs.Status.{IsOfInput, PrintsNothing, ReadsNothing}
+use Rattle.job_steps.specs.Status.{IsOfInput, ReadsNothing}
 use Rattle.job_steps.specs.Statuses.{HasGained, IsOwn}
 use Rattle.bergman_cli.specs.Jobs.{OfJob}
-use Rattle.bergman_cli.specs.Outcomes.{HasWrittenPart, HasWrittenSome, IsDue, IsOutcome, IsWorkEnd}
-use Rattle.bergman_cli.specs.Run.{Completes, IsCaused, IsDueTo, IsEnd, IsJobEnd, IsMishap, IsUngivenTo, OfGiven, OfWork, ReadsSource}
-use Rattle.bergman_cli.proofs.Given.{fault_mishap, given_input, given_is, input_is, long_mishap, make_or_reads, make_reads_nothing, no_text_fault}
-use Rattle.bergman_cli.proofs.Given.{one_reading, read_mishap, told_input, ungiven_input}
-use Rattle.bergman_cli.proofs.Jobs.{listed, listed_some, no_fault, one_fault, one_job}
-use Rattle.bergman_cli.proofs.Works.{due_is_one, failed_writes, never, outcome_due, work_gained, work_memory, work_write}
+use Rattle.bergman_cli.specs.Outcomes.{HasWrittenPart, HasWrittenSome, IsOutcome}
+use Rattle.bergman_cli.specs.Run.{IsEnd, IsJobEnd, IsUngivenTo, OfGiven, OfWork, ReadsSource}
+use Rattle.bergman_cli.proofs.Given.{make_or_reads}
+use Rattle.bergman_cli.proofs.Given.{ungiven_input}
+use Rattle.bergman_cli.proofs.Jobs.{no_fault, one_fault}
+use Rattle.bergman_cli.proofs.Works.{never, work_gained, work_memory, work_write}
 
 -- an end of the input is one of few statuses
 module _ (p : ℕ) (left now : Option (List ℕ)) (b a : ℕ) where

@@ -1,7 +1,7 @@
 -- A status comes where its cause stands, or a mishap in its place.
-use Rattle.std.proofs.Common.{◌≡◌, ◌≢◌, ◌⊎◌, ◌<◌, ◌≤◌, ℕ, List, [], length, refl, sym, ap, ◌∙◌, inl, inr, arith, subst}
+use Rattle.std.proofs.Common.{◌≡◌, ◌≢◌, ◌⊎◌, ◌<◌, ◌≤◌, ℕ, List, length, sym, ap, inl, inr, arith, subst}
 use Rattle.std.specs.declared.option.Option.{Option}
-use Rattle.std.specs.declared.option.Option.TheVariants.{None, Some}
+use Rattle.std.specs.declared.option.Option.TheVariants.{Some}
 use Rattle.words.specs.Names.{Letters}
 use Rattle.free_poly.specs.declared.term.Term.{Term}
 use Rattle.ideal_laws.specs.Laws.{IsSetting}
@@ -13,16 +13,14 @@ use Rattle.command_words.specs.JobOf.{HasOneAnswer, IsJob}
 use Rattle.job_steps.specs.declared.status.InputProblem.TheVariants.{TooLong, Text, TooFewNames, Shape, TooFewRelations, AboveBound}
 use Rattle.job_steps.specs.declared.status.Status.{Status}
 use Rattle.job_steps.specs.declared.status.Status.TheVariants.{Done, Usage, Input, Limit, Chains, Products, ReadFault, WriteFault, NoMemory}
-use Rattle.job_steps.specs.Inputs.{IsInput}
-use Rattle.job_steps.specs.Status.{ReadsNothing}
 use Rattle.job_steps.specs.Statuses.{IsOwn}
 use Rattle.bergman_cli.specs.Jobs.{OfJob}
-use Rattle.bergman_cli.specs.Outcomes.{IsDue, IsWorkEnd, IsWorkEndOf}
-use Rattle.bergman_cli.specs.Run.{Completes, IsCaused, IsDueTo, IsEnd, IsJobEnd, IsMishap, IsUngivenTo, OfGiven, ReadsSource}
+use Rattle.bergman_cli.specs.Outcomes.{IsDue, IsWorkEnd}
+use Rattle.bergman_cli.specs.Run.{Completes, IsCaused, IsDueTo, IsEnd, IsJobEnd, IsMishap, IsUngivenTo, ReadsSource}
 use Rattle.bergman_cli.proofs.Given.{fault_mishap, given_input, given_is, input_is, long_mishap, make_or_reads, no_text_fault, one_reading}
 use Rattle.bergman_cli.proofs.Given.{read_mishap, told_input, ungiven_input}
 use Rattle.bergman_cli.proofs.Jobs.{listed, listed_some, no_fault, one_job}
-use Rattle.bergman_cli.proofs.Works.{due_is_one, failed_writes, never, outcome_due, work_gained, work_memory, work_write}
+use Rattle.bergman_cli.proofs.Works.{due_is_one, failed_writes, never, outcome_due, work_gained, work_write}
 
 module _ (job : Job) (law : HasOneReading) (some : 0 < job.modulus) (left now : Option (List ℕ)) (b a : ℕ) (held more : Option (List ℕ))
     (room : Option ℕ) (before after : ℕ) where

@@ -1,11 +1,11 @@
 -- What is given to a job: a text that is read from its source, or with make the generated one.
-use Rattle.std.proofs.Common.{◌≡◌, ◌≢◌, ◌⊎◌, ◌<◌, ◌≤◌, ℕ, List, [], ◌++◌, length, length-append, refl, sym, ap, ◌∙◌, inl, inr, arith, subst}
+use Rattle.std.proofs.Common.{◌≡◌, ◌⊎◌, ◌<◌, ◌≤◌, ℕ, List, ◌++◌, length, length-append, refl, sym, ap, ◌∙◌, inl, inr, arith, subst}
 use Rattle.std.proofs.lemmas.List.{append-nil}
 use Rattle.std.specs.declared.option.Option.{Option}
 use Rattle.std.specs.declared.option.Option.TheVariants.{None, Some}
 use Rattle.words.specs.Names.{Letters}
 use Rattle.free_poly.specs.declared.term.Term.{Term}
-use Rattle.bg_io.specs.Ends.{Loses, Rose}
+use Rattle.bg_io.specs.Ends.{Loses}
 use Rattle.relation_reader.specs.declared.fault.InputFault.{InputFault}
 use Rattle.relation_reader.specs.Meaning.{FirstFault, HasOneReading, Reads, reading, refused}
 use Rattle.command_words.specs.declared.job.Command.{Command}
@@ -14,7 +14,7 @@ use Rattle.command_words.specs.declared.job.Job.{Job}
 use Rattle.job_steps.specs.declared.status.InputProblem.TheVariants.{TooLong, Text, TooFewNames, Shape, TooFewRelations, AboveBound}
 use Rattle.job_steps.specs.declared.status.Status.{Status}
 use Rattle.job_steps.specs.declared.status.Status.TheVariants.{Done, Usage, Input, Limit, Chains, Products, ReadFault, WriteFault, NoMemory}
-use Rattle.job_steps.specs.Inputs.{IsInput, IsInputEnd, IsRefusedInput}
+use Rattle.job_steps.specs.Inputs.{IsInput, IsInputEnd}
 use Rattle.bergman_cli.specs.Run.{IsGivenTo, IsMishap, IsToldTo, IsUngivenTo, ReadsSource}
 
 -- make, or a command that reads its source

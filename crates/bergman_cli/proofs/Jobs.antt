@@ -1,5 +1,5 @@
 -- What the words of a job say of it, and that words are one job or have one fault.
-use Rattle.std.proofs.Common.{◌≡◌, ◌<◌, ◌≤◌, ◌^◌, ℕ, List, [], ◌∷◌, All, refl, sym, ◌∙◌, inl, inr, arith, subst, true, get_or, Result, Ok, Err}
+use Rattle.std.proofs.Common.{◌≡◌, ◌<◌, ◌≤◌, ℕ, List, [], ◌∷◌, All, refl, sym, ◌∙◌, inl, inr, arith, subst, true, get_or, Result, Ok, Err}
 use Rattle.std.specs.Prelude.{nat_le}
 use Rattle.std.specs.List.{Contains}
 use Rattle.std.proofs.lemmas.Bool.Decides.{nat_tests}

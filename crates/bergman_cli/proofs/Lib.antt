@@ -6,6 +6,7 @@ pub mod Chained
 pub mod Normals
 pub mod Places
 pub mod AnswerTexts
+pub mod Answering
 pub mod NormalOutcomes
 pub mod Works
 pub mod Causes

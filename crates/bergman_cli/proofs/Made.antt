@@ -1,5 +1,5 @@
 -- What make answers is an outcome of its job.
-use Rattle.std.proofs.Common.{◌≡◌, ◌+◌, ◌<◌, ◌≤◌, ℕ, List, [], length, refl, sym, ap, ◌∙◌, arith, subst}
+use Rattle.std.proofs.Common.{◌≡◌, ◌+◌, ℕ, List, [], length, refl, sym, ap, arith, subst}
 use Rattle.std.specs.Prelude.{slice_index}
 use Rattle.words.specs.Names.{Letters}
 use Rattle.free_poly.specs.declared.term.Term.{Term}
@@ -7,7 +7,7 @@ use Rattle.ideal_laws.specs.declared.limits.LimitKind.{LimitKind}
 use Rattle.ideal_laws.specs.declared.limits.LimitKind.TheVariants.{NormalWords}
 use Rattle.ideal_laws.specs.Dimension.{IsHilbertCoefficient}
 use Rattle.ideal_laws.specs.Engine.{Elements, IsReducedUpto}
-use Rattle.ideal_laws.specs.Kept.{IsBelow, IsKept}
+use Rattle.ideal_laws.specs.Kept.{IsKept}
 use Rattle.ideal_laws.specs.Laws.{IsSetting}
 use Rattle.ideal_laws.specs.Limits.{standard_limits}
 use Rattle.ideal_laws.specs.Quantities.{IsFirstRefused, NonePassesUpto}
@@ -15,10 +15,9 @@ use Rattle.poly_writer.specs.Texts.{series_text}
 use Rattle.hilbert.specs.Series.{AreCounts, CountsCoefficients, IsFirstLarge}
 use Rattle.command_words.specs.declared.job.Job.{Job}
 use Rattle.job_steps.specs.declared.answer.Answer.{Answer}
-use Rattle.job_steps.specs.declared.status.Status.{Status}
 use Rattle.job_steps.specs.declared.status.Status.TheVariants.{Done, Limit}
 use Rattle.job_steps.specs.Printing.{IsCutSeries, IsWholeSeries}
-use Rattle.job_steps.specs.Progress.{IsReach, crowded, refused, whole}
+use Rattle.job_steps.specs.Progress.{crowded, refused}
 use Rattle.job_steps.specs.Statuses.{IsTaskStatus}
 use Rattle.job_steps.proofs.Counted.{coefficient, cut_from_large, whole_from_counts}
 use Rattle.bergman_cli.specs.Engines.{limits_of}

@@ -1,5 +1,5 @@
 -- What normal answers is an outcome of its job.
-use Rattle.std.proofs.Common.{◌≡◌, ◌⊎◌, ◌+◌, ◌-◌, ◌<◌, ◌≤◌, ℕ, List, [], All, drop, length, length-drop, take, refl, sym, ap, ◌∙◌, inl, inr, arith, subst}
+use Rattle.std.proofs.Common.{◌≡◌, ◌+◌, ◌-◌, ◌<◌, ◌≤◌, ℕ, List, [], All, drop, length, length-drop, take, refl, sym, ap, ◌∙◌, inl, inr, arith, subst}
 use Rattle.std.proofs.lemmas.List.{take_all}
 use Rattle.std.proofs.lemmas.List.Elements.{All-drop, All-take}
 use Rattle.words.specs.Names.{Letters}
@@ -7,14 +7,13 @@ use Rattle.free_poly.specs.declared.term.Term.{Term}
 use Rattle.ideal_laws.specs.declared.limits.LimitKind.{LimitKind}
 use Rattle.ideal_laws.specs.Quantities.{IsFirstRefused, NonePassesUpto}
 use Rattle.command_words.specs.declared.job.Job.{Job}
-use Rattle.job_steps.specs.declared.answer.Answer.{Answer}
 use Rattle.job_steps.specs.declared.status.InputProblem.TheVariants.{TooFewRelations, AboveBound}
 use Rattle.job_steps.specs.declared.status.Status.{Status}
 use Rattle.job_steps.specs.declared.status.Status.TheVariants.{Done, Input, Limit}
 use Rattle.job_steps.specs.Progress.{refused}
 use Rattle.job_steps.specs.Statuses.{IsTaskStatus}
 use Rattle.bergman_cli.specs.Engines.{limits_of}
-use Rattle.bergman_cli.specs.Normal.{HasNone, IsAbove, IsAnsweredBy, IsAskable, IsFirstPlace, IsNormalOutcome, above, answered, ideal_of, ideal_size}
+use Rattle.bergman_cli.specs.Normal.{IsAbove, IsAnsweredBy, IsAskable, IsFirstPlace, IsNormalOutcome, above, answered, ideal_of, ideal_size}
 use Rattle.bergman_cli.specs.Normal.{normal_task, questions_of, stopped, too_few, too_many}
 
 -- what holds of all relations holds of a part of them
@@ -30,45 +29,27 @@ questions-part job whole rs is =
 
 module _ (job : Job) (letters : Letters) (relations : List (List Term)) where
   -- fewer relations than questions are asked
-  pub few_outcome : (answer : Answer) (n : ℕ) → answer ≡ record { status = Input (TooFewRelations n); text = [] } → n ≡ length relations →
-      length relations < job.ask → IsNormalOutcome job letters relations answer.status answer.text
-  few_outcome answer n is count less = (
-    too_few,
-    less,
-    ap (λ (a : Answer). a.status) is ∙ ap (λ (m : ℕ). Input (TooFewRelations m)) count,
-    ap (λ (a : Answer). a.text) is,
-  )
+  pub few_outcome : (n : ℕ) → n ≡ length relations → length relations < job.ask → IsNormalOutcome job letters relations (Input (TooFewRelations n)) []
+  few_outcome n count less = (too_few, less, ap (λ (m : ℕ). Input (TooFewRelations m)) count, refl)
 
   -- a question above the bound
-  pub above_outcome : (answer : Answer) (n place : ℕ) → answer ≡ record { status = Input (AboveBound n); text = [] } →
-      n ≡ ideal_size job relations + place + 1 → job.ask ≤ length relations
-      → IsFirstPlace (IsAbove letters.weights job.bound) (questions_of job relations) place → IsNormalOutcome job letters relations answer.status answer.text
-  above_outcome answer n place is number enough first = (
-    above place,
-    (enough, first),
-    ap (λ (a : Answer). a.status) is
-        ∙ ap (λ (m : ℕ). Input (AboveBound m)) number,
-    ap (λ (a : Answer). a.text) is,
-  )
+  pub above_outcome : (n place : ℕ) → n ≡ ideal_size job relations + place + 1 → job.ask ≤ length relations →
+      IsFirstPlace (IsAbove letters.weights job.bound) (questions_of job relations) place → IsNormalOutcome job letters relations (Input (AboveBound n)) []
+  above_outcome n place number enough first = (above place, (enough, first), ap (λ (m : ℕ). Input (AboveBound m)) number, refl)
 
   module _ (askable : IsAskable job letters relations) (limits : List (LimitKind × ℕ)) (same : limits ≡ limits_of job.engine) (p : ℕ) (field : p ≡ job.modulus)
       (alphabet : Letters) (names : alphabet ≡ letters) (ideal : List (List Term)) (part : ideal ≡ ideal_of job relations) where
     -- a limit of the engine
-    pub stopped_outcome : (answer : Answer) (kind own_kind : LimitKind) (d own_d value own_value : ℕ) → own_kind ≡ kind → own_d ≡ d →
-        own_value ≡ value → answer ≡ record { status = Limit kind d value; text = [] }
-        → IsFirstRefused p alphabet.weights ideal limits job.bound own_kind own_d own_value → IsNormalOutcome job letters relations answer.status answer.text
-    stopped_outcome answer kind own_kind d own_d value own_value kinds degrees values is own_first =
-        let first : IsFirstRefused p alphabet.weights ideal limits job.bound kind d value =
-        subst (λ (v : ℕ). IsFirstRefused p alphabet.weights ideal limits job.bound kind d v) values
-        (subst (λ (e : ℕ). IsFirstRefused p alphabet.weights ideal limits job.bound kind e own_value) degrees
-        (subst (λ (k : LimitKind). IsFirstRefused p alphabet.weights ideal limits job.bound k own_d own_value) kinds own_first)) in
+    pub stopped_outcome : (kind : LimitKind) (d value : ℕ) → IsFirstRefused p alphabet.weights ideal limits job.bound kind d value →
+        IsNormalOutcome job letters relations (Limit kind d value) []
+    stopped_outcome kind d value first =
         let own : IsFirstRefused job.modulus letters.weights (ideal_of job relations) (limits_of job.engine) job.bound kind d value =
         subst (λ (rs : List (List Term)). IsFirstRefused job.modulus letters.weights rs (limits_of job.engine) job.bound kind d value)
         part
         (subst (λ (l : Letters). IsFirstRefused job.modulus l.weights ideal (limits_of job.engine) job.bound kind d value) names
         (subst (λ (m : ℕ). IsFirstRefused m alphabet.weights ideal (limits_of job.engine) job.bound kind d value) field
         (subst (λ (l : List (LimitKind × ℕ)). IsFirstRefused p alphabet.weights ideal l job.bound kind d value) same first))) in
-        (stopped kind d value, (askable, (refused kind d value, own, (refl, refl, refl))), ap (λ (a : Answer). a.status) is, ap (λ (a : Answer). a.text) is)
+        (stopped kind d value, (askable, (refused kind d value, own, (refl, refl, refl))), refl, refl)
 
     computed : NonePassesUpto p alphabet.weights ideal limits job.bound → IsTaskStatus (normal_task job letters relations) Done
     computed none =

@@ -1,5 +1,5 @@
 -- The command normal ends in one way, with a status of its own.
-use Rattle.std.proofs.Common.{◌≡◌, ◌≢◌, ◌⊎◌, ◌<◌, ◌≤◌, ℕ, List, [], length, refl, sym, ap, ◌∙◌, inl, inr, arith, subst, take}
+use Rattle.std.proofs.Common.{◌≡◌, ◌≢◌, ◌<◌, ◌≤◌, ℕ, List, [], length, refl, sym, ap, ◌∙◌, inl, inr, arith, subst, take}
 use Rattle.std.proofs.lemmas.Bool.{cases_lt}
 use Rattle.std.proofs.lemmas.List.Elements.{All-take}
 use Rattle.words.specs.Names.{Letters}
@@ -14,7 +14,7 @@ use Rattle.job_steps.specs.Status.{PrintsNothing}
 use Rattle.job_steps.specs.Statuses.{IsOwn, IsTaskStatus}
 use Rattle.job_steps.proofs.Statuses.{one_task_status}
 use Rattle.bergman_cli.specs.Normal.{Ending, HasNone, IsEnding, IsEndingText, IsFirstPlace, IsNormalOutcome, IsNormalStatus, above, answered}
-use Rattle.bergman_cli.specs.Normal.{ideal_of, ideal_size, normal_task, status_of, stopped, too_few, too_many}
+use Rattle.bergman_cli.specs.Normal.{ideal_size, normal_task, status_of, stopped, too_few, too_many}
 use Rattle.bergman_cli.specs.Outcomes.{Writes}
 
 -- one place is the first

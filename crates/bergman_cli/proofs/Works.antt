@@ -13,7 +13,7 @@ use Rattle.job_steps.specs.declared.status.Status.{Status}
 use Rattle.job_steps.specs.declared.status.Status.TheVariants as statuses
 use Rattle.job_steps.specs.Status.{PrintsNothing}
 use Rattle.job_steps.specs.Statuses.{HasGained, HasGainedPart, IsAnswered, IsOwn, IsTaskEnd, IsTaskStatus, IsThis}
-use Rattle.job_steps.proofs.Statuses.{answered_by, answered_gained, cut_is_some, one_task_status, task_gained, task_outcome_status, task_status_own}
+use Rattle.job_steps.proofs.Statuses.{answered_by, answered_gained, cut_is_some, of_parts, one_task_status, task_gained, task_outcome_status, task_status_own}
 use Rattle.job_steps.proofs.Statuses.{task_status_prints}
 use Rattle.bergman_cli.specs.Gb.{gb_task}
 use Rattle.bergman_cli.specs.Make.{IsMakeText, make_task}
@@ -97,14 +97,14 @@ module _ (job : Job) (letters : Letters) (relations : List (List Term)) where
     abbrev Ends : Command → Status → Type 0
     Ends command = IsWorkEndOf command job letters relations held more room before after
 
-    -- an answer that was written ends the work
-    pub answer_ends : (command : Command) → command ≢ Gb → (own : Status) (text : List ℕ) → Outcome command own text → (status : Status) →
+    -- an answer that was written at once ends the work
+    pub answer_ends : (command : Command) → command ≢ Gb → command ≢ Normal → (own : Status) (text : List ℕ) → Outcome command own text → (status : Status) →
         IsAnswered (IsThis own text) held more room before after status → Ends command status
-    answer_ends Gb other own text is status h = absurd (other refl)
-    answer_ends Make other own text is status h = answered_by (Outcome Make) held more room before after own text is status h
-    answer_ends Module other own text is status h = answered_by (Outcome Module) held more room before after own text is status h
-    answer_ends Chains other own text is status h = answered_by (Outcome Chains) held more room before after own text is status h
-    answer_ends Normal other own text is status h = answered_by (Outcome Normal) held more room before after own text is status h
+    answer_ends Gb degrees questions own text is status h = absurd (degrees refl)
+    answer_ends Make degrees questions own text is status h = answered_by (Outcome Make) held more room before after own text is status h
+    answer_ends Module degrees questions own text is status h = answered_by (Outcome Module) held more room before after own text is status h
+    answer_ends Chains degrees questions own text is status h = answered_by (Outcome Chains) held more room before after own text is status h
+    answer_ends Normal degrees questions own text is status h = absurd (questions refl)
 
     -- work that ended by itself has gained the text of an outcome
     pub work_gained : (command : Command) (status : Status) → Ends command status → IsOwn status → HasGained held more (Outcome command status)
@@ -112,7 +112,8 @@ module _ (job : Job) (letters : Letters) (relations : List (List Term)) where
     work_gained Make status h own = answered_gained (Outcome Make) held more room before after status h own
     work_gained Module status h own = answered_gained (Outcome Module) held more room before after status h own
     work_gained Chains status h own = answered_gained (Outcome Chains) held more room before after status h own
-    work_gained Normal status h own = answered_gained (Outcome Normal) held more room before after status h own
+    work_gained Normal status h own = answered_gained (Outcome Normal) held more room before after status
+        (of_parts (Outcome Normal) held more room before after status (λ is. subst IsOwn is own) h) own
 
     pub work_write : (command : Command) → Ends command statuses.WriteFault → Rose before after × HasWrittenPartOf command job letters relations held more room
     work_write Gb h = h
@@ -126,7 +127,7 @@ module _ (job : Job) (letters : Letters) (relations : List (List Term)) where
     work_memory Make h = inl h
     work_memory Module h = inl h
     work_memory Chains h = inl h
-    work_memory Normal h = inl h
+    work_memory Normal h = h
 
     part_writes : (command : Command) (own : Status) → IsSetting job.modulus letters.weights relations → Due command own →
         HasGainedPart held more room (Outcome command) → Writes command own
@@ -176,4 +177,5 @@ module _ (job : Job) (letters : Letters) (relations : List (List Term)) where
     never Make status own write memory h = answered_never Make status own write memory h
     never Module status own write memory h = answered_never Module status own write memory h
     never Chains status own write memory h = answered_never Chains status own write memory h
-    never Normal status own write memory h = answered_never Normal status own write memory h
+    never Normal status own write memory h = answered_never Normal status own write memory
+        (of_parts (Outcome Normal) held more room before after status memory h)

@@ -1,5 +1,5 @@
 -- What the command make asks of the relations of a generated text, and the summary that it prints.
-use Rattle.std.specs.Prelude.{ℕ, ◌≡◌, ◌+◌, Bool, true, false, List, [], ◌++◌, codes, decimal, length, sum_by}
+use Rattle.std.specs.Prelude.{ℕ, ◌≡◌, ◌+◌, true, false, List, [], ◌++◌, codes, decimal, length, sum_by}
 use Rattle.std.specs.List.{flat_map}
 use Rattle.words.specs.Names.{Letters}
 use Rattle.free_poly.specs.declared.term.Term.{Term}
@@ -11,7 +11,7 @@ use Rattle.ideal_laws.specs.Quantities.{terms_in}
 use Rattle.poly_writer.specs.Texts.{line}
 use Rattle.command_words.specs.declared.job.Job.{Job}
 use Rattle.job_steps.specs.declared.status.Status.{Status}
-use Rattle.job_steps.specs.declared.status.Status.TheVariants.{Done, Limit}
+use Rattle.job_steps.specs.declared.status.Status.TheVariants.{Done}
 use Rattle.job_steps.specs.Progress.{Task}
 use Rattle.job_steps.specs.Statuses.{IsTaskStatus}
 use Rattle.bergman_cli.specs.Engines.{limits_of}

@@ -8,7 +8,8 @@ use Rattle.command_words.specs.declared.job.Job.{Job}
 use Rattle.job_steps.specs.declared.status.Status.{Status}
 use Rattle.job_steps.specs.declared.status.Status.TheVariants as statuses
 use Rattle.job_steps.specs.Gains.{HasPrintedPart, HasPrintedSome}
-use Rattle.job_steps.specs.Statuses.{HasGainedPart, IsAnswered, IsTaskEnd, IsTaskOutcome, IsTaskStatus}
+use Rattle.job_steps.specs.Statuses.{HasGainedPart, HasGainedSome, IsAnswered, IsAnsweredInParts, IsTaskEnd}
+use Rattle.job_steps.specs.Statuses.{IsTaskOutcome, IsTaskStatus}
 use Rattle.job_steps.specs.Traces.{IsTaskTrace}
 use Rattle.bergman_cli.specs.Engines.{accounts_of, traces_of}
 use Rattle.bergman_cli.specs.Gb.{gb_task}
@@ -54,6 +55,8 @@ HasWrittenPart job = HasWrittenPartOf job.command job
 -- what was gained where memory was wanting, if something was
 abbrev pub HasWrittenSomeOf : Command → Job → Letters → List (List Term) → Option (List ℕ) → Option (List ℕ) → Type 0
 HasWrittenSomeOf Gb job letters relations held more = HasPrintedSome (gb_task job letters relations) held more
+HasWrittenSomeOf Normal job letters relations held more =
+    HasGainedSome held more (IsOutcomeOf Normal job letters relations)
 HasWrittenSomeOf command job letters relations held more = ⊥
 
 abbrev pub HasWrittenSome : Job → Letters → List (List Term) → Option (List ℕ) → Option (List ℕ) → Type 0
@@ -63,6 +66,7 @@ HasWrittenSome job = HasWrittenSomeOf job.command job
 abbrev pub IsWorkEndOf : Command → Job → Letters → List (List Term) → Option (List ℕ) → Option (List ℕ) → Option ℕ →
     ℕ → ℕ → Status → Type 0
 IsWorkEndOf Gb job letters relations = IsTaskEnd (gb_task job letters relations)
+IsWorkEndOf Normal job letters relations = IsAnsweredInParts (IsOutcomeOf Normal job letters relations)
 IsWorkEndOf command job letters relations = IsAnswered (IsOutcomeOf command job letters relations)
 
 abbrev pub IsWorkEnd : Job → Letters → List (List Term) → Option (List ℕ) → Option (List ℕ) → Option ℕ → ℕ → ℕ →

@@ -1,5 +1,5 @@
 -- What a run has read and printed, and why it ended so.
-use Rattle.std.specs.Prelude.{ℕ, ◌≡◌, ◌≢◌, ◌⊎◌, ◌<◌, ◌≤◌, List, [], Option, Some, length}
+use Rattle.std.specs.Prelude.{ℕ, ◌≡◌, ◌⊎◌, ◌<◌, ◌≤◌, List, [], Option, Some, length}
 use Rattle.std.specs.Io.KnownBytes.{Appends}
 use Rattle.words.specs.Names.{Letters}
 use Rattle.free_poly.specs.declared.term.Term.{Term}
@@ -13,9 +13,9 @@ use Rattle.command_words.specs.declared.job.Job.{Job}
 use Rattle.command_words.specs.JobOf.{IsJob, IsUsageFault}
 use Rattle.job_steps.specs.declared.status.InputProblem.TheVariants.{TooLong, Text}
 use Rattle.job_steps.specs.declared.status.Status.{Status}
-use Rattle.job_steps.specs.declared.status.Status.TheVariants.{Done, Usage, Input, Limit, Chains, Products}
+use Rattle.job_steps.specs.declared.status.Status.TheVariants.{Done, Usage, Input, Limit}
 use Rattle.job_steps.specs.declared.status.Status.TheVariants.{ReadFault, WriteFault, NoMemory}
-use Rattle.job_steps.specs.Inputs.{IsInput, IsInputEnd, IsRefusedInput}
+use Rattle.job_steps.specs.Inputs.{IsInput, IsInputEnd}
 use Rattle.bergman_cli.specs.Jobs.{OfJob}
 use Rattle.bergman_cli.specs.Outcomes.{IsDue, IsWorkEnd, IsWorkTrace, Writes}
 

@@ -1,75 +1,85 @@
-ghost use Rattle.std.specs.Prelude.{◌≡◌, ◌≢◌, ◌<◌, ◌≤◌, ◌^◌, ◌+◌, [], All, IfOk, MatchOption, length, min};
-ghost use Rattle.free_poly.specs.Terms.{HasOneDegree, HasResidues, UsesLetters};
+ghost use Rattle.std.specs.Prelude.{◌≡◌, ◌≢◌, ◌<◌, ◌≤◌, ◌^◌, All, MatchOption, length, min};
+ghost use Rattle.free_poly.specs.Terms.{HasResidues, UsesLetters};
 ghost use Rattle.ideal_laws.specs.Engine.{IsReducedUpto};
 ghost use Rattle.ideal_laws.specs.Kept.{lead_degree};
-ghost use Rattle.lead_index.specs.Leads.{IsIndexOf};
+ghost use Rattle.ideal_laws.specs.Laws.{IsRelation};
+ghost use Rattle.job_steps.specs.Status.{PrintsNothing};
+ghost use Rattle.job_steps.specs.Statuses.{IsAnsweredInParts};
 ghost use Rattle.bergman_cli.specs.Engines.{limits_of};
 ghost use Rattle.bergman_cli.specs.Jobs.{IsSound};
 ghost use Rattle.bergman_cli.specs.Normal.{HasNone, IsAbove, IsAnsweredBy, IsFirstPlace, IsNormalOutcome};
 
 use crate::cut::first_relations;
-use crate::module::refused;
-use cofactors::{CofactorFault, answer_text, normal_form};
+use bg_io::{Sink, write_all};
+use cofactors::{CofactorFault, answer_text, normal_form, normal_form_laws};
 use command_words::Job;
 use degree_words::degree_within;
 use field_table::Field;
 use free_poly::Poly;
 use ideal_laws::{Basis, DegreeEngine, EngineFault, Presentation, lower_law, run, setting_law};
-use job_steps::{Answer, InputProblem, Status};
-use lead_index::{LeadIndex, index_of};
-use std::alloc::{AllocError, Global};
+use job_steps::{InputProblem, Status};
+use lead_index::index_of;
+use std::alloc::Global;
 use std::thread::Threads;
-use words::{Alphabet, Items, NoMemory};
+use words::Alphabet;
 
 /// A question may have so many triples.
 const MOST_TRIPLES: u32 = 16_384;
 
-/// The command `normal`: the last relations are questions, each of which is answered by its normal form and products.
-pub fn normal_answer<R: Threads + Sync, E: DegreeEngine>(
+/// The command `normal`: the last relations are questions. The answer to each, its normal form with products, is
+/// written before the next one is looked for.
+pub fn run_normal<R: Threads + Sync, E: DegreeEngine, K: Sink>(
     rt: &R,
     alloc: Global,
     job: &Job,
     engine: &mut E,
     field: &Field,
     given: &Presentation,
-) -> Result<Answer, NoMemory>
+    out: &mut K,
+) -> Status
     requires limits { E.kinds engine.old ≡ limits_of job.now.engine }
     requires sound { IsSound job.now }
     requires modulus { field.now ≡ job.now.modulus }
     requires residues { All (HasResidues field.now) given.now.relations }
-    ensures { IfOk result (λ answer. IsNormalOutcome job.now given.now.alphabet given.now.relations answer.status
-        answer.text) }
+
+    ensures end { IsAnsweredInParts (IsNormalOutcome job.now given.now.alphabet given.now.relations)
+        (K.held out.old) (K.held out.new) (K.room out.old) (K.faults out.old) (K.faults out.new) result }
+    ensures nothing { PrintsNothing result → out.new ≡ out.old }
+    ensures writes { result ≢ Status.WriteFault → K.faults out.new ≡ K.faults out.old }
 {
     let relations = given.relations.as_slice();
     let count = relations.len() as u32;
     if count < job.ask {
-        return Ok(refused(alloc, InputProblem::TooFewRelations { relations: count }));
+        return Status::Input(InputProblem::TooFewRelations { relations: count });
     }
     let size = count - job.ask;
     let questions = &relations[size as usize..];
     if let Some(place) = first_above(&given.alphabet, questions, job.bound) {
-        return Ok(refused(
-            alloc,
-            InputProblem::AboveBound {
-                relation: size + place + 1,
-            },
-        ));
+        return Status::Input(InputProblem::AboveBound {
+            relation: size + place + 1,
+        });
     }
+    let Ok(ideal) = first_relations(alloc, given, size as usize) else {
+        return Status::NoMemory;
+    };
     lower_law();
-    let ideal = first_relations(alloc, given, size as usize)?;
+    setting_law(field, given);
     setting_law(field, &ideal);
-    let basis = match run(rt, alloc, engine, field, &ideal, job.bound) {
-        Ok(basis) => basis,
+    match run(rt, alloc, engine, field, &ideal, job.bound) {
+        Ok(basis) => write_answers(alloc, field, &ideal, &basis, questions, out),
         Err(
             EngineFault::Limit {
                 kind,
                 degree,
                 value,
             },
-        ) => return Ok(Answer::limit(alloc, kind, degree, value)),
-        Err(EngineFault::NoMemory) => return Err(AllocError),
-    };
-    answers(alloc, field, &ideal, &basis, questions)
+        ) => Status::Limit {
+            kind,
+            degree,
+            value,
+        },
+        Err(EngineFault::NoMemory) => Status::NoMemory,
+    }
 }
 
 /// The place of the first question of a degree above the bound.
@@ -99,52 +109,55 @@ fn degree_of(alphabet: &Alphabet, question: &Poly) -> u32
     }
 }
 
-/// The answers to the questions, up to the first one that has too many triples.
-fn answers(
+/// Writes the answers to the questions one by one, up to the first one that has too many triples.
+fn write_answers<K: Sink>(
     alloc: Global,
     field: &Field,
     ideal: &Presentation,
     basis: &Basis,
     questions: &[Poly],
-) -> Result<Answer, NoMemory>
+    out: &mut K,
+) -> Status
     requires few { length questions.now < 2 ^ 32 }
-    requires others { All (λ f. f ≢ []) questions.now }
-    requires letters { All (UsesLetters (length ideal.now.alphabet.weights)) questions.now }
-    requires residues { All (HasResidues field.now) questions.now }
-    requires one_degree { All (HasOneDegree ideal.now.alphabet.weights) questions.now }
+    requires elements { All (IsRelation field.now ideal.now.alphabet.weights) questions.now }
     requires within { HasNone (IsAbove ideal.now.alphabet.weights basis.now.done) questions.now }
     requires weights { basis.now.weights ≡ ideal.now.alphabet.weights }
     requires reduced { IsReducedUpto field.now ideal.now.relations basis.now }
     requires relations { All (HasResidues field.now) ideal.now.relations }
-    ensures { IfOk result (λ answer. IsAnsweredBy field.now ideal.now.alphabet ideal.now.relations questions.now
-        answer.status answer.text) }
+
+    ensures end { IsAnsweredInParts (IsAnsweredBy field.now ideal.now.alphabet ideal.now.relations questions.now)
+        (K.held out.old) (K.held out.new) (K.room out.old) (K.faults out.old) (K.faults out.new) result }
+    ensures nothing { PrintsNothing result → out.new ≡ out.old }
+    ensures writes { result ≢ Status.WriteFault → K.faults out.new ≡ K.faults out.old }
 {
     lower_law();
+    normal_form_laws();
     setting_law(field, ideal);
     let _done = basis.done();
-    let index = index_of(alloc, basis)?;
-    let mut text = Vec::new(alloc);
+    let Ok(index) = index_of(alloc, basis) else {
+        return Status::NoMemory;
+    };
     for (place, question) in questions.iter().enumerate() {
         match normal_form(alloc, field, ideal, basis, &index, question, MOST_TRIPLES) {
             Ok(certificate) => {
                 let number = place as u32 + 1;
-                let answer = answer_text(alloc, &ideal.alphabet, field, number, &certificate)?;
-                text.extend_from_slice(answer.as_slice())?;
+                let Ok(answer) = answer_text(alloc, &ideal.alphabet, field, number, &certificate)
+                else {
+                    return Status::NoMemory;
+                };
+                match write_all(out, answer.as_slice()) {
+                    Ok(()) => {}
+                    Err(_) => return Status::WriteFault,
+                }
             }
             Err(CofactorFault::TooMany) => {
-                return Ok(Answer {
-                    status: Status::Products {
-                        degree: degree_of(&ideal.alphabet, question),
-                        value: u64::from(MOST_TRIPLES) + 1,
-                    },
-                    text: Items::from_vec(text),
-                });
+                return Status::Products {
+                    degree: degree_of(&ideal.alphabet, question),
+                    value: u64::from(MOST_TRIPLES) + 1,
+                };
             }
-            Err(CofactorFault::NoMemory) => return Err(AllocError),
+            Err(CofactorFault::NoMemory) => return Status::NoMemory,
         }
     }
-    Ok(Answer {
-        status: Status::Done,
-        text: Items::from_vec(text),
-    })
+    Status::Done
 }

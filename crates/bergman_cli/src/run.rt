@@ -21,7 +21,7 @@ use crate::chains::chains_answer;
 use crate::gb::run_gb;
 use crate::make::make_answer;
 use crate::module::module_answer;
-use crate::normal::normal_answer;
+use crate::normal::run_normal;
 use bg_io::{PlannedGate, Sink, Source};
 use command_words::{Command, EngineKind, Job, read_words, words_law};
 use degree_loop::{CoreEngine, RaceEngine, SeqEngine, claim_history_law};
@@ -37,8 +37,8 @@ use words::NoMemory;
 
 /// Runs the words: with `make` on the relations of a generated text, and else on letters and relations that are read
 /// from `source`. With `gb` the lines of a degree are written before the next one is asked for, and where the words
-/// ask for it, the trace of each degree is told before its lines are written; the other commands write their text at
-/// once.
+/// ask for it, the trace of each degree is told before its lines are written; with `normal` the answer to a question
+/// is written before the next one is looked for; the other commands write their text at once.
 pub fn bergman<R: Threads + Sync, S: Source, K: Sink, T: Sink>(
     rt: &R,
     alloc: Global,
@@ -238,6 +238,9 @@ fn work<R: Threads + Sync, E: DegreeEngine, K: Sink, T: Sink>(
     if job.command == Command::Gb {
         return run_gb(rt, alloc, job, engine, field, given, out, err, failed);
     }
+    if job.command == Command::Normal {
+        return run_normal(rt, alloc, job, engine, field, given, out);
+    }
     match answer_of(rt, alloc, job, engine, field, given) {
         Ok(answer) => write_answer(answer, out),
         Err(_) => Status::NoMemory,
@@ -253,7 +256,8 @@ fn answer_of<R: Threads + Sync, E: DegreeEngine>(
     field: &Field,
     given: &Presentation,
 ) -> Result<Answer, NoMemory>
-    requires other { job.now.command ≢ Command.Gb }
+    requires degrees { job.now.command ≢ Command.Gb }
+    requires questions { job.now.command ≢ Command.Normal }
     requires limits { E.kinds engine.old ≡ limits_of job.now.engine }
     requires sound { IsSound job.now }
     requires modulus { field.now ≡ job.now.modulus }
@@ -265,7 +269,6 @@ fn answer_of<R: Threads + Sync, E: DegreeEngine>(
         Command::Make => make_answer(rt, alloc, job, engine, field, given),
         Command::Module => module_answer(rt, alloc, job, engine, field, given),
         Command::Chains => chains_answer(rt, alloc, job, engine, field, given),
-        Command::Normal => normal_answer(rt, alloc, job, engine, field, given),
-        Command::Gb => unreachable!(),
+        Command::Gb | Command::Normal => unreachable!(),
     }
 }

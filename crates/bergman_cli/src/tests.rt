@@ -760,6 +760,41 @@ fn chains_stand_by_degree_and_length(rt: HostRuntime) -> Result<(), Fail> {
     )
 }
 
+/// The first write of the second answer fails; a question of degree 13 has 12 * 2^11 triples.
+#[test]
+fn an_answer_stands_before_the_next_question_is_looked_at(rt: HostRuntime) -> Result<(), Fail> {
+    let failing = Failing {
+        read: 0,
+        write: 19,
+        told: 0,
+    };
+    let many = Status::Products {
+        degree: 13,
+        value: 16_385,
+    };
+    for (line, text, failing, status, output, told) in [
+        (
+            "normal mod=101 deg=3 ask=2",
+            "vars x,y; x*y-y*x, x^2*y, x*y*x-y*x^2;",
+            failing,
+            Status::WriteFault,
+            "% question 1\nnormal y*x^2\nfrom 1 x 1 1\nfrom 1 1 1 x\n",
+            "bergman: write fault\n",
+        ),
+        (
+            "normal mod=101 deg=13 ask=3",
+            "vars x,y; x*y-y*x, x*y*x-y*x^2, x^12*y, y*x;",
+            NONE,
+            many,
+            "% question 1\nnormal 0\nfrom 1 1 1 x\n",
+            "bergman: limit: products 16385 in degree 13\n",
+        ),
+    ] {
+        expect_run(&rt, line, text.as_bytes(), failing, status, output, told)?;
+    }
+    Ok(())
+}
+
 /// In the first case there are four triples, which are independent, so its list of products is the only one.
 #[test]
 fn questions_have_normal_forms_and_products(rt: HostRuntime) -> Result<(), Fail> {

@@ -11,7 +11,7 @@ use Rattle.job_steps.specs.declared.status.Status.TheVariants.{Done, Usage, Inpu
 use Rattle.job_steps.specs.Gains.{GainsPart, HasPrinted, HasPrintedPart, HasPrintedSome}
 use Rattle.job_steps.specs.Progress.{Task}
 use Rattle.job_steps.specs.Status.{PrintsNothing}
-use Rattle.job_steps.specs.Statuses.{HasGained, HasGainedPart, IsAnswered, IsOwn, IsTaskEnd, IsTaskOutcome, IsTaskStatus, IsThis}
+use Rattle.job_steps.specs.Statuses.{HasGained, HasGainedPart, IsAnswered, IsAnsweredInParts, IsOwn, IsTaskEnd, IsTaskOutcome, IsTaskStatus, IsThis}
 use Rattle.job_steps.proofs.Reaches.{one_stop, whole_is_not_stopped}
 
 -- the statuses of a task are its own
@@ -140,6 +140,37 @@ module _ (Outcome : Status → List ℕ → Type 0) (held more : Option (List �
   answered_gained ReadFault h own = h
   answered_gained WriteFault h own = absurd own
   answered_gained NoMemory h own = absurd own
+
+-- but where memory is wanting, what is written part by part ends as what is written at once
+pub of_parts : (Outcome : Status → List ℕ → Type 0) (held more : Option (List ℕ)) (room : Option ℕ) (before after : ℕ) (status : Status) →
+    status ≢ NoMemory → IsAnsweredInParts Outcome held more room before after status → IsAnswered Outcome held more room before after status
+of_parts Outcome held more room before after Done memory h = h
+of_parts Outcome held more room before after (Usage fault) memory h = h
+of_parts Outcome held more room before after (Input problem) memory h = h
+of_parts Outcome held more room before after (Limit kind d value) memory h = h
+of_parts Outcome held more room before after (Chains d value) memory h = h
+of_parts Outcome held more room before after (Products d value) memory h = h
+of_parts Outcome held more room before after ReadFault memory h = h
+of_parts Outcome held more room before after WriteFault memory h = h
+of_parts Outcome held more room before after NoMemory memory h = absurd (memory refl)
+
+module _ (Own Outcome : Status → List ℕ → Type 0) (among : (status : Status) (text : List ℕ) → Own status text → Outcome status text)
+    (held more : Option (List ℕ)) (room : Option ℕ) (before after : ℕ) where
+  gained_among : (status : Status) → HasGained held more (Own status) → HasGained held more (Outcome status)
+  gained_among status h = (h.0, among status h.0 h.1, h.2)
+
+  -- each of these outcomes is one of those
+  pub parts_among : (status : Status) → IsAnsweredInParts Own held more room before after status → IsAnsweredInParts Outcome held more room before after status
+  parts_among Done h = gained_among Done h
+  parts_among (Usage fault) h = gained_among (Usage fault) h
+  parts_among (Input problem) h = gained_among (Input problem) h
+  parts_among (Limit kind d value) h = gained_among (Limit kind d value) h
+  parts_among (Chains d value) h = gained_among (Chains d value) h
+  parts_among (Products d value) h = gained_among (Products d value) h
+  parts_among ReadFault h = gained_among ReadFault h
+  parts_among WriteFault h = (h.0, (h.1.0, h.1.1, among h.1.0 h.1.1 h.1.2, h.1.3))
+  parts_among NoMemory (inl none) = inl none
+  parts_among NoMemory (inr some) = inr (some.0, some.1, among some.0 some.1 some.2, some.3)
 
 module _ (own : Status) (text : List ℕ) (held more : Option (List ℕ)) (room : Option ℕ) (before after : ℕ) where
   abbrev Written : Status → Type 0

@@ -1,12 +1,12 @@
 -- The statuses that a task ends with by itself, and the text that goes with each.
-use Rattle.std.specs.Prelude.{ℕ, ◌≡◌, ◌≢◌, List, [], Option}
+use Rattle.std.specs.Prelude.{ℕ, ◌≡◌, ◌≢◌, ◌⊎◌, List, [], Option}
 use Rattle.std.specs.Io.KnownBytes.{Appends}
 use Rattle.bg_io.specs.Ends.{Rose}
 use Rattle.job_steps.specs.declared.status.InputProblem.TheVariants.{TooFewNames, Shape, TooFewRelations, AboveBound}
 use Rattle.job_steps.specs.declared.status.Status.{Status}
 use Rattle.job_steps.specs.declared.status.Status.TheVariants.{Done, Input, Limit, Chains, Products, WriteFault}
 use Rattle.job_steps.specs.declared.status.Status.TheVariants.{NoMemory}
-use Rattle.job_steps.specs.Gains.{GainsAll, GainsPart, HasPrinted, HasPrintedPart, HasPrintedSome}
+use Rattle.job_steps.specs.Gains.{GainsAll, GainsPart, GainsSome, HasPrinted, HasPrintedPart, HasPrintedSome}
 use Rattle.job_steps.specs.Progress.{IsReach, IsStoppedBy, IsText, Reach, Task, whole}
 
 -- a status that the work on a text ends with by itself
@@ -52,12 +52,22 @@ abbrev pub HasGainedPart : Option (List ℕ) → Option (List ℕ) → Option �
 HasGainedPart held more room Outcome = (status : Status) × (text : List ℕ) × Outcome status text
     × GainsPart held more room text
 
+-- an outcome has a text of which some prefix was gained
+abbrev pub HasGainedSome : Option (List ℕ) → Option (List ℕ) → (Status → List ℕ → Type 0) → Type 0
+HasGainedSome held more Outcome = (status : Status) × (text : List ℕ) × Outcome status text × GainsSome held more text
+
 -- how a task ended whose text is written at once, where it has these outcomes
 abbrev pub IsAnswered : (Status → List ℕ → Type 0) → Option (List ℕ) → Option (List ℕ) → Option ℕ → ℕ → ℕ → Status →
     Type 0
 IsAnswered Outcome held more room before after WriteFault = Rose before after × HasGainedPart held more room Outcome
 IsAnswered Outcome held more room before after NoMemory = Appends held more []
 IsAnswered Outcome held more room before after status = HasGained held more (Outcome status)
+
+-- how a task ended whose text is written part by part, where it has these outcomes
+abbrev pub IsAnsweredInParts : (Status → List ℕ → Type 0) → Option (List ℕ) → Option (List ℕ) → Option ℕ → ℕ → ℕ →
+    Status → Type 0
+IsAnsweredInParts Outcome held more room before after NoMemory = Appends held more [] ⊎ HasGainedSome held more Outcome
+IsAnsweredInParts Outcome held more room before after status = IsAnswered Outcome held more room before after status
 
 -- this status with this text is the only outcome
 abbrev pub IsThis : Status → List ℕ → Status → List ℕ → Type 0

@@ -1,4 +1,4 @@
-use Rattle.std.proofs.Common.{◌≡◌, ◌<◌, ℕ, []}
+use Rattle.std.proofs.Common.{◌<◌, ℕ, []}
 use Rattle.std.specs.Prelude.{slice_index_or}
 use Rattle.bergman_cli.specs.Normal.{IsAbove}
 use Rattle.bergman_cli.proofs.normal.first_above.Given as goal

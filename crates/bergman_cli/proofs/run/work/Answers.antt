@@ -1,5 +1,5 @@
-use Rattle.std.proofs.Common.{◌≡◌, ◌≢◌, [], refl, rules, subst}
-use Rattle.command_words.specs.declared.job.Command.TheVariants.{Gb}
+use Rattle.std.proofs.Common.{◌≢◌, [], refl, rules, subst}
+use Rattle.command_words.specs.declared.job.Command.TheVariants.{Gb, Normal}
 use Rattle.job_steps.specs.Status.{PrintsNothing}
 use Rattle.job_steps.proofs.Statuses.{answered_status}
 use Rattle.job_steps.proofs.Traced.{tells_none}
@@ -18,9 +18,10 @@ write_answer-requires g c =
 pub returns-in-Ok-clause-end : goal.returns-in-Ok-clause-end
 returns-in-Ok-clause-end g c =
     let job = c.args.job.now in
-    let other : job.command ≢ Gb = search rules in
+    let degrees : job.command ≢ Gb = search rules in
+    let questions : job.command ≢ Normal = search rules in
     let answer = c.in-Ok.answer in
-    answer_ends job c.args.given.now.alphabet c.args.given.now.relations _ _ _ _ _ job.command other answer.status answer.text
+    answer_ends job c.args.given.now.alphabet c.args.given.now.relations _ _ _ _ _ job.command degrees questions answer.status answer.text
     c.in-Ok.ensures c.write_answer.result c.write_answer.ensures.end
 
 pub returns-in-Ok-clause-nothing : goal.returns-in-Ok-clause-nothing
@@ -30,6 +31,15 @@ returns-in-Ok-clause-nothing g c = λ none.
     let same = answered_status answer.status answer.text _ _ _ _ _ c.write_answer.result c.write_answer.ensures.end none in
     c.write_answer.ensures.nothing (quiet job c.args.given.now.alphabet c.args.given.now.relations job.command answer.status answer.text
     c.in-Ok.ensures (subst PrintsNothing same none))
+
+pub returns-then-eq-2-clause-told : goal.returns-then-eq-2-clause-told
+returns-then-eq-2-clause-told g c =
+    let job = c.args.job.now in
+    let other : job.command ≢ Gb = search rules in (
+      [],
+      no_trace job c.args.given.now.alphabet c.args.given.now.relations _ _ _ [] job.command c.run_normal.result other refl,
+      tells_none (g.T.Sink.held c.args.err.now) (g.T.Sink.faults c.args.err.now) c.args.failed.now,
+    )
 
 pub returns-in-Ok-clause-told : goal.returns-in-Ok-clause-told
 returns-in-Ok-clause-told g c =

@@ -1,0 +1,135 @@
+use Rattle.std.proofs.Common.{◌≡◌, ◌∙◌, ◌+◌, ◌++◌, ◌<◌, ◌≤◌, [], ℕ, Err, List, ap, arith, inl, inr, length, refl, subst, sym}
+use Rattle.std.specs.Prelude.{slice_index_or}
+use Rattle.std.proofs.lemmas.Bool.{cases_lt}
+use Rattle.std.proofs.lemmas.List.{get_or_default}
+use Rattle.ideal_laws.specs.Kept.{lead_degree}
+use Rattle.job_steps.specs.declared.status.Status.TheVariants.{Products}
+use Rattle.job_steps.specs.Gains.{GainsAll, GainsPart}
+use Rattle.job_steps.proofs.Gaining.{all_behind}
+use Rattle.cofactors.specs.Certificate.{IsCertificate}
+use Rattle.cofactors.specs.ProductList.{triples}
+use Rattle.cofactors.specs.Texts.{answer_text}
+use Rattle.bergman_cli.specs.Normal.{HasManyTriples, most_triples}
+use Rattle.bergman_cli.proofs.Answering.{begun, cut_off, few_are_not_many, one_more, some_gained}
+use Rattle.bergman_cli.proofs.Places.{none_next}
+use Rattle.bergman_cli.proofs.normal.write_answers.Goals as goal
+
+pub index_of-requires : goal.index_of-requires
+index_of-requires g c = c.lower_law.ensures.factors c.args.field.now c.args.ideal.now.alphabet.weights c.args.ideal.now.relations
+    c.setting_law.ensures (c.args.basis.now.done + 1) c.args.basis.now (record {
+      kept = c.done-done.ensures.kept;
+      next = refl;
+      same_weights = c.requires.weights;
+      reduced = c.requires.reduced;
+    })
+
+small_degree : (n done degree : ℕ) → n ≡ degree → (done < n → ⊥) → done ≤ 64 → degree ≤ 64
+small_degree n done degree same within few = elim (cases_lt done n) [
+  | inl less ↦ absurd (within less)
+  | inr le ↦ omega (arith, same, le, few)
+]
+
+pub returns-in-Err-TooMany-clause-end : goal.returns-in-Err-TooMany-clause-end
+returns-in-Err-TooMany-clause-end g c =
+    let weights = c.args.ideal.now.alphabet.weights in
+    let relations = c.args.ideal.now.relations in
+    let questions = c.args.questions.now in
+    let place = c.loop-place.place in
+    let f = c.index-questions-place.result in
+    let written = c.loop-place.invariant.written in
+    let at : f ≡ slice_index_or questions place [] = c.index-questions-place.is ∙ get_or_default questions place f [] c.loop-place-test.true in
+    let many : HasManyTriples weights relations f = subst (λ (ws : List ℕ). HasManyTriples ws relations f) c.requires.weights
+    (c.in-Err-TooMany.ensures.too_many (ap Err c.in-Err-TooMany.field-0-is)) in
+    let small = small_degree (lead_degree weights (slice_index_or questions place [])) c.args.basis.now.done (lead_degree weights f)
+    (ap (lead_degree weights) (sym at)) (c.requires.within place c.loop-place-test.true) c.done-done.ensures.kept.degrees in
+    let degree : c.degree_of.result ≡ lead_degree weights f = omega (arith, c.degree_of.ensures, small) in
+    let value : c.from.result ≡ most_triples = omega (arith, c.from.ensures) in (
+      written.0,
+      inl (
+        place,
+        record { within = c.loop-place-test.true; here = subst (HasManyTriples weights relations) at many; before = c.loop-place.invariant.none },
+        (λ j. Products ((degree ∙ ap (lead_degree weights) at) j) (value j + 1)),
+        written.1,
+      ),
+      written.2.appended,
+    )
+
+pub returns-in-Err-NoMemory-clause-end : goal.returns-in-Err-NoMemory-clause-end
+returns-in-Err-NoMemory-clause-end g c =
+    let p = c.args.field.now in
+    let letters = c.args.ideal.now.alphabet in
+    let relations = c.args.ideal.now.relations in
+    let questions = c.args.questions.now in
+    let place = c.loop-place.place in
+    let written = c.loop-place.invariant.written in
+    let laws = c.normal_form_laws.ensures in
+    inr (some_gained p letters relations questions _ _ _ _ _ _ written.0 written.2
+    (begun p letters relations questions c.setting_law.ensures laws.one laws.products c.requires.elements place
+    (omega (arith, c.loop-place-test.true)) written.0 c.loop-place.invariant.none written.1))
+
+pub returns-in_default-answer_text-clause-end : goal.returns-in_default-answer_text-clause-end
+returns-in_default-answer_text-clause-end g c =
+    let p = c.args.field.now in
+    let letters = c.args.ideal.now.alphabet in
+    let relations = c.args.ideal.now.relations in
+    let questions = c.args.questions.now in
+    let place = c.loop-place.place in
+    let written = c.loop-place.invariant.written in
+    let laws = c.normal_form_laws.ensures in
+    inr (some_gained p letters relations questions _ _ _ _ _ _ written.0 written.2
+    (begun p letters relations questions c.setting_law.ensures laws.one laws.products c.requires.elements place
+    (omega (arith, c.loop-place-test.true)) written.0 c.loop-place.invariant.none written.1))
+
+pub returns-in-Err-clause-end : goal.returns-in-Err-clause-end
+returns-in-Err-clause-end g c =
+    let p = c.args.field.now in
+    let letters = c.args.ideal.now.alphabet in
+    let relations = c.args.ideal.now.relations in
+    let questions = c.args.questions.now in
+    let place = c.loop-place.place in
+    let written = c.loop-place.invariant.written in
+    let laws = c.normal_form_laws.ensures in
+    let weights = letters.weights in
+    let f = c.index-questions-place.result in
+    let own = c.in-Ok-normal_form.certificate in
+    let text = written.0 ++ answer_text letters.names p (place + 1) own in
+    let at : f ≡ slice_index_or questions place [] = c.index-questions-place.is ∙ get_or_default questions place f [] c.loop-place-test.true in
+    let few = subst (λ (ws : List ℕ). length (triples ws relations (lead_degree ws f)) ≤ most_triples) c.requires.weights
+    c.in-Ok-normal_form.ensures.within in
+    let is = subst (λ (ws : List ℕ). IsCertificate p ws relations (lead_degree ws f) f own) c.requires.weights c.in-Ok-normal_form.ensures.certificate in
+    let none = none_next (HasManyTriples weights relations) questions place f at c.loop-place.invariant.none
+    (few_are_not_many (length (triples weights relations (lead_degree weights f))) few) in
+    let answers = one_more p letters relations questions place written.0 f at c.loop-place-test.true written.1 own is in
+    let printed : c.as_slice.result.now ≡ answer_text letters.names p (place + 1) own = c.as_slice.ensures.value ∙ c.in-Ok-answer_text.ensures in
+    let failed = c.in-Err.ensures in
+    let part = subst (GainsPart (g.K.Sink.held c.loop-place.out) (g.K.Sink.held c.write_all.new.sink) (g.K.Sink.room c.loop-place.out)) printed
+    (record { gained = failed.part.0; appended = failed.part.2; cut_short = failed.part.1; no_room = failed.taken }) in
+    cut_off p letters relations questions _ _ _ _ _ _ written.0 written.2 _ _ _ failed.cause.failed part
+    (begun p letters relations questions c.setting_law.ensures laws.one laws.products c.requires.elements (place + 1)
+    (omega (arith, c.loop-place-test.true)) text none answers)
+
+pub loop-place-preserved : goal.loop-place-preserved
+loop-place-preserved g c =
+    let p = c.args.field.now in
+    let letters = c.args.ideal.now.alphabet in
+    let relations = c.args.ideal.now.relations in
+    let questions = c.args.questions.now in
+    let place = c.loop-place.place in
+    let written = c.loop-place.invariant.written in
+    let weights = letters.weights in
+    let f = c.index-questions-place.result in
+    let own = c.in-Ok-normal_form.certificate in
+    let text = written.0 ++ answer_text letters.names p (place + 1) own in
+    let at : f ≡ slice_index_or questions place [] = c.index-questions-place.is ∙ get_or_default questions place f [] c.loop-place-test.true in
+    let few = subst (λ (ws : List ℕ). length (triples ws relations (lead_degree ws f)) ≤ most_triples) c.requires.weights
+    c.in-Ok-normal_form.ensures.within in
+    let is = subst (λ (ws : List ℕ). IsCertificate p ws relations (lead_degree ws f) f own) c.requires.weights c.in-Ok-normal_form.ensures.certificate in
+    let none = none_next (HasManyTriples weights relations) questions place f at c.loop-place.invariant.none
+    (few_are_not_many (length (triples weights relations (lead_degree weights f))) few) in
+    let answers = one_more p letters relations questions place written.0 f at c.loop-place-test.true written.1 own is in
+    let printed : c.as_slice.result.now ≡ answer_text letters.names p (place + 1) own = c.as_slice.ensures.value ∙ c.in-Ok-answer_text.ensures in
+    let gained = c.in-Ok-write_all.ensures in
+    let all = subst (GainsAll (g.K.Sink.held c.loop-place.out) (g.K.Sink.held c.write_all.new.sink) (g.K.Sink.room c.loop-place.out)
+    (g.K.Sink.room c.write_all.new.sink) (g.K.Sink.faults c.loop-place.out) (g.K.Sink.faults c.write_all.new.sink)) printed
+    (record { appended = gained.all; falls = gained.room; kept = gained.cause.kept }) in
+    record { none = none; written = (text, answers, all_behind _ _ _ _ _ _ _ _ _ written.0 _ written.2 all) }
