@@ -24,7 +24,8 @@ use Rattle.job_steps.specs.Progress.{refused}
 use Rattle.job_steps.specs.Status.{PrintsNothing}
 use Rattle.job_steps.specs.Statuses.{IsOwn, IsTaskStatus}
 use Rattle.job_steps.proofs.Statuses.{one_task_status}
-use Rattle.bergman_cli.specs.Chains.{HasChainText, HasFewChains, HasManyChains, IsChainList, IsChainsOutcome, IsChainsStatus, IsChainsText, chains_task, most_chains}
+use Rattle.bergman_cli.specs.Chains.{HasChainText, HasFewChains, HasManyChains, IsChainList, IsChainsOutcome, IsChainsStatus, IsChainsText}
+use Rattle.bergman_cli.specs.Chains.{chains_task, most_chains}
 use Rattle.bergman_cli.specs.Engines.{limits_of}
 use Rattle.bergman_cli.specs.Outcomes.{Writes}
 use Rattle.bergman_cli.proofs.ChainNumbers.{few_not_many, listed_number, many_minimal, one_first_many}

@@ -85,7 +85,8 @@ fn chain_lines(
         → IsReducedUpto p relations basis.now
         → HasChainText (IsMinimal p basis.now.weights relations) alphabet.now job.now text.items) }
     ensures many { (degree : ℕ) → IsErrOf result (ChainFault.TooMany degree)
-        → IsFirstMany (Contains (leads_of basis.now.elements)) (length basis.now.weights) basis.now.weights job.now.bound
+        → IsFirstMany (Contains (leads_of basis.now.elements)) (length basis.now.weights) basis.now.weights
+        job.now.bound
         most_chains degree }
 {
     if job.list {

@@ -1,6 +1,7 @@
 ghost use Rattle.std.specs.Prelude.{◌≡◌, ◌≢◌, ◌<◌, ◌≤◌, ◌+◌, ◌↔◌, ℕ, List, length, Err, IfOk, MatchResult, OnErr, OnOk};
 ghost use Rattle.std.specs.Io.KnownBytes.{Appends, Consumes, IsAtEnd};
-ghost use Rattle.bg_io.specs.Ends.{CountsAtMost, CountsGained, CountsTaken, HasCause, HasRoom, IsCutShort, Loses, LosesAtMost, RoomFalls, Rose};
+ghost use Rattle.bg_io.specs.Ends.{CountsAtMost, CountsGained, CountsTaken, HasCause, HasRoom, IsCutShort, Loses};
+ghost use Rattle.bg_io.specs.Ends.{LosesAtMost, RoomFalls, Rose};
 
 use crate::ends::{Sink, Source};
 use std::alloc::{AllocError, Global};

@@ -22,7 +22,8 @@ chain_lines-requires-clause-factor_free g c = c.lower_law.ensures.factors c.args
 pub returns-in-Ok-chain_lines : goal.returns-in-Ok-chain_lines
 returns-in-Ok-chain_lines g c =
     let run = c.in-Ok.ensures in
-    told_chains c.args.job.now c.args.given.now.alphabet c.args.given.now.relations _ c.requires.limits c.args.field.now c.requires.modulus c.setting_law.ensures
+    told_chains c.args.job.now c.args.given.now.alphabet c.args.given.now.relations _ c.requires.limits c.args.field.now c.requires.modulus
+    c.setting_law.ensures
     c.in-Ok.basis run.weights run.kept run.reduced run.done run.within c.in-Ok-chain_lines.text.items c.from_vec.result c.from_vec.ensures
     (c.in-Ok-chain_lines.ensures.printed c.args.field.now c.args.given.now.relations)
 

@@ -6,7 +6,8 @@ use Rattle.job_steps.proofs.print.write_elements.Given as goal
 
 abbrev pub invariant-loop-place : goal.invariant-loop-place
 invariant-loop-place g l = record {
-  written : GainsAll (g.K.Sink.held l.fn.out) (g.K.Sink.held l.out) (g.K.Sink.room l.fn.out) (g.K.Sink.room l.out) (g.K.Sink.faults l.fn.out) (g.K.Sink.faults l.out)
+  written : GainsAll (g.K.Sink.held l.fn.out) (g.K.Sink.held l.out) (g.K.Sink.room l.fn.out) (g.K.Sink.room l.out)
+      (g.K.Sink.faults l.fn.out) (g.K.Sink.faults l.out)
       (flat_map (element_line l.alphabet.names l.field) (slice_range l.basis.elements l.first l.place));
   calls : CountsGained (g.K.Sink.held l.fn.out) (g.K.Sink.held l.out) (g.K.Sink.calls l.fn.out) (g.K.Sink.calls l.out) 0;
 }
