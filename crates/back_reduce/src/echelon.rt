@@ -82,7 +82,7 @@ fn reduced_rows<R: Threads + Sync>(
 {
     leaders
         .par_iter()
-        .with_min_len(1)
+        .with_min_len(rows_a_part(leaders))
         .map(
             move |own: &Leader| -> Result<Vec<u32>, NoMemory>
                 requires { IsLeaderAmong field.now leaders.now own.now }
@@ -91,6 +91,17 @@ fn reduced_rows<R: Threads + Sync>(
             { reduced_row(alloc, field, leaders, own) },
         )
         .collect::<Result<Vec<Vec<u32>>, NoMemory>>(rt, alloc)?
+}
+
+/// How many rows a thread is to have at least. Where rows are few and short, they are done before threads have begun;
+/// the rows are the same in any parts.
+fn rows_a_part(leaders: &[Leader]) -> usize {
+    let width = match leaders.first() {
+        Some(leader) => leader.row.len(),
+        None => 0,
+    };
+    let cells = leaders.len().saturating_mul(width).max(1);
+    (4_194_304 / cells).max(1)
 }
 
 /// The row, reduced by those of later columns.
