@@ -2,7 +2,7 @@ ghost use Rattle.std.specs.Prelude.{◌≡◌, ◌≢◌, ◌↔◌, ◌⊎◌, 
 ghost use Rattle.std.specs.Prelude.{map, string_bytes};
 ghost use Rattle.std.specs.Io.KnownBytes.{Appends};
 ghost use Rattle.free_poly.specs.Terms.{HasResidues};
-ghost use Rattle.bg_io.specs.Ends.{LosesAtMost, Rose};
+ghost use Rattle.bg_io.specs.Ends.{CountsAtMost, LosesAtMost, Rose};
 ghost use Rattle.command_words.specs.declared.job.Command.{Command};
 ghost use Rattle.command_words.specs.declared.job.UsageFault.{UsageFault};
 ghost use Rattle.command_words.specs.JobOf.{IsJob, IsUsageFault};
@@ -60,6 +60,7 @@ pub fn bergman<R: Threads + Sync, S: Source, K: Sink, T: Sink>(
     ensures unread { ReadsNothing result → source.new ≡ source.old }
     ensures made { IsMade (map string_bytes words.now) → source.new ≡ source.old }
     ensures taken { IsTaken (S.left source.old) (S.left source.new) result }
+    ensures calls { CountsAtMost (S.calls source.old) (S.calls source.new) 1048577 }
     ensures input { IsOfInput result
         → OfJob (map string_bytes words.now) (λ job. ReadsSource job.command
         × IsInputEnd job.modulus (S.left source.old) (S.left source.new) (S.faults source.old)
@@ -108,6 +109,7 @@ fn run_words<R: Threads + Sync, S: Source, K: Sink, T: Sink>(
         (S.faults source.new) (K.held out.old) (K.held out.new) (K.room out.old) (K.faults out.old)
         (K.faults out.new) result }
     ensures taken { IsTaken (S.left source.old) (S.left source.new) result }
+    ensures calls { CountsAtMost (S.calls source.old) (S.calls source.new) 1048577 }
     ensures unread { ReadsNothing result → source.new ≡ source.old }
     ensures made { IsMade (map string_bytes words.now) → source.new ≡ source.old }
     ensures nothing { PrintsNothing result → out.new ≡ out.old }
@@ -163,6 +165,7 @@ fn run_job<R: Threads + Sync, E: DegreeEngine, S: Source, K: Sink, T: Sink>(
         (S.faults source.new) (K.held out.old) (K.held out.new) (K.room out.old) (K.faults out.old)
         (K.faults out.new) result }
     ensures taken { IsTaken (S.left source.old) (S.left source.new) result }
+    ensures calls { CountsAtMost (S.calls source.old) (S.calls source.new) 1048577 }
     ensures made { job.now.command ≡ Command.Make → source.new ≡ source.old }
     ensures nothing { PrintsNothing result → out.new ≡ out.old }
     ensures reads { result ≢ Status.ReadFault → S.faults source.new ≡ S.faults source.old }
@@ -197,6 +200,7 @@ fn read_given<S: Source>(
         (S.left source.new) (S.faults source.old) (S.faults source.new)) }
     ensures taken { MatchResult result (λ _. LosesAtMost (S.left source.old) (S.left source.new) 1048576)
         (IsTaken (S.left source.old) (S.left source.new)) }
+    ensures calls { CountsAtMost (S.calls source.old) (S.calls source.new) 1048577 }
     ensures residues { IfOk result (λ given. All (HasResidues field.now) given.relations) }
     ensures made { job.now.command ≡ Command.Make → source.new ≡ source.old }
     ensures reads { result ≢ Err Status.ReadFault → S.faults source.new ≡ S.faults source.old }
