@@ -9,8 +9,6 @@ mod gb;
 mod make;
 mod module;
 mod normal;
-#[cfg(test)]
-mod race_tests;
 mod run;
 #[cfg(test)]
 mod tests;

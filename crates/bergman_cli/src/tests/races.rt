@@ -1,7 +1,8 @@
 //! Runs in which two workers are at work at once, held and slowed by their gates.
 
 use crate::run::bergman;
-use crate::tests::{COMMUTING_ANSWER, SQUARE, SQUARE_ANSWER, long_answer, words_of};
+use crate::tests::bases::long_answer;
+use crate::tests::{COMMUTING_ANSWER, SQUARE, SQUARE_ANSWER, words_of};
 use bg_io::{MemorySink, MemorySource, Plan, PlannedGate, Spot};
 use job_steps::Status;
 use std::alloc::Global;

@@ -1,0 +1,145 @@
+//! Reads and writes that fail, and what is told.
+
+use crate::run::bergman;
+use crate::tests::{
+    COMMUTING, COMMUTING_ANSWER, Failing, NONE, SQUARE, SQUARE_ANSWER, SQUARE_TRACE, expect_run,
+    words_of,
+};
+use bg_io::{FixedSink, PlannedGate, SteadySource};
+use job_steps::{InputProblem, Status};
+use relation_reader::InputFault;
+use std::test::Fail;
+
+#[test]
+fn a_failed_call_ends_the_run(rt: HostRuntime) -> Result<(), Fail> {
+    for read in 1..7 {
+        let failing = Failing {
+            read,
+            write: 0,
+            told: 0,
+        };
+        expect_run(
+            &rt,
+            "gb mod=101 deg=3",
+            COMMUTING.as_bytes(),
+            failing,
+            Status::ReadFault,
+            "",
+            "bergman: read fault\n",
+        )?;
+    }
+    // Each line is written by itself.
+    for (write, output) in (1..).zip([
+        "",
+        "% 2",
+        "% 2\n",
+        "% 2\nx*y",
+        "% 2\nx*y-y*",
+        "% 2\nx*y-y*x\n",
+        "% 2\nx*y-y*x\n% s",
+    ]) {
+        let failing = Failing {
+            read: 0,
+            write,
+            told: 0,
+        };
+        expect_run(
+            &rt,
+            "gb mod=101 deg=3",
+            COMMUTING.as_bytes(),
+            failing,
+            Status::WriteFault,
+            output,
+            "bergman: write fault\n",
+        )?;
+    }
+    // A fault of the line changes no status.
+    expect_run(
+        &rt,
+        "gb mod=101 deg=2",
+        b"vars x; 3;".as_slice(),
+        Failing {
+            read: 0,
+            write: 0,
+            told: 1,
+        },
+        Status::Input(InputProblem::Text(InputFault::Constant { relation: 1 })),
+        "",
+        "",
+    )
+}
+
+/// In degree 4 both rows meet at one column, which the first one holds before the other looks.
+#[test]
+fn claims_are_told(rt: HostRuntime) -> Result<(), Fail> {
+    let line = "gb mod=101 deg=4 trace=yes engine=core workers=2 schedule=0";
+    let square = SQUARE.as_bytes();
+    // One worker of the race makes the same claims.
+    for line in [line, "gb mod=101 deg=4 trace=yes"] {
+        expect_run(
+            &rt,
+            line,
+            square,
+            NONE,
+            Status::Done,
+            SQUARE_ANSWER,
+            SQUARE_TRACE,
+        )?;
+    }
+    // Where a write of it fails, nothing more is told.
+    for (told, text) in [(1, ""), (2, "# d"), (5, "# degree 2 r")] {
+        let failing = Failing {
+            read: 0,
+            write: 0,
+            told,
+        };
+        expect_run(
+            &rt,
+            line,
+            square,
+            failing,
+            Status::Done,
+            SQUARE_ANSWER,
+            text,
+        )?;
+    }
+    // The claims of a degree are told before its lines are written, and no further degree is asked for.
+    let failing = Failing {
+        read: 0,
+        write: 1,
+        told: 0,
+    };
+    expect_run(
+        &rt,
+        line,
+        square,
+        failing,
+        Status::WriteFault,
+        "",
+        "# degree 2 rows 1 columns 2\n1 0 won x^2 row 0\nbergman: write fault\n",
+    )
+}
+
+/// The whole text has 37 bytes.
+#[test]
+fn a_told_room_is_enough_or_not(rt: HostRuntime) -> Result<(), Fail> {
+    let alloc = rt.alloc();
+    let words = words_of(alloc, "gb mod=101 deg=3")?;
+    for (room, status) in [(36, Status::WriteFault), (37, Status::Done)] {
+        let mut source = SteadySource::new(Vec::from_slice(alloc, COMMUTING.as_bytes())?);
+        let mut out = FixedSink::new(alloc, room)?;
+        let mut err = FixedSink::new(alloc, 96)?;
+        let answer = bergman(
+            &rt,
+            alloc,
+            words.as_slice(),
+            &mut source,
+            &mut out,
+            &mut err,
+            &PlannedGate::open(alloc),
+        );
+        assert_eq!(rt; answer, status, "room {room}");
+        assert_eq!(rt; Some(out.held()), COMMUTING_ANSWER.as_bytes().get(..room));
+    }
+    Ok(())
+}
