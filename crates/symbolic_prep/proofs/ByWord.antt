@@ -1,9 +1,11 @@
 -- Reducers that are listed after the walk, by the columns of their words.
-use Rattle.std.proofs.Common.{◌≡◌, ◌≢◌, ◌<◌, ◌+◌, ℕ, zero, suc, List, [], ◌∷◌, ◌++◌, length, take, get_or, refl, sym, ap, ◌∙◌, arith, All, AllPairs}
-use Rattle.std.proofs.Common.{Option, Some, None, subst, append_assoc, length-append}
+use Rattle.std.proofs.Common.{◌≡◌, ◌≢◌, ◌<◌, ◌+◌, ℕ, zero, suc, List, [], ◌∷◌, ◌++◌, length, take, get_or, sym, ap, ◌∙◌, arith, All, AllPairs}
+use Rattle.std.proofs.Common.{Option, Some, None, subst, length-append}
 use Rattle.std.specs.List.{AllZip, Contains, slice_get}
 use Rattle.std.proofs.lemmas.List.{append-nil, get_or_default, take_more}
 use Rattle.std.proofs.lemmas.List.Elements.{All-head, All-tail}
+use Rattle.std.proofs.Math.Seq.{get_or-append_seam}
+use Rattle.std.proofs.lemmas.Option.{slice_get-get_or}
 use Rattle.words.specs.Order.{IsLetterwiseGreater}
 use Rattle.words.proofs.Members.{All-from_members}
 use Rattle.free_poly.specs.declared.term.Term.{Term}
@@ -12,70 +14,49 @@ use Rattle.ideal_laws.specs.Closure.{AreColumns, HasReducer, brought}
 use Rattle.words.proofs.Members.{Contains-map}
 use Rattle.symbolic_prep.specs.declared.lists.Span.{Span}
 use Rattle.symbolic_prep.specs.Columns.{IsOnColumns}
-use Rattle.symbolic_prep.specs.Numbers.{AreListed, AreLonger, AreTerms, IsSpanOf, StandsAt}
-use Rattle.symbolic_prep.proofs.Numbers.{AreTerms-push, grown_none}
+use Rattle.symbolic_prep.specs.Numbers.{AreListed, IsLonger, IsSpanOf, StandsAt, residues_of}
+use Rattle.symbolic_prep.proofs.Numbers.{grown_none}
 use Rattle.symbolic_prep.proofs.NumberWalks.{spans-more}
-use Rattle.symbolic_prep.proofs.Reduced.{AreTerms-length}
 use Rattle.symbolic_prep.proofs.Walks.{AllZip-push}
 
 -- falling words are pairwise different
 pub falling_apart : (columns : List (List ℕ)) → AllPairs IsLetterwiseGreater columns → AllPairs (λ v w. v ≢ w) columns
 falling_apart columns falling i j d before within = letterwise-apart (get_or columns i d) (get_or columns j d) (falling i j d before within)
 
--- one more term
-pub listed_push : (columns : List (List ℕ)) (n r m q : List ℕ) (ts : List Term) (i column : ℕ) (t : Term) →
-    AreListed columns n r m q (take i ts) → i < length ts → t ≡ get_or ts i t → slice_get columns column ≡ Some t.word
-    → AreListed columns n r (m ++ column ∷ []) (q ++ t.coefficient ∷ []) (take (i + 1) ts)
-listed_push columns n r m q ts i column t h lt is at = record {
-  ns = h.ns ++ column ∷ [];
-  rs = h.rs ++ t.coefficient ∷ [];
-  numbers_are = ap (λ (xs : List ℕ). xs ++ column ∷ []) h.numbers_are ∙ append_assoc n h.ns (column ∷ []);
-  residues_are = ap (λ (xs : List ℕ). xs ++ t.coefficient ∷ []) h.residues_are ∙ append_assoc r h.rs (t.coefficient ∷ []);
-  are_terms = subst (AreTerms columns (h.ns ++ column ∷ []) (h.rs ++ t.coefficient ∷ []))
-      (sym (take_more ts i t lt ∙ ap (λ (x : Term). take i ts ++ x ∷ []) (sym is)))
-      (AreTerms-push columns h.ns h.rs (take i ts) column t.coefficient t h.are_terms at refl);
-}
+slice_get-last : (xs : List (List ℕ)) (x : List ℕ) → slice_get (xs ++ x ∷ []) (length xs) ≡ Some x
+slice_get-last xs x = slice_get-get_or (xs ++ x ∷ []) (length xs) x (omega (arith, length-append xs (x ∷ [])))
+    ∙ ap Some (get_or-append_seam xs x [] x)
 
--- the terms stand behind all others, as many coefficients as numbers
-module _ (columns : List (List ℕ)) (n r m q : List ℕ) (f : List Term) (h : AreListed columns n r m q f) where
-  pub listed_longer : AreLonger n r m q
-  listed_longer = record {
-    ns = h.ns;
-    rs = h.rs;
-    numbers_are = h.numbers_are;
-    residues_are = h.residues_are;
-    sizes = omega (arith, AreTerms-length columns h.ns h.rs f h.are_terms);
-  }
+-- the numbers stand behind all others
+module _ (columns : List (List ℕ)) (n m : List ℕ) (f : List Term) (h : AreListed columns n m f) where
+  pub listed_longer : IsLonger n m
+  listed_longer = record { more = h.ns; joined = h.numbers_are }
 
-  pub listed_stands : length n ≡ length r → StandsAt columns m q (length n) (length m) f
-  listed_stands same = record {
+  pub listed_stands : (r q : List (List ℕ)) → q ≡ r ++ residues_of f ∷ [] → (s : Span) → length n ≡ s.start → length m ≡ s.end →
+      length r ≡ s.element → StandsAt columns m q s f
+  listed_stands r q pushed s starts ends is = record {
     before = n;
-    before_residues = r;
-    behind = [];
-    behind_residues = [];
     ns = h.ns;
-    rs = h.rs;
+    behind = [];
     numbers_are = h.numbers_are ∙ sym (append-nil (n ++ h.ns));
-    residues_are = h.residues_are ∙ sym (append-nil (r ++ h.rs));
-    starts = (refl, sym same);
-    ends = (
-      omega (arith, ap length h.numbers_are, length-append n h.ns),
-      omega (arith, ap length h.numbers_are, length-append n h.ns, AreTerms-length columns h.ns h.rs f h.are_terms),
-    );
+    starts = starts;
+    ends = omega (arith, ap length h.numbers_are, length-append n h.ns, starts, ends);
+    residues_are = ap (slice_get q) (sym is) ∙ ap (λ (xs : List (List ℕ)). slice_get xs (length r)) pushed ∙ slice_get-last r (residues_of f);
     are_terms = h.are_terms;
   }
 
 -- one more reducer
 pub spans_push : (columns : List (List ℕ)) → AllPairs IsLetterwiseGreater columns →
-    (n r m q : List ℕ) (spans : List (Option Span)) (reducers : List (Option (List Term))) (i : ℕ) (span : Option Span)
-    (o : Option (List Term))
-    → AllZip (IsSpanOf columns n r) spans (take i reducers) → AreLonger n r m q → i < length reducers → o ≡ get_or reducers i o →
+    (n m : List ℕ) (r q : List (List ℕ)) (spans : List (Option Span)) (reducers : List (Option (List Term))) (i : ℕ)
+    (span : Option Span) (o : Option (List Term))
+    → AllZip (IsSpanOf columns n r) spans (take i reducers) → IsLonger n m → IsLonger r q → i < length reducers → o ≡ get_or reducers i o →
     IsSpanOf columns m q span o → AllZip (IsSpanOf columns m q) (spans ++ span ∷ []) (take (i + 1) reducers)
-spans_push columns falling n r m q spans reducers i span o zipped longer lt is stands =
+spans_push columns falling n m r q spans reducers i span o zipped longer longer_residues lt is stands =
     subst (AllZip (IsSpanOf columns m q) (spans ++ span ∷ [])) (sym
     (take_more reducers i o lt ∙ ap (λ (x : Option (List Term)). take i reducers ++ x ∷ []) (sym is)))
     (AllZip-push (IsSpanOf columns m q) spans (take i reducers) span o
-    (spans-more columns columns [] n r m q (grown_none columns (falling_apart columns falling)) longer spans (take i reducers) zipped)
+    (spans-more columns columns [] n m r q (grown_none columns (falling_apart columns falling)) longer longer_residues spans
+    (take i reducers) zipped)
     stands)
 
 -- the words of the reducers of a closure are columns

@@ -15,7 +15,7 @@ use Rattle.ideal_laws.specs.Closure.{HasReducer}
 use Rattle.ideal_laws.specs.Quantities.{reducers_in, terms_in}
 use Rattle.symbolic_prep.specs.declared.lists.Span.{Span}
 use Rattle.symbolic_prep.specs.Columns.{IsListedClosure}
-use Rattle.symbolic_prep.specs.Numbers.{IsListing, IsNumberWalk, IsSpanOf, StandsAt}
+use Rattle.symbolic_prep.specs.Numbers.{IsListing, IsNumberWalk, IsSpanOf, StandsAt, residues_of}
 use Rattle.symbolic_prep.specs.Orders.{IsOrder}
 use Rattle.symbolic_prep.specs.Walk.{count_terms}
 use Rattle.symbolic_prep.proofs.Ending.{AllZip-length}
@@ -56,9 +56,9 @@ written_back long new old f is e =
     ∙ take_all long new (omega (arith, same, is)) ∙ e
 
 -- as many spans as words
-pub spans_long : (G : List (List Term)) (given_words words : List (List ℕ)) (from limit : ℕ) (spans : List (Option Span)) (n r : List ℕ)
-    (entries : ℕ) → IsNumberWalk G given_words words (length words) from limit spans n r entries → length spans ≡ length words
-spans_long G given_words words from limit spans n r entries walk =
+pub spans_long : (G : List (List Term)) (given_words words : List (List ℕ)) (from limit : ℕ) (spans : List (Option Span)) (n : List ℕ)
+    (entries : ℕ) → IsNumberWalk G given_words words (length words) from limit spans n entries → length spans ≡ length words
+spans_long G given_words words from limit spans n entries walk =
     let all = numbered_all G given_words words (length words) walk.reducers walk.numbered (omega arith) in
     walk.size ∙ AllZip-length (HasReducer G) words walk.reducers all.1
 
@@ -94,30 +94,27 @@ module _ (words : List (List ℕ)) (order : List ℕ) (columns : List (List ℕ)
         ap (map (λ n. get_or places n 0)) e ∙ map-append (λ n. get_or places n 0) (before ++ mid) behind
         ∙ ap (λ (xs : List ℕ). xs ++ map (λ n. get_or places n 0) behind) (map-append (λ n. get_or places n 0) before mid)
 
-    stands_moved : (n r : List ℕ) (start end : ℕ) (f : List Term) → StandsAt words n r start end f →
-        StandsAt columns (map (λ n. get_or places n 0) n) r start end f
-    stands_moved n r start end f s = record {
+    stands_moved : (n : List ℕ) (r : List (List ℕ)) (span : Span) (f : List Term) → StandsAt words n r span f →
+        StandsAt columns (map (λ n. get_or places n 0) n) r span f
+    stands_moved n r span f s = record {
       before = map (λ n. get_or places n 0) s.before;
-      before_residues = s.before_residues;
-      behind = map (λ n. get_or places n 0) s.behind;
-      behind_residues = s.behind_residues;
       ns = map (λ n. get_or places n 0) s.ns;
-      rs = s.rs;
+      behind = map (λ n. get_or places n 0) s.behind;
       numbers_are = slice-map n s.before s.behind s.ns s.numbers_are;
+      starts = length-map s.before (λ n. get_or places n 0) ∙ s.starts;
+      ends = omega (arith, s.ends, length-map s.ns (λ n. get_or places n 0));
       residues_are = s.residues_are;
-      starts = (length-map s.before (λ n. get_or places n 0) ∙ s.starts.0, s.starts.1);
-      ends = (omega (arith, s.ends.0, length-map s.ns (λ n. get_or places n 0)), s.ends.1);
-      are_terms = AreTerms-renumbered words columns (λ n. get_or places n 0) moved s.ns s.rs f s.are_terms;
+      are_terms = AreTerms-renumbered words columns (λ n. get_or places n 0) moved s.ns (residues_of f) f s.are_terms;
     }
 
-    span_moved : (n r : List ℕ) (span : Option Span) (o : Option (List Term)) → IsSpanOf words n r span o →
+    span_moved : (n : List ℕ) (r : List (List ℕ)) (span : Option Span) (o : Option (List Term)) → IsSpanOf words n r span o →
         IsSpanOf columns (map (λ n. get_or places n 0) n) r span o
     span_moved n r None None z = tt
     span_moved n r None (Some f) z = absurd z
     span_moved n r (Some s) None z = absurd z
-    span_moved n r (Some s) (Some f) z = stands_moved n r s.start s.end f z
+    span_moved n r (Some s) (Some f) z = stands_moved n r s f z
 
-    spans_moved : (n r : List ℕ) (spans : List (Option Span)) (reducers : List (Option (List Term))) →
+    spans_moved : (n : List ℕ) (r : List (List ℕ)) (spans : List (Option Span)) (reducers : List (Option (List Term))) →
         AllZip (IsSpanOf words n r) spans reducers → length spans ≡ length words → length reducers ≡ length words
         → (ks : List ℕ) → All (λ k. k < length words) ks → AllZip (IsSpanOf columns (map (λ n. get_or places n 0) n) r)
         (map (λ k. get_or spans k None) ks) (map (λ k. get_or reducers k None) ks)
@@ -165,13 +162,13 @@ module _ (words : List (List ℕ)) (order : List ℕ) (columns : List (List ℕ)
         (k.0, slice_get_within columns k.0 w at, get_or_from_slice_get columns k.0 w w at);
   }
 
-  pub listed_in_order : (G : List (List Term)) (given_words : List (List ℕ)) (from limit : ℕ) (spans : List (Option Span)) (n r : List ℕ)
-      (entries : ℕ) → IsNumberWalk G given_words words (length words) from limit spans n r entries
+  pub listed_in_order : (G : List (List Term)) (given_words : List (List ℕ)) (from limit : ℕ) (spans : List (Option Span)) (n : List ℕ)
+      (entries : ℕ) → IsNumberWalk G given_words words (length words) from limit spans n entries
       → AllPairs IsLetterwiseGreater columns → (places : List ℕ) → ((c : ℕ) → c < length order → get_or places (get_or order c 0) 0 ≡ c) →
-      (m : List ℕ) → (entries ≤ limit → m ≡ map (λ n. get_or places n 0) n)
+      (m : List ℕ) → (entries ≤ limit → m ≡ map (λ n. get_or places n 0) n) → (r : List (List ℕ)) → r ≡ map residues_of G
       → (columns_spans : List (Option Span)) → columns_spans ≡ map (λ k. get_or spans k None) order →
       IsListedClosure G given_words from limit columns columns_spans m r entries
-  listed_in_order G given_words from limit spans n r entries walk falling places placed m renumbered columns_spans are_spans =
+  listed_in_order G given_words from limit spans n entries walk falling places placed m renumbered r are_residues columns_spans are_spans =
       let all = numbered_all G given_words words (length words) walk.reducers walk.numbered (omega arith) in
       let some : length walk.reducers ≡ length words = AllZip-length (HasReducer G) words walk.reducers all.1 in
       record {
@@ -181,5 +178,6 @@ module _ (words : List (List ℕ)) (order : List ℕ) (columns : List (List ℕ)
         listed = λ le.
             subst (λ (ns : List ℕ). AllZip (IsSpanOf columns ns r) columns_spans (ordered walk.reducers)) (sym (renumbered le))
             (subst (λ (ss : List (Option Span)). AllZip (IsSpanOf columns (map (λ n. get_or places n 0) n) r) ss (ordered walk.reducers)) (sym are_spans)
-            (spans_moved places placed n r spans walk.reducers (walk.listed le) (omega (arith, walk.size, some)) some order order_below));
+            (spans_moved places placed n r spans walk.reducers
+            (subst (λ (rs : List (List ℕ)). AllZip (IsSpanOf words n rs) spans walk.reducers) (sym are_residues) (walk.listed le)) (omega (arith, walk.size, some)) some order order_below));
       }

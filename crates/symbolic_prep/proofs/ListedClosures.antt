@@ -3,6 +3,7 @@ use Rattle.std.proofs.Common.{◌≡◌, ◌↔◌, ◌≤◌, ◌<◌, ◌+◌,
 use Rattle.std.proofs.Common.{Some, None, subst, length-append, append_assoc}
 use Rattle.std.specs.List.{AllZip, Contains, slice_range}
 use Rattle.std.proofs.lemmas.List.Elements.{All-cons, All-nil}
+use Rattle.std.proofs.lemmas.Option.{get_or_from_slice_get, slice_get_within}
 use Rattle.words.proofs.Members.{All-from_members}
 use Rattle.free_poly.specs.declared.term.Term.{Term}
 use Rattle.free_poly.specs.Poly.{IsPolynomial, lead_of}
@@ -12,18 +13,18 @@ use Rattle.ideal_laws.specs.Engine.{Elements}
 use Rattle.ideal_laws.specs.Kept.{IsKept}
 use Rattle.symbolic_prep.specs.declared.lists.Span.{Span}
 use Rattle.symbolic_prep.specs.Columns.{IsListedClosure}
-use Rattle.symbolic_prep.specs.Numbers.{AreTerms, IsSpanOf, IsSpanWithin, StandsAt, reducer_on, terms_on}
+use Rattle.symbolic_prep.specs.Numbers.{AreTerms, IsSpanOf, IsSpanWithin, StandsAt, reducer_on, residues_of, terms_on}
 use Rattle.symbolic_prep.specs.Orders.{HaveOneDegree}
 use Rattle.symbolic_prep.specs.Walk.{IsWalked}
 use Rattle.symbolic_prep.proofs.Ending.{AllZip-length}
 use Rattle.symbolic_prep.proofs.Numbers.{terms_on-is}
-use Rattle.symbolic_prep.proofs.Reduced.{AreTerms-below}
+use Rattle.symbolic_prep.proofs.Reduced.{AreTerms-below, AreTerms-length}
 use Rattle.symbolic_prep.proofs.Stays.{IsWord, stays}
 use Rattle.symbolic_prep.proofs.Walks.{same_columns}
 
 -- it is that of all lists with the same words
 pub listed-same : (G : List (List Term)) (words others : List (List ℕ)) (from limit : ℕ) (columns : List (List ℕ))
-    (spans : List (Option Span)) (n r : List ℕ) (entries : ℕ) → ((w : List ℕ) → Contains words w ↔ Contains others w)
+    (spans : List (Option Span)) (n : List ℕ) (r : List (List ℕ)) (entries : ℕ) → ((w : List ℕ) → Contains words w ↔ Contains others w)
     → IsListedClosure G words from limit columns spans n r entries → IsListedClosure G others from limit columns spans n r entries
 listed-same G words others from limit columns spans n r entries same h = record {
   reducers = h.reducers;
@@ -45,7 +46,7 @@ one_degree b kept forms d given_words are_words words sound = record {
 
 -- a walk from the greatest word down, with the reducers that it held listed
 pub walked_listed : (G : List (List Term)) (words : List (List ℕ)) (from limit : ℕ) (columns : List (List ℕ))
-    (held : List (Option (List Term))) (entries : ℕ) (spans : List (Option Span)) (n r : List ℕ)
+    (held : List (Option (List Term))) (entries : ℕ) (spans : List (Option Span)) (n : List ℕ) (r : List (List ℕ))
     → IsWalked G words from limit columns held entries → (entries ≤ limit → AllZip (IsSpanOf columns n r) spans held) →
     IsListedClosure G words from limit columns spans n r entries
 walked_listed G words from limit columns held entries spans n r h listed = record {
@@ -57,7 +58,7 @@ walked_listed G words from limit columns held entries spans n r h listed = recor
 
 -- and the other way: the reducers are those that are listed
 pub listed_walked : (G : List (List Term)) (words : List (List ℕ)) (from limit : ℕ) (columns : List (List ℕ)) (spans : List (Option Span))
-    (n r : List ℕ) (entries : ℕ)
+    (n : List ℕ) (r : List (List ℕ)) (entries : ℕ)
     → (h : IsListedClosure G words from limit columns spans n r entries) → IsWalked G words from limit columns h.reducers entries
 listed_walked G words from limit columns spans n r entries h = record {
   reducers = h.reducers;
@@ -98,12 +99,12 @@ reducer_some G w f q = some q.element q.is_lead q.is
     some [] lead is = absurd (let e : None ≡ Some q.lead = lead in cc e)
     some (t ∷ g) lead is = omega (arith, ap length is)
 
-module _ (columns : List (List ℕ)) (n r : List ℕ) where
-  stands_on : (s : Span) (f : List Term) → StandsAt columns n r s.start s.end f → reducer_on columns n r (Some s) ≡ Some f
+module _ (columns : List (List ℕ)) (n : List ℕ) (r : List (List ℕ)) where
+  stands_on : (s : Span) (f : List Term) → StandsAt columns n r s f → reducer_on columns n r (Some s) ≡ Some f
   stands_on s f h =
-      let ns = range_is n h.before h.ns h.behind s.start s.end h.numbers_are h.starts.0 h.ends.0 in
-      let rs = range_is r h.before_residues h.rs h.behind_residues s.start s.end h.residues_are h.starts.1 h.ends.1 in
-      (λ i. Some (terms_on columns (ns i) (rs i))) ∙ ap Some (terms_on-is columns h.ns h.rs f h.are_terms)
+      let ns = range_is n h.before h.ns h.behind s.start s.end h.numbers_are h.starts h.ends in
+      let rs = get_or_from_slice_get r s.element (residues_of f) [] h.residues_are in
+      (λ i. Some (terms_on columns (ns i) (rs i))) ∙ ap Some (terms_on-is columns h.ns (residues_of f) f h.are_terms)
 
   -- the reducers are those that stand in the lists
   pub reducers_on : (spans : List (Option Span)) (reducers : List (Option (List Term))) → AllZip (IsSpanOf columns n r) spans reducers →
@@ -121,20 +122,19 @@ module _ (columns : List (List ℕ)) (n r : List ℕ) where
       AllZip (HasReducer G) ws reducers → AllZip (IsSpanOf columns n r) spans reducers → length spans ≡ length ws
   spans_long G ws spans reducers h z = sym (AllZip-length (IsSpanOf columns n r) spans reducers z) ∙ AllZip-length (HasReducer G) ws reducers h
 
-  within_one : (s : Span) (f : List Term) → StandsAt columns n r s.start s.end f → 0 < length f → IsSpanWithin (length columns) n r (Some s)
+  within_one : (s : Span) (f : List Term) → StandsAt columns n r s f → 0 < length f → IsSpanWithin (length columns) n r (Some s)
   within_one s f h some =
-      let ns = range_is n h.before h.ns h.behind s.start s.end h.numbers_are h.starts.0 h.ends.0 in (
-        omega (arith, some, h.ends.0, AreTerms-many columns h.ns h.rs f h.are_terms),
-        omega (arith, ap length h.numbers_are, length-append (h.before ++ h.ns) h.behind, length-append h.before h.ns, h.starts.0, h.ends.0),
+      let ns = range_is n h.before h.ns h.behind s.start s.end h.numbers_are h.starts h.ends in (
+        omega (arith, some, h.ends, AreTerms-many columns h.ns (residues_of f) f h.are_terms),
+        omega (arith, ap length h.numbers_are, length-append (h.before ++ h.ns) h.behind, length-append h.before h.ns, h.starts, h.ends),
+        slice_get_within r s.element (residues_of f) h.residues_are,
         omega (
           arith,
-          ap length h.residues_are,
-          length-append (h.before_residues ++ h.rs) h.behind_residues,
-          length-append h.before_residues h.rs,
-          h.starts.1,
-          h.ends.1,
+          h.ends,
+          AreTerms-length columns h.ns (residues_of f) f h.are_terms,
+          ap length (get_or_from_slice_get r s.element (residues_of f) [] h.residues_are),
         ),
-        subst (All (λ k. k < length columns)) (sym ns) (AreTerms-below columns h.ns h.rs f h.are_terms),
+        subst (All (λ k. k < length columns)) (sym ns) (AreTerms-below columns h.ns (residues_of f) f h.are_terms),
       )
 
   -- and each stands within them

@@ -16,7 +16,7 @@ use Rattle.ideal_laws.specs.Kept.{IsKept}
 use Rattle.lead_index.specs.declared.lead.Lead.{Lead}
 use Rattle.lead_index.specs.Leads.{IsIndex, IsIndexOf}
 use Rattle.symbolic_prep.specs.Walk.{HasMore, tail_words}
-use Rattle.symbolic_prep.specs.Numbers.{AreListed, AreTerms, IsGrown, IsNumbered, terms_on}
+use Rattle.symbolic_prep.specs.Numbers.{AreListed, AreTerms, IsGrown, IsNumbered, residues_of, terms_on}
 use Rattle.symbolic_prep.proofs.Stays.{IsWord, stays}
 use Rattle.symbolic_prep.proofs.Listing.{brought_words, has_columns, tail_brought}
 use Rattle.symbolic_prep.proofs.Pigeons.{at_most}
@@ -190,30 +190,29 @@ AreTerms-push words (m ∷ ns) [] ts n r t h at is = absurd h
 AreTerms-push words (m ∷ ns) (q ∷ rs) [] n r t h at is = absurd h
 AreTerms-push words (m ∷ ns) (q ∷ rs) (u ∷ ts) n r t h at is = (h.0, h.1, AreTerms-push words ns rs ts n r t h.2 at is)
 
-pub listed_none : (words : List (List ℕ)) (numbers residues : List ℕ) → AreListed words numbers residues numbers residues []
-listed_none words numbers residues = record {
-  ns = [];
-  rs = [];
-  numbers_are = sym (append-nil numbers);
-  residues_are = sym (append-nil residues);
-  are_terms = tt;
+pub listed_none : (words : List (List ℕ)) (numbers : List ℕ) → AreListed words numbers numbers []
+listed_none words numbers = record { ns = []; numbers_are = sym (append-nil numbers); are_terms = tt }
+
+pub listed_push : (words : List (List ℕ)) (numbers mid more : List ℕ) (ts all_terms : List Term) (n : ℕ) (t : Term) →
+    AreListed words numbers mid ts → slice_get words n ≡ Some t.word → more ≡ mid ++ n ∷ [] → all_terms ≡ ts ++ t ∷ [] →
+    AreListed words numbers more all_terms
+listed_push words numbers mid more ts all_terms n t h at pushed e = record {
+  ns = h.ns ++ n ∷ [];
+  numbers_are = pushed ∙ ap (λ (xs : List ℕ). xs ++ n ∷ []) h.numbers_are ∙ append_assoc numbers h.ns (n ∷ []);
+  are_terms = subst (λ (fs : List Term). AreTerms words (h.ns ++ n ∷ []) (residues_of fs) fs) (sym e)
+      (subst (λ (rs : List ℕ). AreTerms words (h.ns ++ n ∷ []) rs (ts ++ t ∷ [])) (sym (map-append (λ (s : Term). s.coefficient) ts (t ∷ [])))
+      (AreTerms-push words h.ns (residues_of ts) ts n t.coefficient t h.are_terms at refl));
 }
 
-pub listed_more : (so_far new wanted : List (List ℕ)) (numbers residues mid_numbers mid_residues more_numbers more_residues : List ℕ)
-    (ts all_terms : List Term) (n r : ℕ) (t : Term)
-    → AreListed so_far numbers residues mid_numbers mid_residues ts → IsGrown so_far new wanted → slice_get new n ≡ Some t.word → r ≡ t.coefficient
-    → more_numbers ≡ mid_numbers ++ n ∷ [] → more_residues ≡ mid_residues ++ r ∷ [] → all_terms ≡ ts ++ t ∷ [] →
-    AreListed new numbers residues more_numbers more_residues all_terms
-listed_more so_far new wanted numbers residues mid_numbers mid_residues more_numbers more_residues ts all_terms n r t h g at is pushed
-    pushed_residue e = record {
-      ns = h.ns ++ n ∷ [];
-      rs = h.rs ++ r ∷ [];
-      numbers_are = pushed ∙ ap (λ (xs : List ℕ). xs ++ n ∷ []) h.numbers_are ∙ append_assoc numbers h.ns (n ∷ []);
-      residues_are = pushed_residue ∙ ap (λ (xs : List ℕ). xs ++ r ∷ []) h.residues_are ∙ append_assoc residues h.rs (r ∷ []);
-      are_terms = subst (AreTerms new (h.ns ++ n ∷ []) (h.rs ++ r ∷ [])) (sym e)
-          (AreTerms-push new h.ns h.rs ts n r t (subst (λ (ws : List (List ℕ)). AreTerms ws h.ns h.rs ts) (sym g.joined)
-          (AreTerms-more so_far g.more h.ns h.rs ts h.are_terms)) at is);
-    }
+-- the same terms among more words
+pub listed_among : (so_far new wanted : List (List ℕ)) (numbers more : List ℕ) (ts : List Term) → AreListed so_far numbers more ts →
+    IsGrown so_far new wanted → AreListed new numbers more ts
+listed_among so_far new wanted numbers more ts h g = record {
+  ns = h.ns;
+  numbers_are = h.numbers_are;
+  are_terms = subst (λ (ws : List (List ℕ)). AreTerms ws h.ns (residues_of ts) ts) (sym g.joined)
+      (AreTerms-more so_far g.more h.ns (residues_of ts) ts h.are_terms);
+}
 
 -- the terms of a product, one after another
 pub product_more : (u v : List ℕ) (ts : List Term) (i : ℕ) (t : Term) → i < length ts → t ≡ get_or ts i t

@@ -1,10 +1,11 @@
 -- What the reducer of a word adds to the words by number and to the lists.
-use Rattle.std.proofs.Common.{◌≡◌, ◌^◌, ◌+◌, ◌<◌, ◌≤◌, min, ℕ, List, [], ◌∷◌, ◌++◌, length, map, refl, sym, ap, ◌∙◌, arith, All, Some, subst}
+use Rattle.std.proofs.Common.{◌≡◌, ◌^◌, ◌+◌, ◌<◌, ◌≤◌, ℕ, List, [], ◌∷◌, ◌++◌, length, map, refl, sym, ap, ◌∙◌, arith, All, Some, subst}
 use Rattle.std.proofs.Common.{append_assoc, length-append}
 use Rattle.std.specs.List.{Contains, slice_get}
 use Rattle.std.proofs.lemmas.List.{append-nil, get_or_append_left, length-map}
 use Rattle.std.proofs.lemmas.List.Elements.{All-append, All-cons, All-contains, All-nil}
-use Rattle.std.proofs.lemmas.Option.{get_or_from_slice_get, slice_get-get_or, slice_get_within}
+use Rattle.std.specs.Option.{option_map}
+use Rattle.std.proofs.lemmas.Option.{get_or_from_slice_get, slice_get-get_or, slice_get-map, slice_get_within}
 use Rattle.words.specs.Words.{IsOver, degree_of}
 use Rattle.words.proofs.Members.{All-from_members, Contains-map, Contains-more, Contains-none}
 use Rattle.words.proofs.Weights.{length-le-degree_of}
@@ -15,9 +16,10 @@ use Rattle.ideal_laws.specs.Basis.{below_lead}
 use Rattle.ideal_laws.specs.Closure.{IsInClosure, IsReducer, brought}
 use Rattle.ideal_laws.specs.Engine.{Elements}
 use Rattle.ideal_laws.specs.Kept.{IsKept}
+use Rattle.symbolic_prep.specs.declared.lists.Span.{Span}
 use Rattle.symbolic_prep.specs.Packing.{HasDigits}
 use Rattle.symbolic_prep.specs.Walk.{tail_words}
-use Rattle.symbolic_prep.specs.Numbers.{AreListed, AreLonger, AreTerms, IsGrown, StandsAt}
+use Rattle.symbolic_prep.specs.Numbers.{AreListed, AreTerms, IsGrown, IsLonger, StandsAt, residues_of}
 use Rattle.symbolic_prep.proofs.Keys.{three_long}
 use Rattle.symbolic_prep.proofs.Stays.{words_of_reducer}
 
@@ -55,6 +57,11 @@ AreTerms-length words [] (r ∷ rs) ts h = absurd h
 AreTerms-length words (n ∷ ns) [] ts h = absurd h
 AreTerms-length words (n ∷ ns) (r ∷ rs) [] h = absurd h
 AreTerms-length words (n ∷ ns) (r ∷ rs) (t ∷ ts) h = omega (arith, AreTerms-length words ns rs ts h.2)
+
+-- a multiple has the same coefficients
+residues_of-product : (u v : List ℕ) (f : List Term) → residues_of (product u f v) ≡ residues_of f
+residues_of-product u v [] = refl
+residues_of-product u v (t ∷ f) = ap (λ (rs : List ℕ). t.coefficient ∷ rs) (residues_of-product u v f)
 
 pub tail_product : (u v : List ℕ) (f : List Term) → map (λ t. t.word) (product u (below_lead f) v) ≡ tail_words (Some (product u f v))
 tail_product u v [] = refl
@@ -94,83 +101,49 @@ module _ (b : Elements) (kept : IsKept b) (forms : All IsPolynomial b.elements) 
         word_is = let some : lead_of (product u (t ∷ ts) v) ≡ Some w = subst (λ (x : List Term). lead_of (product u x v) ≡ Some w) e h in cc (some);
       }
 
-  -- it stands before the others in the lists
+  -- its number stands before those of the others
   module _ (old new : List (List ℕ)) (grown : IsGrown old new (map (λ t. t.word) (product u (below_lead f) v))) (number : ℕ)
-      (at : slice_get old number ≡ Some w)
-      (n0 r0 n1 r1 n2 r2 : List ℕ) (entries more limit : ℕ) (count : more ≡ min (entries + length f) (limit + 1)) where
-    pub stands_at : ((t : Term) (ts : List Term) → f ≡ t ∷ ts → (n1 ≡ n0 ++ number ∷ []) × (r1 ≡ r0 ++ t.coefficient ∷ [])) →
-        AreListed new n1 r1 n2 r2 (product u (below_lead f) v) → length n0 ≡ length r0
-        → StandsAt new n2 r2 (length n0) (length n2) (product u f v)
-    stands_at pushed listed same =
+      (at : slice_get old number ≡ Some w) (n0 n1 n2 : List ℕ) (pushed : n1 ≡ n0 ++ number ∷ [])
+      (listed : AreListed new n1 n2 (product u (below_lead f) v)) where
+    numbers : n2 ≡ n0 ++ (number ∷ listed.ns)
+    numbers = listed.numbers_are ∙ ap (λ (xs : List ℕ). xs ++ listed.ns) pushed ∙ append_assoc n0 (number ∷ []) listed.ns
+
+    pub stands_at : (s : Span) → length n0 ≡ s.start → length n2 ≡ s.end → slice_get b.elements s.element ≡ Some f →
+        StandsAt new n2 (map residues_of b.elements) s (product u f v)
+    stands_at s starts ends place =
         let l = has_lead in
-        let p = pushed l.lead l.rest l.terms_are in
-        let tail : AreTerms new listed.ns listed.rs (product u l.rest v) =
-        subst (λ (g : List Term). AreTerms new listed.ns listed.rs (product u (below_lead g) v)) l.terms_are listed.are_terms in
+        let tail : AreTerms new listed.ns (residues_of (product u l.rest v)) (product u l.rest v) =
+        subst (λ (g : List Term). AreTerms new listed.ns (residues_of (product u (below_lead g) v)) (product u (below_lead g) v)) l.terms_are
+        listed.are_terms in
         let own : slice_get new number ≡ Some (u ++ l.lead.word ++ v) =
         subst (λ (ws : List (List ℕ)). slice_get ws number ≡ Some (u ++ l.lead.word ++ v)) (sym grown.joined)
         (slice_get-more old grown.more number (u ++ l.lead.word ++ v) (at ∙ ap Some (sym l.word_is))) in
-        let numbers : n2 ≡ n0 ++ (number ∷ listed.ns) = listed.numbers_are ∙ ap (λ (xs : List ℕ). xs ++ listed.ns) p.0
-        ∙ append_assoc n0 (number ∷ []) listed.ns in
-        let residues : r2 ≡ r0 ++ (l.lead.coefficient ∷ listed.rs) = listed.residues_are ∙ ap (λ (xs : List ℕ). xs ++ listed.rs) p.1
-        ∙ append_assoc r0 (l.lead.coefficient ∷ []) listed.rs in
         record {
           before = n0;
-          before_residues = r0;
-          behind = [];
-          behind_residues = [];
           ns = number ∷ listed.ns;
-          rs = l.lead.coefficient ∷ listed.rs;
+          behind = [];
           numbers_are = numbers ∙ sym (append-nil (n0 ++ (number ∷ listed.ns)));
-          residues_are = residues ∙ sym (append-nil (r0 ++ (l.lead.coefficient ∷ listed.rs)));
-          starts = (refl, sym same);
-          ends = (
-            omega (arith, ap length numbers, length-append n0 (number ∷ listed.ns)),
-            omega (
-              arith,
-              ap length numbers,
-              length-append n0 (number ∷ listed.ns),
-              AreTerms-length new listed.ns listed.rs (product u l.rest v) tail,
-            ),
-          );
-          are_terms = subst (λ (g : List Term). AreTerms new (number ∷ listed.ns) (l.lead.coefficient ∷ listed.rs) (product u g v))
+          starts = starts;
+          ends = omega (arith, ap length numbers, length-append n0 (number ∷ listed.ns), starts, ends);
+          residues_are = slice_get-map residues_of b.elements s.element ∙ ap (option_map residues_of) place ∙ ap Some (sym (residues_of-product u v f));
+          are_terms = subst (λ (g : List Term). AreTerms new (number ∷ listed.ns) (residues_of (product u g v)) (product u g v))
               (sym l.terms_are) (own, refl, tail);
         }
 
-    pub longer_by : ((t : Term) (ts : List Term) → f ≡ t ∷ ts → (n1 ≡ n0 ++ number ∷ []) × (r1 ≡ r0 ++ t.coefficient ∷ [])) →
-        AreListed new n1 r1 n2 r2 (product u (below_lead f) v) → AreLonger n0 r0 n2 r2
-    longer_by pushed listed =
-        let l = has_lead in
-        let p = pushed l.lead l.rest l.terms_are in
-        record {
-          ns = number ∷ listed.ns;
-          rs = l.lead.coefficient ∷ listed.rs;
-          numbers_are = listed.numbers_are ∙ ap (λ (xs : List ℕ). xs ++ listed.ns) p.0 ∙ append_assoc n0 (number ∷ []) listed.ns;
-          residues_are = listed.residues_are ∙ ap (λ (xs : List ℕ). xs ++ listed.rs) p.1 ∙ append_assoc r0 (l.lead.coefficient ∷ []) listed.rs;
-          sizes = omega (arith, AreTerms-length new listed.ns listed.rs (product u (below_lead f) v) listed.are_terms);
-        }
+    pub longer_by : IsLonger n0 n2
+    longer_by = record { more = number ∷ listed.ns; joined = numbers }
 
     -- their numbers are those of words
-    pub below_by : ((t : Term) (ts : List Term) → f ≡ t ∷ ts → (n1 ≡ n0 ++ number ∷ []) × (r1 ≡ r0 ++ t.coefficient ∷ [])) →
-        AreListed new n1 r1 n2 r2 (product u (below_lead f) v)
-        → All (λ n. n < length old) n0 → All (λ n. n < length new) n2
-    below_by pushed listed below =
-        let l = has_lead in
-        let p = pushed l.lead l.rest l.terms_are in
-        let numbers : n2 ≡ n0 ++ (number ∷ listed.ns) = listed.numbers_are ∙ ap (λ (xs : List ℕ). xs ++ listed.ns) p.0
-        ∙ append_assoc n0 (number ∷ []) listed.ns in
+    pub below_by : All (λ n. n < length old) n0 → All (λ n. n < length new) n2
+    below_by below =
         let more : length new ≡ length old + length grown.more = ap length grown.joined ∙ length-append old grown.more in
         subst (All (λ n. n < length new)) (sym numbers)
         (All-append (λ n. n < length new) n0 (number ∷ listed.ns) (λ k d inside. omega (arith, below k d inside, more))
         (All-cons (λ n. n < length new) number listed.ns (omega (arith, slice_get_within old number w at, more))
-        (AreTerms-below new listed.ns listed.rs (product u (below_lead f) v) listed.are_terms)))
+        (AreTerms-below new listed.ns (residues_of (product u (below_lead f) v)) (product u (below_lead f) v) listed.are_terms)))
 
-pub longer_sizes : (numbers residues more_numbers more_residues : List ℕ) → AreLonger numbers residues more_numbers more_residues →
-    length numbers ≡ length residues → length more_numbers ≡ length more_residues
-longer_sizes numbers residues more_numbers more_residues h same =
-    omega (arith, same, h.sizes, ap length h.numbers_are, ap length h.residues_are, length-append numbers h.ns, length-append residues h.rs)
-
-pub longer_none : (numbers residues : List ℕ) → AreLonger numbers residues numbers residues
-longer_none numbers residues = record { ns = []; rs = []; numbers_are = sym (append-nil numbers); residues_are = sym (append-nil residues); sizes = refl }
+pub longer_none : {X : Type 0} (xs : List X) → IsLonger xs xs
+longer_none xs = record { more = []; joined = sym (append-nil xs) }
 
 -- what the tail brings is in the closure
 pub tail_in_closure : (G : List (List Term)) (given_words : List (List ℕ)) (w u v : List ℕ) (f : List Term) → IsReducer G w (product u f v)

@@ -18,8 +18,8 @@ words_in (Plain words) = words.items
 
 -- what is kept of a closure: columns that have numbers and fall, for each the span of its reducer or none, and those
 -- that have none
-pub record IsKeptClosed (columns : List (List ℕ)) (spans : List (Option Span)) (numbers residues : List ℕ)
-    (contested : List (List ℕ)) : Type 0 where
+pub record IsKeptClosed (columns : List (List ℕ)) (spans : List (Option Span)) (numbers : List ℕ)
+    (residues : List (List ℕ)) (contested : List (List ℕ)) : Type 0 where
   pub few : length columns < 4294967296
   pub falling : AllPairs IsLetterwiseGreater columns
   pub size : length spans ≡ length columns
@@ -28,7 +28,7 @@ pub record IsKeptClosed (columns : List (List ℕ)) (spans : List (Option Span))
 
 -- the whole closure with its entries, cut above the limit, and with its reducers where they are not
 pub record IsListedClosure (G : List (List Term)) (words : List (List ℕ)) (from limit : ℕ) (columns : List (List ℕ))
-    (spans : List (Option Span)) (numbers residues : List ℕ) (entries : ℕ) : Type 0 where
+    (spans : List (Option Span)) (numbers : List ℕ) (residues : List (List ℕ)) (entries : ℕ) : Type 0 where
   pub reducers : List (Option (List Term))
   pub closed : IsClosed G words (record { columns = columns; reducers = reducers })
   pub count : entries ≡ min (from + terms_in (reducers_in reducers)) (limit + 1)

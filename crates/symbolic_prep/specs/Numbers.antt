@@ -44,77 +44,72 @@ terms_on words [] rs = []
 terms_on words (n ∷ ns) [] = []
 terms_on words (n ∷ ns) (r ∷ rs) = record { word = slice_index_or words n []; coefficient = r } ∷ terms_on words ns rs
 
--- numbers and coefficients with those of some terms behind them
-pub record AreListed (words : List (List ℕ)) (numbers residues more_numbers more_residues : List ℕ)
-    (terms : List Term) : Type 0 where
+-- the coefficients of some terms
+abbrev pub residues_of : List Term → List ℕ
+residues_of f = map (λ t. t.coefficient) f
+
+-- numbers with those of the words of some terms behind them
+pub record AreListed (words : List (List ℕ)) (numbers more : List ℕ) (terms : List Term) : Type 0 where
   pub ns : List ℕ
-  pub rs : List ℕ
-  pub numbers_are : more_numbers ≡ numbers ++ ns
-  pub residues_are : more_residues ≡ residues ++ rs
-  pub are_terms : AreTerms words ns rs terms
+  pub numbers_are : more ≡ numbers ++ ns
+  pub are_terms : AreTerms words ns (residues_of terms) terms
 
--- the terms of a reducer stand from one place to another, or there is none
-pub record StandsAt (words : List (List ℕ)) (numbers residues : List ℕ) (start end : ℕ) (terms : List Term) : Type 0
-  where
-    pub before : List ℕ
-    pub before_residues : List ℕ
-    pub behind : List ℕ
-    pub behind_residues : List ℕ
-    pub ns : List ℕ
-    pub rs : List ℕ
-    pub numbers_are : numbers ≡ before ++ ns ++ behind
-    pub residues_are : residues ≡ before_residues ++ rs ++ behind_residues
-    pub starts : (length before ≡ start) × (length before_residues ≡ start)
-    pub ends : (start + length ns ≡ end) × (start + length rs ≡ end)
-    pub are_terms : AreTerms words ns rs terms
+-- the words of a reducer stand from one place to another, and its coefficients are those of an element
+pub record StandsAt (words : List (List ℕ)) (numbers : List ℕ) (residues : List (List ℕ)) (span : Span)
+    (terms : List Term) : Type 0 where
+  pub before : List ℕ
+  pub ns : List ℕ
+  pub behind : List ℕ
+  pub numbers_are : numbers ≡ before ++ ns ++ behind
+  pub starts : length before ≡ span.start
+  pub ends : span.start + length ns ≡ span.end
+  pub residues_are : slice_get residues span.element ≡ Some (residues_of terms)
+  pub are_terms : AreTerms words ns (residues_of terms) terms
 
-abbrev pub IsSpanOf : List (List ℕ) → List ℕ → List ℕ → Option Span → Option (List Term) → Type 0
+-- a reducer stands there, or there is none
+abbrev pub IsSpanOf : List (List ℕ) → List ℕ → List (List ℕ) → Option Span → Option (List Term) → Type 0
 IsSpanOf words numbers residues None None = Unit {0}
 IsSpanOf words numbers residues None (Some f) = ⊥
 IsSpanOf words numbers residues (Some s) None = ⊥
-IsSpanOf words numbers residues (Some s) (Some f) = StandsAt words numbers residues s.start s.end f
+IsSpanOf words numbers residues (Some s) (Some f) = StandsAt words numbers residues s f
 
--- the lists with more behind them, as many numbers as coefficients
-pub record AreLonger (numbers residues more_numbers more_residues : List ℕ) : Type 0 where
-  pub ns : List ℕ
-  pub rs : List ℕ
-  pub numbers_are : more_numbers ≡ numbers ++ ns
-  pub residues_are : more_residues ≡ residues ++ rs
-  pub sizes : length ns ≡ length rs
+-- a list with more behind it
+pub record IsLonger {X : Type 0} (xs longer : List X) : Type 0 where
+  pub more : List X
+  pub joined : longer ≡ xs ++ more
 
--- what the reducer of a word, if it has one, adds to the words, the lists and the entries
+-- what the reducer of a word, if it has one, adds to the words, their numbers and the entries
 pub record IsReducedTo (G : List (List Term)) (word : List ℕ) (old new : List (List ℕ))
-    (numbers residues more_numbers more_residues : List ℕ) (entries limit : ℕ) (span : Option Span)
-    (more : ℕ) : Type 0 where
+    (numbers more_numbers : List ℕ) (entries limit : ℕ) (span : Option Span) (more : ℕ) : Type 0 where
   pub reducer : Option (List Term)
   pub is : HasReducer G word reducer
   pub grown : IsGrown old new (tail_words reducer)
   pub count : more ≡ min (entries + count_terms reducer) (limit + 1)
-  pub longer : more ≤ limit → AreLonger numbers residues more_numbers more_residues
+  pub longer : more ≤ limit → IsLonger numbers more_numbers
   pub below : more ≤ limit → All (λ n. n < length old) numbers → All (λ n. n < length new) more_numbers
-  pub stands : more ≤ limit → IsSpanOf new more_numbers more_residues span reducer
+  pub stands : more ≤ limit → IsSpanOf new more_numbers (map residues_of G) span reducer
 
 -- words by number with their reducers, and the entries of these with those that were there, cut above the limit
 pub record IsNumberWalk (G : List (List Term)) (given words : List (List ℕ)) (next from limit : ℕ)
-    (spans : List (Option Span))
-    (numbers residues : List ℕ) (entries : ℕ) : Type 0 where
+    (spans : List (Option Span)) (numbers : List ℕ) (entries : ℕ) : Type 0 where
   pub reducers : List (Option (List Term))
   pub numbered : IsNumbered G given words next reducers
   pub count : entries ≡ min (from + terms_in (reducers_in reducers)) (limit + 1)
   pub size : length spans ≡ length reducers
-  pub listed : entries ≤ limit → AllZip (IsSpanOf words numbers residues) spans reducers
+  pub listed : entries ≤ limit → AllZip (IsSpanOf words numbers (map residues_of G)) spans reducers
   pub below : entries ≤ limit → All (λ n. n < length words) numbers
 
 -- the reducer that stands in the lists, if one does
-abbrev pub reducer_on : List (List ℕ) → List ℕ → List ℕ → Option Span → Option (List Term)
+abbrev pub reducer_on : List (List ℕ) → List ℕ → List (List ℕ) → Option Span → Option (List Term)
 reducer_on words numbers residues None = None
 reducer_on words numbers residues (Some s) = Some (terms_on words (slice_range numbers s.start s.end)
-    (slice_range residues s.start s.end))
+    (slice_index_or residues s.element []))
 
 -- a span is within the lists, and its numbers are those of words
-abbrev pub IsSpanWithin : ℕ → List ℕ → List ℕ → Option Span → Type 0
+abbrev pub IsSpanWithin : ℕ → List ℕ → List (List ℕ) → Option Span → Type 0
 IsSpanWithin count numbers residues None = Unit {0}
-IsSpanWithin count numbers residues (Some s) = (s.start < s.end) × (s.end ≤ length numbers) × (s.end ≤ length residues)
+IsSpanWithin count numbers residues (Some s) = (s.start < s.end) × (s.end ≤ length numbers)
+    × (s.element < length residues) × (s.start + length (slice_index_or residues s.element []) ≡ s.end)
     × All (λ n. n < count) (slice_range numbers s.start s.end)
 
 -- the same words in another order, each with its reducer or none

@@ -8,18 +8,19 @@ ghost use Rattle.ideal_laws.specs.Closure.{AreColumns};
 ghost use Rattle.ideal_laws.specs.Quantities.{words_of};
 ghost use Rattle.lead_index.specs.Leads.{IsIndexOf};
 ghost use Rattle.symbolic_prep.specs.Columns.{IsListedClosure, words_in};
-ghost use Rattle.symbolic_prep.specs.Numbers.{IsNumberWalk};
+ghost use Rattle.symbolic_prep.specs.Numbers.{IsNumberWalk, residues_of};
 ghost use Rattle.symbolic_prep.specs.Orders.{HaveOneDegree};
 ghost use Rattle.symbolic_prep.specs.Packing.{HasDigits, IsPacking, IsPackingFor};
 ghost use Rattle.symbolic_prep.specs.Walk.{HasMore};
 
 use crate::closing::keeps;
 use crate::columns::ColumnWords;
-use crate::lists::{Lists, Span, push_product};
+use crate::lists::{Lists, push_product};
 use crate::numbering::{Numbered, walk_by_number};
 use crate::ordering::{columns_of, renumber, spans_of};
 use crate::packing::Packing;
 use crate::pending::ColumnFault;
+use crate::residues::{ResidueLists, residues_of_basis};
 use crate::table::WordTable;
 use free_poly::Poly;
 use ideal_laws::Basis;
@@ -32,7 +33,6 @@ use words::NoMemory;
 #[derive(Drop)]
 pub(crate) struct ListedClosure {
     pub(crate) columns: ColumnWords,
-    pub(crate) spans: Vec<Option<Span>>,
     pub(crate) lists: Lists,
     pub(crate) entries: u64,
 }
@@ -59,7 +59,8 @@ pub(crate) fn closure_by_number(
     requires entries { entries ≤ limit + 1 }
 
     ensures listed { IfOk result (λ c. IsListedClosure basis.now.elements (words_of rows.now) entries limit
-        (words_in c.columns) c.spans.items c.lists.numbers.items c.lists.residues.items c.entries) }
+        (words_in c.columns) c.lists.spans.items c.lists.numbers.items c.lists.residues
+        c.entries) }
     ensures within { IfOk result (λ c. length (words_in c.columns) ≤ most) }
     ensures many { IsErrOf result ColumnFault.TooMany →
         (columns : List (List ℕ)) × AreColumns basis.now.elements (words_of rows.now) columns
@@ -69,7 +70,8 @@ pub(crate) fn closure_by_number(
     keeps(index);
     let table = table_of(alloc, rows, packing, most)?;
     let numbered = walk_by_number(alloc, basis, index, table, entries, d, most, limit)?;
-    Ok(in_order(alloc, numbered, limit)?)
+    let residues = residues_of_basis(alloc, basis)?;
+    Ok(in_order(alloc, numbered, residues, limit)?)
 }
 
 /// The words of the rows.
@@ -90,7 +92,7 @@ fn table_of(
     ensures many { IsErrOf result ColumnFault.TooMany → HasMore most (Contains (words_of rows.now)) }
 {
     let mut table = WordTable::new(alloc, packing);
-    let mut lists = Lists::new(alloc);
+    let mut numbers = Vec::new(alloc);
     for row in rows {
         push_product(
             row.terms(),
@@ -101,36 +103,44 @@ fn table_of(
             most,
             false,
             &mut table,
-            &mut lists,
+            &mut numbers,
         )?;
     }
     Ok(table)
 }
 
 /// The words of a walk by falling word, with what is listed under the numbers of these columns.
-fn in_order(alloc: Global, numbered: Numbered, limit: u32) -> Result<ListedClosure, NoMemory>
+fn in_order(
+    alloc: Global,
+    numbered: Numbered,
+    residues: ResidueLists,
+    limit: u32,
+) -> Result<ListedClosure, NoMemory>
     requires few { length numbered.table.words < 4294967296 }
     requires degree { HaveOneDegree numbered.table.words }
     requires walked { (G : List (List Term)) × (given : List (List ℕ)) × (from : ℕ)
         × IsNumberWalk G given numbered.table.words (length numbered.table.words) from limit numbered.spans.items
-        numbered.lists.numbers.items numbered.lists.residues.items numbered.entries }
+        numbered.numbers.items numbered.entries }
     ensures listed { IfOk result (λ c. (G : List (List Term)) (given : List (List ℕ)) (from : ℕ)
         → IsNumberWalk G given numbered.table.words (length numbered.table.words) from limit numbered.spans.items
-        numbered.lists.numbers.items numbered.lists.residues.items numbered.entries
-        → IsListedClosure G given from limit (words_in c.columns) c.spans.items c.lists.numbers.items
-        c.lists.residues.items c.entries) }
+        numbered.numbers.items numbered.entries → residues ≡ map residues_of G
+        → IsListedClosure G given from limit (words_in c.columns) c.lists.spans.items c.lists.numbers.items c.lists.residues
+        c.entries) }
     ensures within { IfOk result (λ c. length (words_in c.columns) ≡ length numbered.table.words) }
 {
     let (words, order) = numbered.table.in_order(alloc)?;
     let columns = columns_of(alloc, order.as_slice())?;
     let spans = spans_of(alloc, numbered.spans.as_slice(), order.as_slice())?;
-    let mut lists = numbered.lists;
+    let mut numbers = numbered.numbers;
     let held = numbered.entries <= u64::from(limit);
-    renumber_if(held, lists.numbers.as_mut_slice(), columns.as_slice());
+    renumber_if(held, numbers.as_mut_slice(), columns.as_slice());
     Ok(ListedClosure {
         columns: ColumnWords::Packed(words),
-        spans,
-        lists,
+        lists: Lists {
+            spans,
+            numbers,
+            residues,
+        },
         entries: numbered.entries,
     })
 }

@@ -9,13 +9,14 @@ ghost use Rattle.ideal_laws.specs.Closure.{AreColumns};
 ghost use Rattle.ideal_laws.specs.Quantities.{words_of};
 ghost use Rattle.lead_index.specs.Leads.{IsIndexOf};
 ghost use Rattle.symbolic_prep.specs.Columns.{IsOnColumns, IsListedClosure, words_in};
-ghost use Rattle.symbolic_prep.specs.Numbers.{AreListed, AreLonger, IsSpanOf};
+ghost use Rattle.symbolic_prep.specs.Numbers.{AreListed, IsLonger, IsSpanOf};
 
 use crate::by_number::ListedClosure;
 use crate::closing::keeps;
 use crate::columns::{ColumnWords, place_of};
 use crate::lists::{Lists, Span};
 use crate::pending::{ColumnFault, words_of_rows};
+use crate::residues::ResidueLists;
 use crate::walk::walk;
 use free_poly::{Poly, Term};
 use ideal_laws::Basis;
@@ -43,7 +44,8 @@ pub(crate) fn closure_by_word(
     requires entries { entries ≤ limit + 1 }
 
     ensures listed { IfOk result (λ c. IsListedClosure basis.now.elements (words_of rows.now) entries limit
-        (words_in c.columns) c.spans.items c.lists.numbers.items c.lists.residues.items c.entries) }
+        (words_in c.columns) c.lists.spans.items c.lists.numbers.items c.lists.residues
+        c.entries) }
     ensures within { IfOk result (λ c. length (words_in c.columns) ≤ most) }
     ensures many { IsErrOf result ColumnFault.TooMany →
         (columns : List (List ℕ)) × AreColumns basis.now.elements (words_of rows.now) columns
@@ -55,10 +57,9 @@ pub(crate) fn closure_by_word(
     let walked = walk(alloc, basis, index, pending, entries, d, most, limit)?;
     let held = walked.entries <= u64::from(limit);
     let columns = walked.columns;
-    let (spans, lists) = listed_if(alloc, held, columns.as_slice(), walked.reducers.as_slice())?;
+    let lists = listed_if(alloc, held, columns.as_slice(), walked.reducers.as_slice())?;
     Ok(ListedClosure {
         columns: ColumnWords::Plain(columns),
-        spans,
         lists,
         entries: walked.entries,
     })
@@ -70,79 +71,95 @@ fn listed_if(
     held: bool,
     columns: &[Word],
     reducers: &[Option<Poly>],
-) -> Result<(Vec<Option<Span>>, Lists), NoMemory>
+) -> Result<Lists, NoMemory>
     requires few { length columns.now < 4294967296 }
+    requires size { length reducers.now ≡ length columns.now }
     requires falling { AllPairs IsLetterwiseGreater columns.now }
     requires on_columns { IsTrue held → All (IsOnColumns columns.now) reducers.now }
-    ensures { IfOk result (λ l. IsTrue held → AllZip (IsSpanOf columns.now l.1.numbers.items l.1.residues.items)
-        l.0.items reducers.now) }
+    ensures { IfOk result (λ l. IsTrue held → AllZip (IsSpanOf columns.now l.numbers.items l.residues) l.spans.items
+        reducers.now) }
 {
     if held {
         listed(alloc, columns, reducers)
     } else {
-        Ok((Vec::new(alloc), Lists::new(alloc)))
+        Ok(Lists {
+            spans: Vec::new(alloc),
+            numbers: Vec::new(alloc),
+            residues: ResidueLists::new(alloc),
+        })
     }
 }
 
 /// The reducers one after another.
-fn listed(
-    alloc: Global,
-    columns: &[Word],
-    reducers: &[Option<Poly>],
-) -> Result<(Vec<Option<Span>>, Lists), NoMemory>
+fn listed(alloc: Global, columns: &[Word], reducers: &[Option<Poly>]) -> Result<Lists, NoMemory>
     requires few { length columns.now < 4294967296 }
+    requires size { length reducers.now ≡ length columns.now }
     requires falling { AllPairs IsLetterwiseGreater columns.now }
     requires on_columns { All (IsOnColumns columns.now) reducers.now }
-    ensures { IfOk result (λ l. AllZip (IsSpanOf columns.now l.1.numbers.items l.1.residues.items) l.0.items
+    ensures { IfOk result (λ l. AllZip (IsSpanOf columns.now l.numbers.items l.residues) l.spans.items
         reducers.now) }
 {
     let mut spans = Vec::with_capacity(alloc, reducers.len())?;
-    let mut lists = Lists::new(alloc);
+    let mut numbers = Vec::new(alloc);
+    let mut residues = ResidueLists::new(alloc);
     for reducer in reducers {
-        let span = push_listed(columns, reducer, &mut lists)?;
+        let span = push_listed(alloc, columns, reducer, &mut numbers, &mut residues)?;
         spans.push(span)?;
     }
-    Ok((spans, lists))
+    Ok(Lists {
+        spans,
+        numbers,
+        residues,
+    })
 }
 
-/// Lists a reducer, if there is one.
+/// Lists a reducer, if there is one, as a multiple of itself.
 fn push_listed(
+    alloc: Global,
     columns: &[Word],
     reducer: &Option<Poly>,
-    lists: &mut Lists,
+    numbers: &mut Vec<u32>,
+    residues: &mut ResidueLists,
 ) -> Result<Option<Span>, NoMemory>
     requires few { length columns.now < 4294967296 }
     requires falling { AllPairs IsLetterwiseGreater columns.now }
     requires on_columns { IsOnColumns columns.now reducer.now }
-    requires sizes { length lists.old.numbers.items ≡ length lists.old.residues.items }
-    ensures longer { OnOk result (AreLonger lists.old.numbers.items lists.old.residues.items lists.new.numbers.items
-        lists.new.residues.items) }
-    ensures stands { IfOk result (λ span. IsSpanOf columns.now lists.new.numbers.items lists.new.residues.items span
-        reducer.now) }
+    requires room { length residues.old < 4294967296 }
+    ensures numbers { OnOk result (IsLonger numbers.old.items numbers.new.items) }
+    ensures residues { OnOk result (IsLonger residues.old residues.new) }
+    ensures one { OnOk result (length residues.new ≤ length residues.old + 1) }
+    ensures stands { IfOk result (λ span. IsSpanOf columns.now numbers.new.items residues.new span reducer.now) }
 {
     match reducer {
         Some(poly) => {
-            let start = lists.numbers.len();
-            push_terms(columns, poly.terms(), lists)?;
-            let end = lists.numbers.len();
-            Ok(Some(Span { start, end }))
+            let start = numbers.len();
+            push_numbers(columns, poly.terms(), numbers)?;
+            let end = numbers.len();
+            let element = residues.len() as u32;
+            residues.push(alloc, poly.terms())?;
+            Ok(Some(Span {
+                start,
+                end,
+                element,
+            }))
         }
-        None => Ok(None),
+        None => {
+            let _len = residues.len();
+            Ok(None)
+        }
     }
 }
 
-/// Lists some terms.
-fn push_terms(columns: &[Word], terms: &[Term], lists: &mut Lists) -> Result<(), NoMemory>
+/// Lists the columns of the words of some terms.
+fn push_numbers(columns: &[Word], terms: &[Term], numbers: &mut Vec<u32>) -> Result<(), NoMemory>
     requires few { length columns.now < 4294967296 }
     requires falling { AllPairs IsLetterwiseGreater columns.now }
     requires on_columns { All (λ t. Contains columns.now t.word) terms.now }
-    ensures { OnOk result (AreListed columns.now lists.old.numbers.items lists.old.residues.items
-        lists.new.numbers.items lists.new.residues.items terms.now) }
+    ensures { OnOk result (AreListed columns.now numbers.old.items numbers.new.items terms.now) }
 {
     for term in terms {
         let column = place_of(columns, term.word.letters());
-        lists.numbers.push(column as u32)?;
-        lists.residues.push(term.coefficient)?;
+        numbers.push(column as u32)?;
     }
     Ok(())
 }

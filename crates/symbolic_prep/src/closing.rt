@@ -58,7 +58,7 @@ pub fn close(
             value: listed.entries,
         });
     }
-    Ok(Closed::of(alloc, listed.columns, listed.spans, listed.lists)?)
+    Ok(Closed::of(alloc, listed.columns, listed.lists)?)
 }
 
 /// The closure of the words of the rows: by packed words, where they are short enough.
@@ -79,7 +79,7 @@ fn closure_of(
     requires entries { entries ≤ limits.now.entries + 1 }
 
     ensures listed { IfOk result (λ c. IsListedClosure basis.now.elements (words_of rows.now) entries
-        limits.now.entries (words_in c.columns) c.spans.items c.lists.numbers.items c.lists.residues.items
+        limits.now.entries (words_in c.columns) c.lists.spans.items c.lists.numbers.items c.lists.residues
         c.entries) }
     ensures within { IfOk result (λ c. length (words_in c.columns) ≤ limits.now.columns) }
     ensures few { IfOk result (λ c. length (words_in c.columns) < 4294967296) }

@@ -14,6 +14,7 @@ mod ordering;
 mod packed;
 mod packing;
 mod pending;
+mod residues;
 mod table;
 mod walk;
 

@@ -6,37 +6,27 @@ ghost use Rattle.symbolic_prep.specs.Packing.{HasDigits, packed};
 ghost use Rattle.symbolic_prep.specs.Walk.{HasMore};
 
 use crate::pending::ColumnFault;
+use crate::residues::ResidueLists;
 use crate::table::WordTable;
 use free_poly::Term;
-use std::alloc::Global;
 
-/// The reducers one after another: the numbers of their words, and beside them the coefficients.
+/// The reducers of columns: where each stands, the numbers of their words, and the coefficients of their elements.
 #[derive(Debug, Drop)]
 pub(crate) struct Lists {
+    pub(crate) spans: Vec<Option<Span>>,
     pub(crate) numbers: Vec<u32>,
-    pub(crate) residues: Vec<u32>,
+    pub(crate) residues: ResidueLists,
 }
 
-impl Lists {
-    pub(crate) fn new(alloc: Global) -> Lists
-        ensures numbers { result.numbers.items ≡ [] }
-        ensures residues { result.residues.items ≡ [] }
-    {
-        Lists {
-            numbers: Vec::new(alloc),
-            residues: Vec::new(alloc),
-        }
-    }
-}
-
-/// Where the terms of a reducer stand in the lists.
+/// Where the numbers of a reducer's words stand, and the element that it is a multiple of.
 #[derive(Debug, Clone, Copy)]
 pub(crate) struct Span {
     pub(crate) start: usize,
     pub(crate) end: usize,
+    pub(crate) element: u32,
 }
 
-/// Adds the words of u * f * v, of which u and v are packed, and lists them if they are to be held.
+/// Adds the words of u * f * v, of which u and v are packed, and lists their numbers if they are to be held.
 pub(crate) fn push_product(
     terms: &[Term],
     before: &[u8],
@@ -46,7 +36,7 @@ pub(crate) fn push_product(
     most: usize,
     held: bool,
     table: &mut WordTable,
-    lists: &mut Lists,
+    numbers: &mut Vec<u32>,
 ) -> Result<(), ColumnFault>
     requires few { length table.old.words ≤ most }
     requires small { most < 4294967296 }
@@ -58,8 +48,7 @@ pub(crate) fn push_product(
     requires rest_key { rest_key ≡ packed (2 ^ table.old.bits) table.old.room rest.now }
     ensures grown { OnOk result (IsGrown table.old.words table.new.words
         (map (λ t. t.word) (product before.now terms.now rest.now))) }
-    ensures listed { OnOk result (IsTrue held → AreListed table.new.words lists.old.numbers.items
-        lists.old.residues.items lists.new.numbers.items lists.new.residues.items
+    ensures listed { OnOk result (IsTrue held → AreListed table.new.words numbers.old.items numbers.new.items
         (product before.now terms.now rest.now)) }
     ensures within { OnOk result (length table.new.words ≤ most) }
     ensures many { IsErrOf result ColumnFault.TooMany →
@@ -74,7 +63,7 @@ pub(crate) fn push_product(
         if table.len() > most {
             return Err(ColumnFault::TooMany);
         }
-        push_number(held, number, term.coefficient, lists)?;
+        push_number(held, number, numbers)?;
     }
     Ok(())
 }
@@ -82,16 +71,13 @@ pub(crate) fn push_product(
 pub(crate) fn push_number(
     held: bool,
     number: u32,
-    residue: u32,
-    lists: &mut Lists,
+    numbers: &mut Vec<u32>,
 ) -> Result<(), ColumnFault>
-    ensures pushed { OnOk result (IsTrue held → (lists.new.numbers.items ≡ lists.old.numbers.items ++ number ∷ [])
-        × (lists.new.residues.items ≡ lists.old.residues.items ++ residue ∷ [])) }
+    ensures pushed { OnOk result (IsTrue held → numbers.new.items ≡ numbers.old.items ++ number ∷ []) }
     ensures memory { IsErrOf result ColumnFault.TooMany → ⊥ }
 {
     if held {
-        lists.numbers.push(number)?;
-        lists.residues.push(residue)?;
+        numbers.push(number)?;
     }
     Ok(())
 }

@@ -10,22 +10,21 @@ ghost use Rattle.symbolic_prep.specs.Packing.{HasDigits};
 ghost use Rattle.symbolic_prep.specs.Walk.{HasMore};
 
 use crate::closing::keeps;
-use crate::lists::{Lists, Span, push_number, push_product};
+use crate::lists::{Span, push_number, push_product};
 use crate::packing::pack;
 use crate::pending::{ColumnFault, tail_of};
 use crate::table::WordTable;
 use crate::walk::{behind, counted, lead_len};
-use free_poly::Term;
 use ideal_laws::Basis;
 use lead_index::LeadIndex;
 use std::alloc::Global;
 
-/// The words of a closure by number, and where the reducer of each stands in the lists.
+/// The words of a closure by number, and where the numbers of each one's reducer stand.
 #[derive(Drop)]
 pub(crate) struct Numbered {
     pub(crate) table: WordTable,
     pub(crate) spans: Vec<Option<Span>>,
-    pub(crate) lists: Lists,
+    pub(crate) numbers: Vec<u32>,
     pub(crate) entries: u64,
 }
 
@@ -51,7 +50,7 @@ pub(crate) fn walk_by_number(
     requires entries { entries ≤ limit + 1 }
 
     ensures walked { IfOk result (λ n. IsNumberWalk basis.now.elements table.words n.table.words
-        (length n.table.words) entries limit n.spans.items n.lists.numbers.items n.lists.residues.items n.entries) }
+        (length n.table.words) entries limit n.spans.items n.numbers.items n.entries) }
     ensures within { IfOk result (λ n. length n.table.words ≤ most) }
     ensures bits { IfOk result (λ n. n.table.bits ≡ table.bits) }
     ensures room { IfOk result (λ n. n.table.room ≡ table.room) }
@@ -64,10 +63,7 @@ pub(crate) fn walk_by_number(
     let mut table = table;
     let mut entries = entries;
     let mut spans = Vec::new(alloc);
-    let mut lists = Lists {
-        numbers: Vec::new(alloc),
-        residues: Vec::new(alloc),
-    };
+    let mut numbers = Vec::new(alloc);
     let mut letters = Vec::new(alloc);
     let mut next = 0;
     while next < table.len() {
@@ -82,7 +78,7 @@ pub(crate) fn walk_by_number(
             entries,
             limit,
             &mut table,
-            &mut lists,
+            &mut numbers,
         )?;
         entries = more;
         spans.push(span)?;
@@ -91,7 +87,7 @@ pub(crate) fn walk_by_number(
     Ok(Numbered {
         table,
         spans,
-        lists,
+        numbers,
         entries,
     })
 }
@@ -106,7 +102,7 @@ fn push_reducer(
     entries: u64,
     limit: u32,
     table: &mut WordTable,
-    lists: &mut Lists,
+    numbers: &mut Vec<u32>,
 ) -> Result<(Option<Span>, u64), ColumnFault>
     requires form { All IsPolynomial basis.now.elements }
     requires index { IsIndexOf basis.now.elements index.now }
@@ -117,15 +113,12 @@ fn push_reducer(
     requires room { degree_of basis.now.weights word.now ≤ table.old.room }
     requires few { length table.old.words ≤ most }
     requires most { most < 4294967296 }
-    requires sizes { entries ≤ limit → length lists.old.numbers.items ≡ length lists.old.residues.items }
 
     ensures reduced { IfOk result (λ r. IsReducedTo basis.now.elements word.now table.old.words table.new.words
-        lists.old.numbers.items lists.old.residues.items lists.new.numbers.items lists.new.residues.items entries
-        limit r.0 r.1) }
+        numbers.old.items numbers.new.items entries limit r.0 r.1) }
     ensures within { OnOk result (length table.new.words ≤ most) }
     ensures bits { OnOk result (table.new.bits ≡ table.old.bits) }
     ensures room { OnOk result (table.new.room ≡ table.old.room) }
-    ensures sizes { IfOk result (λ r. r.1 ≤ limit → length lists.new.numbers.items ≡ length lists.new.residues.items) }
     ensures many { IsErrOf result ColumnFault.TooMany → (given : List (List ℕ)) →
         ((w : List ℕ) → Contains table.old.words w → IsInClosure basis.now.elements given w) →
         HasMore most (IsInClosure basis.now.elements given) }
@@ -143,8 +136,8 @@ fn push_reducer(
             let rest_key = pack(packing, rest);
             let entries = counted(entries, terms.len(), limit);
             let held = entries <= u64::from(limit);
-            let start = lists.numbers.len();
-            push_lead(held, number, terms, lists)?;
+            let start = numbers.len();
+            push_number(held, number, numbers)?;
             push_product(
                 tail_of(terms),
                 before,
@@ -154,27 +147,22 @@ fn push_reducer(
                 most,
                 held,
                 table,
-                lists,
+                numbers,
             )?;
-            let end = lists.numbers.len();
-            Ok((Some(Span { start, end }), entries))
+            let end = numbers.len();
+            let element = place.element;
+            Ok((
+                Some(Span {
+                    start,
+                    end,
+                    element,
+                }),
+                entries,
+            ))
         }
         None => {
             let _len = table.len();
             Ok((None, counted(entries, 0, limit)))
         }
-    }
-}
-
-/// Lists the leading term of a reducer, whose word has this number.
-fn push_lead(held: bool, number: u32, terms: &[Term], lists: &mut Lists) -> Result<(), ColumnFault>
-    ensures pushed { OnOk result (IsTrue held → (t : Term) (ts : List Term) → terms.now ≡ t ∷ ts
-        → (lists.new.numbers.items ≡ lists.old.numbers.items ++ number ∷ [])
-        × (lists.new.residues.items ≡ lists.old.residues.items ++ t.coefficient ∷ [])) }
-    ensures memory { IsErrOf result ColumnFault.TooMany → ⊥ }
-{
-    match terms.first() {
-        Some(lead) => push_number(held, number, lead.coefficient, lists),
-        None => Ok(()),
     }
 }

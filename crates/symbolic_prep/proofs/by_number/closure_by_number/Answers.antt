@@ -54,6 +54,7 @@ pub returns-clause-listed : goal.returns-clause-listed
 returns-clause-listed c =
     let b = c.args.basis.now in
     let l = c.in_ok-in_order.field-0 in
-    listed-same b.elements c.in_ok-table.table.words (words_of c.args.rows.now) c.args.entries c.args.limit _ l.spans.items
-    l.lists.numbers.items l.lists.residues.items l.entries c.in_ok-table.ensures.words
-    (c.in_ok-in_order.ensures.listed b.elements c.in_ok-table.table.words c.args.entries c.in_ok-numbered.ensures.walked)
+    listed-same b.elements c.in_ok-table.table.words (words_of c.args.rows.now) c.args.entries c.args.limit _ l.lists.spans.items
+    l.lists.numbers.items l.lists.residues l.entries c.in_ok-table.ensures.words
+    (c.in_ok-in_order.ensures.listed b.elements c.in_ok-table.table.words c.args.entries c.in_ok-numbered.ensures.walked
+    c.in_ok-residues.ensures)

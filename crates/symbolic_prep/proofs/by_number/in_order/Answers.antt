@@ -33,8 +33,8 @@ spans_of-requires c =
     let order = c.in_ok-words.order.items in
     let below = order_below words order c.in_ok-words.words c.in_ok-words.ensures.order in
     let w = c.requires.walked in
-    let many = spans_long w.0 w.1 words w.2 c.args.limit c.args.numbered.spans.items c.args.numbered.lists.numbers.items
-    c.args.numbered.lists.residues.items c.args.numbered.entries w.3 in
+    let many = spans_long w.0 w.1 words w.2 c.args.limit c.args.numbered.spans.items c.args.numbered.numbers.items
+    c.args.numbered.entries w.3 in
     let spans : length c.as_slice-2.result.now ≡ length words = ap length c.as_slice-2.ensures.value ∙ many in
     subst (All (λ n. n < length c.as_slice-2.result.now)) (sym c.as_slice-3.ensures.value) (λ k d inside. omega (arith, below k d inside, spans))
 
@@ -49,21 +49,21 @@ renumber_if-requires c = λ held.
     subst (All (λ n. n < length c.as_slice-4.result.now)) (sym c.as_mut_slice.ensures.value) (λ k d inside. omega (arith, w.3.below le k d inside, places))
 
 pub returns-clause-listed : goal.returns-clause-listed
-returns-clause-listed c = λ G given from walk.
+returns-clause-listed c = λ G given from walk residues.
     let words = c.args.numbered.table.words in
     let order = c.in_ok-words.order.items in
     let columns = c.in_ok-columns.columns.items in
-    let numbers : List ℕ = c.args.numbered.lists.numbers.items in
+    let numbers : List ℕ = c.args.numbered.numbers.items in
     listed_in_order words order c.in_ok-words.words c.in_ok-words.ensures.order G given from c.args.limit c.args.numbered.spans.items
-    c.args.numbered.lists.numbers.items c.args.numbered.lists.residues.items c.args.numbered.entries walk
+    c.args.numbered.numbers.items c.args.numbered.entries walk
     c.in_ok-words.ensures.falling columns
     (λ k lt. ap (λ (ns : List ℕ). get_or columns (get_or ns k 0) 0) (sym c.as_slice.ensures.value)
     ∙ c.in_ok-columns.ensures.columns k (omega (arith, lt, ap length c.as_slice.ensures.value)))
-    _ (λ le. written_back c.args.numbered.lists.numbers.len c.renumber_if.new.numbers numbers (λ n. get_or columns n 0)
-    (omega (arith, c.args.numbered.lists.numbers.ok))
+    _ (λ le. written_back c.args.numbered.numbers.len c.renumber_if.new.numbers numbers (λ n. get_or columns n 0)
+    (omega (arith, c.args.numbered.numbers.ok))
     (c.renumber_if.ensures (le-leb _ _ (omega (arith, le, c.from.ensures)))
     ∙ (λ i. map (λ n. get_or (c.as_slice-4.ensures.value i) n 0) (c.as_mut_slice.ensures.value i))))
-    c.in_ok-spans.spans.items (c.in_ok-spans.ensures ∙ ap (λ (ns : List ℕ). map (λ k. get_or c.as_slice-2.result.now k None) ns)
+    c.args.residues residues c.in_ok-spans.spans.items (c.in_ok-spans.ensures ∙ ap (λ (ns : List ℕ). map (λ k. get_or c.as_slice-2.result.now k None) ns)
     c.as_slice-3.ensures.value ∙ ap (λ (ss : List (Option Span)). map (λ k. get_or ss k None) order) c.as_slice-2.ensures.value)
 
 pub returns-clause-within : goal.returns-clause-within

@@ -4,11 +4,12 @@ use Rattle.std.specs.List.{AllZip}
 use Rattle.std.proofs.lemmas.Result.{err_from_is_err_and}
 use Rattle.words.specs.Words.{IsOver, degree_of}
 use Rattle.words.proofs.Members.{All-from_members}
+use Rattle.ideal_laws.specs.Closure.{HasReducer}
 use Rattle.ideal_laws.specs.Quantities.{words_of}
 use Rattle.symbolic_prep.specs.Columns.{IsOnColumns}
 use Rattle.symbolic_prep.specs.Numbers.{IsSpanOf}
 use Rattle.symbolic_prep.proofs.ByWord.{closure_on_columns}
-use Rattle.symbolic_prep.proofs.Ending.{words_in_degree}
+use Rattle.symbolic_prep.proofs.Ending.{AllZip-length, words_in_degree}
 use Rattle.symbolic_prep.proofs.ListedClosures.{listed-same, walked_listed}
 use Rattle.symbolic_prep.proofs.Sets.{one_fault}
 use Rattle.symbolic_prep.proofs.Walks.{given_many, same_columns}
@@ -36,6 +37,19 @@ returns-in_err-walked-clause-many c = λ e.
     let all = c.in_err-walked.ensures.many (ap Err (sym p.2 ∙ one_fault c.from_residual-in_err-walked.result _ _ p.1 e)) in
     (all.0, same_columns b.elements (keys c.in_ok-pending.pending) (words_of c.args.rows.now) all.0 c.in_ok-pending.ensures.words all.1, all.2)
 
+pub listed_if-requires-clause-size : goal.listed_if-requires-clause-size
+listed_if-requires-clause-size c =
+    let b = c.args.basis.now in
+    let w = c.in_ok-walked.walked in
+    let h = c.in_ok-walked.ensures.walked in
+    omega (
+      arith,
+      ap length c.as_slice.ensures.value,
+      ap length c.as_slice-2.ensures.value,
+      h.counted.size,
+      AllZip-length (HasReducer b.elements) w.columns.items h.reducers h.closed.are_reducers,
+    )
+
 pub listed_if-requires-clause-on_columns : goal.listed_if-requires-clause-on_columns
 listed_if-requires-clause-on_columns c = λ held.
     let b = c.args.basis.now in
@@ -50,13 +64,13 @@ pub returns-clause-listed : goal.returns-clause-listed
 returns-clause-listed c =
     let b = c.args.basis.now in
     let w = c.in_ok-walked.walked in
-    let spans = c.in_ok-spans.spans.items in
-    let numbers = c.in_ok-spans.lists.numbers.items in
-    let residues = c.in_ok-spans.lists.residues.items in
+    let spans = c.in_ok-lists.lists.spans.items in
+    let numbers = c.in_ok-lists.lists.numbers.items in
+    let residues = c.in_ok-lists.lists.residues in
     listed-same b.elements (keys c.in_ok-pending.pending) (words_of c.args.rows.now) c.args.entries c.args.limit w.columns.items spans
     numbers residues w.entries c.in_ok-pending.ensures.words
     (walked_listed b.elements (keys c.in_ok-pending.pending) c.args.entries c.args.limit w.columns.items w.reducers.items w.entries spans
     numbers residues c.in_ok-walked.ensures.walked
     (λ le. subst (AllZip (IsSpanOf w.columns.items numbers residues) spans) c.as_slice-2.ensures.value
     (subst (λ (cs : List (List ℕ)). AllZip (IsSpanOf cs numbers residues) spans c.as_slice-2.result.now) c.as_slice.ensures.value
-    (c.in_ok-spans.ensures (le-leb _ _ (omega (arith, le, c.from.ensures)))))))
+    (c.in_ok-lists.ensures (le-leb _ _ (omega (arith, le, c.from.ensures)))))))

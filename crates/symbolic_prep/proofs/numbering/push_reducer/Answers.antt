@@ -1,4 +1,4 @@
-use Rattle.std.proofs.Common.{◌≡◌, ◌+◌, ◌≤◌, min, ℕ, List, All, Err, None, Some, arith, ap, drop, inl, inr, length, length-drop, map, rules, subst}
+use Rattle.std.proofs.Common.{◌≡◌, ◌+◌, ◌≤◌, ◌++◌, ◌∷◌, [], min, ℕ, List, All, Err, None, Some, arith, ap, drop, inl, inr, length, length-drop, map, rules, subst}
 use Rattle.std.proofs.Common.{sym, take, ◌∙◌}
 use Rattle.std.specs.List.{Contains}
 use Rattle.std.proofs.lemmas.Bool.{le-leb}
@@ -10,10 +10,11 @@ use Rattle.free_poly.specs.Terms.{UsesLetters, product}
 use Rattle.free_poly.specs.Poly.{lead_or_none}
 use Rattle.ideal_laws.specs.Basis.{below_lead}
 use Rattle.ideal_laws.specs.Closure.{IsInClosure, IsReducer}
+use Rattle.symbolic_prep.specs.declared.lists.Span.{Span}
 use Rattle.symbolic_prep.specs.Packing.{HasDigits}
-use Rattle.symbolic_prep.specs.Numbers.{AreListed, IsGrown, StandsAt}
+use Rattle.symbolic_prep.specs.Numbers.{AreListed, IsGrown}
 use Rattle.symbolic_prep.proofs.Numbers.{grown_none}
-use Rattle.symbolic_prep.proofs.Reduced.{below_by, longer_by, longer_none, longer_sizes, numbered_own, product_length, stands_at, tail_in_closure}
+use Rattle.symbolic_prep.proofs.Reduced.{below_by, longer_by, longer_none, numbered_own, product_length, stands_at, tail_in_closure}
 use Rattle.symbolic_prep.proofs.Reduced.{tail_digits, tail_product, tail_room}
 use Rattle.symbolic_prep.proofs.Reducing.{element_at, element_within, normal_is}
 use Rattle.symbolic_prep.proofs.Sets.{more_widely, one_fault}
@@ -96,39 +97,30 @@ returns-in_ok-push_product-in-Some-clause-reduced c =
     let grown : IsGrown old new (map (λ (s : Term). s.word) (product u (below_lead f) v)) =
     subst (λ (ts : List Term). IsGrown old new (map (λ (s : Term). s.word) (product u ts v))) tail
     c.in_ok-push_product-in-Some.ensures.grown in
-    let n0 = c.args.lists.now.numbers.items in
-    let r0 = c.args.lists.now.residues.items in
-    let n1 = c.push_lead.new.lists.numbers.items in
-    let r1 = c.push_lead.new.lists.residues.items in
-    let n2 = c.push_product.new.lists.numbers.items in
-    let r2 = c.push_product.new.lists.residues.items in
+    let n0 = c.args.numbers.now.items in
+    let n1 = c.push_number.new.numbers.items in
+    let n2 = c.push_product.new.numbers.items in
     let count : c.counted-entries.result ≡ min (c.args.entries + length f) (c.args.limit + 1) =
     omega (arith, c.counted-entries.ensures, ap length c.terms-terms.ensures.value) in
     let size : length n0 ≡ c.len-start.result = search rules in
     let end_size : length n2 ≡ c.len-end.result = search rules in
+    let span : Span = record { start = c.len-start.result; end = c.len-end.result; element = c.in-Some.place.element } in
+    let pushed : c.counted-entries.result ≤ c.args.limit → n1 ≡ n0 ++ c.args.number ∷ [] =
+    λ le. c.in_ok-push_number-in-Some.ensures.pushed (le-leb _ _ (omega (arith, le, c.from.ensures))) in
+    let listed : c.counted-entries.result ≤ c.args.limit → AreListed new n1 n2 (product u (below_lead f) v) =
+    λ le. subst (λ (ts : List Term). AreListed new n1 n2 (product u ts v)) tail
+    (c.in_ok-push_product-in-Some.ensures.listed (le-leb _ _ (omega (arith, le, c.from.ensures)))) in
     record {
       reducer = Some (product u f v);
       is = q;
       grown = subst (IsGrown old new) (tail_product u v f) grown;
       count = count ∙ ap (λ (n : ℕ). min (c.args.entries + n) (c.args.limit + 1)) (product_length u v f);
       longer = λ le. longer_by b c.done-done.ensures.kept c.requires.form w c.requires.letters u v f q old new grown c.args.number
-          c.requires.number n0 r0 n1 r1 n2 r2 c.args.entries c.counted-entries.result c.args.limit count
-          (λ t ts is. c.in_ok-push_lead-in-Some.ensures.pushed (le-leb _ _ (omega (arith, le, c.from.ensures))) t ts (c.terms-terms.ensures.value ∙ is))
-          (subst (λ (ts : List Term). AreListed new n1 r1 n2 r2 (product u ts v)) tail
-          (c.in_ok-push_product-in-Some.ensures.listed (le-leb _ _ (omega (arith, le, c.from.ensures)))));
+          c.requires.number n0 n1 n2 (pushed le) (listed le);
       below = λ le. below_by b c.done-done.ensures.kept c.requires.form w c.requires.letters u v f q old new grown c.args.number
-          c.requires.number n0 r0 n1 r1 n2 r2 c.args.entries c.counted-entries.result c.args.limit count
-          (λ t ts is. c.in_ok-push_lead-in-Some.ensures.pushed (le-leb _ _ (omega (arith, le, c.from.ensures))) t ts (c.terms-terms.ensures.value ∙ is))
-          (subst (λ (ts : List Term). AreListed new n1 r1 n2 r2 (product u ts v)) tail
-          (c.in_ok-push_product-in-Some.ensures.listed (le-leb _ _ (omega (arith, le, c.from.ensures)))));
-      stands = λ le. let stands = stands_at b c.done-done.ensures.kept c.requires.form w c.requires.letters u v f q old new grown
-          c.args.number c.requires.number n0 r0 n1 r1 n2 r2 c.args.entries c.counted-entries.result c.args.limit count
-          (λ t ts is. c.in_ok-push_lead-in-Some.ensures.pushed (le-leb _ _ (omega (arith, le, c.from.ensures))) t ts (c.terms-terms.ensures.value ∙ is))
-          (subst (λ (ts : List Term). AreListed new n1 r1 n2 r2 (product u ts v)) tail
-          (c.in_ok-push_product-in-Some.ensures.listed (le-leb _ _ (omega (arith, le, c.from.ensures)))))
-          (c.requires.sizes (omega (arith, le, count))) in
-          subst (λ (n : ℕ). StandsAt new n2 r2 n c.len-end.result (product u f v)) size
-          (subst (λ (n : ℕ). StandsAt new n2 r2 (length n0) n (product u f v)) end_size stands);
+          c.requires.number n0 n1 n2 (pushed le) (listed le);
+      stands = λ le. stands_at b c.done-done.ensures.kept c.requires.form w c.requires.letters u v f q old new grown c.args.number
+          c.requires.number n0 n1 n2 (pushed le) (listed le) span size end_size e.place;
     }
 
 pub returns-in_err-push_product-in-Some-clause-many : goal.returns-in_err-push_product-in-Some-clause-many
@@ -154,46 +146,13 @@ returns-in_err-push_product-in-Some-clause-many c = λ is_many given_words sound
           (subst (λ (ts : List Term). Contains (map (λ (s : Term). s.word) (product u ts v)) x) tail m)
     ]) more
 
-pub returns-in_ok-push_product-in-Some-clause-sizes : goal.returns-in_ok-push_product-in-Some-clause-sizes
-returns-in_ok-push_product-in-Some-clause-sizes c = λ le.
-    let b = c.args.basis.now in
-    let w : List ℕ = c.args.word.now in
-    let at = c.in-Some.place.at in
-    let u : List ℕ = take at w in
-    let v : List ℕ = c.behind-rest.result.now in
-    let f : List Term = c.element-element.result.now in
-    let old = c.args.table.now.words in
-    let new = c.push_product.new.table.words in
-    let e = element_at b.elements c.args.index.now c.requires.index w at c.in-Some.place.element c.in-Some.ensures.place f c.element-element.ensures in
-    let rest : v ≡ drop (at + length (lead_or_none f)) w = c.behind-rest.ensures ∙ ap (λ (n : ℕ). drop (at + n) w) c.lead_len.ensures in
-    let q : IsReducer b.elements w (product u f v) = subst (λ (x : List ℕ). IsReducer b.elements w (product u f x)) (sym rest) e.reducer in
-    let tail : c.tail_of.result.now ≡ below_lead f = c.tail_of.ensures ∙ ap below_lead c.terms-terms.ensures.value in
-    let grown : IsGrown old new (map (λ (s : Term). s.word) (product u (below_lead f) v)) =
-    subst (λ (ts : List Term). IsGrown old new (map (λ (s : Term). s.word) (product u ts v))) tail
-    c.in_ok-push_product-in-Some.ensures.grown in
-    let n0 = c.args.lists.now.numbers.items in
-    let r0 = c.args.lists.now.residues.items in
-    let n1 = c.push_lead.new.lists.numbers.items in
-    let r1 = c.push_lead.new.lists.residues.items in
-    let n2 = c.push_product.new.lists.numbers.items in
-    let r2 = c.push_product.new.lists.residues.items in
-    let count : c.counted-entries.result ≡ min (c.args.entries + length f) (c.args.limit + 1) =
-    omega (arith, c.counted-entries.ensures, ap length c.terms-terms.ensures.value) in
-    longer_sizes n0 r0 n2 r2
-    (longer_by b c.done-done.ensures.kept c.requires.form w c.requires.letters u v f q old new grown c.args.number c.requires.number n0 r0
-    n1 r1 n2 r2 c.args.entries c.counted-entries.result c.args.limit count
-    (λ t ts is. c.in_ok-push_lead-in-Some.ensures.pushed (le-leb _ _ (omega (arith, le, c.from.ensures))) t ts (c.terms-terms.ensures.value ∙ is))
-    (subst (λ (ts : List Term). AreListed new n1 r1 n2 r2 (product u ts v)) tail
-    (c.in_ok-push_product-in-Some.ensures.listed (le-leb _ _ (omega (arith, le, c.from.ensures))))))
-    (c.requires.sizes (omega (arith, le, count)))
-
 pub returns-in-None-clause-reduced : goal.returns-in-None-clause-reduced
 returns-in-None-clause-reduced c = record {
   reducer = None;
   is = normal_is c.args.basis.now.elements c.args.index.now c.requires.index c.args.word.now c.in-None.ensures.place;
   grown = grown_none c.args.table.now.words c.len-len.ensures.apart;
   count = c.counted.ensures;
-  longer = λ le. longer_none c.args.lists.now.numbers.items c.args.lists.now.residues.items;
+  longer = λ le. longer_none c.args.numbers.now.items;
   below = λ le all. all;
   stands = λ le. tt;
 }

@@ -14,11 +14,10 @@ use Rattle.symbolic_prep.proofs.numbering.walk_by_number.Goals as goal
 pub loop-next-init : goal.loop-next-init
 loop-next-init c = record {
   walking = number_walk_none c.args.basis.now.elements c.args.table.words c.args.entries c.args.limit c.new-spans.result.items
-      c.new.result.items c.new-2.result.items c.len-len.ensures.apart c.requires.entries c.new-spans.ensures.items c.new.ensures.items;
+      c.new-numbers.result.items c.len-len.ensures.apart c.requires.entries c.new-spans.ensures.items c.new-numbers.ensures.items;
   within = c.requires.few;
   bits = refl;
   room = refl;
-  sizes = λ le. omega (arith, ap length c.new.ensures.items, ap length c.new-2.ensures.items);
 }
 
 pub push_reducer-requires-clause-number : goal.push_reducer-requires-clause-number
@@ -76,12 +75,10 @@ loop-next-preserved c =
           number_walk_more b c.done-done.ensures.kept c.requires.form c.args.d c.args.index.now c.keeps.ensures c.requires.index c.args.table.words
           (λ x m. All-contains (λ v. IsOver (length b.weights) v × (degree_of b.weights v ≡ c.args.d)) c.args.table.words x c.requires.words m)
           words c.push_reducer.new.table.words c.loop-next.next c.args.entries c.args.limit c.loop-next.spans.items c.push.new.self.items
-          c.loop-next.lists.numbers.items c.loop-next.lists.residues.items
-          c.push_reducer.new.lists.numbers.items c.push_reducer.new.lists.residues.items c.loop-next.entries c.in_ok-span.more w
+          c.loop-next.numbers.items c.push_reducer.new.numbers.items c.loop-next.entries c.in_ok-span.more w
           c.in_ok-span.span c.loop-next.invariant.walking lt
           (sym (get_or_from_slice_get words c.loop-next.next w w number)) c.in_ok-span.ensures.reduced c.in_ok-push.ensures.items;
       within = c.in_ok-span.ensures.within;
       bits = c.in_ok-span.ensures.bits ∙ c.loop-next.invariant.bits;
       room = c.in_ok-span.ensures.room ∙ c.loop-next.invariant.room;
-      sizes = c.in_ok-span.ensures.sizes;
     }

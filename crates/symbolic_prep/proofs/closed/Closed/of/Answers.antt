@@ -9,7 +9,7 @@ pub invariant_of-result : goal.invariant_of-result
 invariant_of-result c =
     let columns = words_in c.args.columns in
     let numbers = c.args.lists.numbers.items in
-    let residues = c.args.lists.residues.items in
+    let residues = c.args.lists.residues in
     record {
       few = c.requires.few;
       falling = c.requires.falling;
