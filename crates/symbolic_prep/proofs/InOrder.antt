@@ -1,10 +1,10 @@
 -- A walk by number, with its words put in order.
-use Rattle.std.proofs.Common.{◌≡◌, ◌≢◌, ◌<◌, ◌≤◌, ◌+◌, ℕ, List, [], ◌∷◌, ◌++◌, length, map, take, drop, get_or, refl, sym, ap, ◌∙◌, arith, All}
+use Rattle.std.proofs.Common.{◌≡◌, ◌≢◌, ◌<◌, ◌≤◌, ◌+◌, ℕ, List, [], ◌∷◌, ◌++◌, length, map, get_or, refl, sym, ap, ◌∙◌, arith, All}
 use Rattle.std.proofs.Common.{AllPairs, Option, Some, None, subst, length-append}
 use Rattle.std.specs.List.{AllZip, Contains, flat_map, range_with_len, slice_get, sum_by}
 use Rattle.std.specs.List.Sorted.{IsPermutation}
-use Rattle.std.proofs.lemmas.List.{append-nil, drop_all, get_or-map, get_or_default, length-map, map-append, take_all}
-use Rattle.std.proofs.lemmas.List.Elements.{All-head, All-tail}
+use Rattle.std.proofs.lemmas.List.{get_or-map, get_or_default, length-map}
+use Rattle.std.proofs.lemmas.List.Elements.{All-cons, All-head, All-nil, All-tail}
 use Rattle.std.proofs.lemmas.List.FromFn.{fill_by_all, get_or-range_with_len, length-range_with_len}
 use Rattle.std.proofs.lemmas.List.Sorted.{All-permutation, Contains-permutation, IsPermutation-map, length_permutation, sum_by-IsPermutation}
 use Rattle.std.proofs.lemmas.List.Sums.{sum_by-cons}
@@ -16,9 +16,10 @@ use Rattle.ideal_laws.specs.Quantities.{reducers_in, terms_in}
 use Rattle.symbolic_prep.specs.declared.lists.Span.{Span}
 use Rattle.symbolic_prep.specs.Columns.{IsListedClosure}
 use Rattle.symbolic_prep.specs.Numbers.{IsListing, IsNumberWalk, IsSpanOf, StandsAt, residues_of}
-use Rattle.symbolic_prep.specs.Orders.{IsOrder}
+use Rattle.symbolic_prep.specs.Orders.{IsMoved, IsMovedTo, IsOrder, IsSpanIn, columns_at}
 use Rattle.symbolic_prep.specs.Walk.{count_terms}
 use Rattle.symbolic_prep.proofs.Ending.{AllZip-length}
+use Rattle.symbolic_prep.proofs.ListedClosures.{range_is}
 use Rattle.symbolic_prep.proofs.Listings.{AllZip-at, closed_listing}
 use Rattle.symbolic_prep.proofs.Numbers.{AreTerms-renumbered, numbered_all}
 use Rattle.symbolic_prep.proofs.Orders.{apart-permutation}
@@ -47,13 +48,6 @@ terms-sum [] = refl
 terms-sum (None ∷ os) = terms-sum os ∙ (let e : sum_by count_terms os ≡ sum_by count_terms (None ∷ os) = omega (arith, sum_by-cons count_terms None os) in e)
 terms-sum (Some f ∷ os) = length-append f (flat_map (λ g. g) (reducers_in os)) ∙ ap (λ (n : ℕ). length f + n) (terms-sum os)
     ∙ sym (sum_by-cons count_terms (Some f) os)
-
--- numbers that are written over
-pub written_back : (long : ℕ) (new old : List ℕ) (f : ℕ → ℕ) → long ≡ length old → new ≡ map f old → take long (new ++ drop (length new) old) ≡ map f old
-written_back long new old f is e =
-    let same : length new ≡ length old = ap length e ∙ length-map old f in
-    ap (λ (ys : List ℕ). take long (new ++ ys)) (drop_all (length new) old (omega (arith, same))) ∙ ap (take long) (append-nil new)
-    ∙ take_all long new (omega (arith, same, is)) ∙ e
 
 -- as many spans as words
 pub spans_long : (G : List (List Term)) (given_words words : List (List ℕ)) (from limit : ℕ) (spans : List (Option Span)) (n : List ℕ)
@@ -87,44 +81,44 @@ module _ (words : List (List ℕ)) (order : List ℕ) (columns : List (List ℕ)
         let place : get_or places n 0 ≡ m.0 = ap (λ (k : ℕ). get_or places k 0) (sym here) ∙ placed m.0 m.1 in
         ap (slice_get columns) place ∙ sym (h.each m.0 m.1) ∙ ap (slice_get words) here ∙ at
 
-    slice-map : (ns before behind mid : List ℕ) → ns ≡ before ++ mid ++ behind →
-        map (λ n. get_or places n 0) ns ≡ map (λ n. get_or places n 0) before ++ map (λ n. get_or places n 0) mid
-        ++ map (λ n. get_or places n 0) behind
-    slice-map ns before behind mid e =
-        ap (map (λ n. get_or places n 0)) e ∙ map-append (λ n. get_or places n 0) (before ++ mid) behind
-        ∙ ap (λ (xs : List ℕ). xs ++ map (λ n. get_or places n 0) behind) (map-append (λ n. get_or places n 0) before mid)
+    stands_moved : (n m : List ℕ) (r : List (List ℕ)) (s t : Span) (f : List Term) → StandsAt words n r s f → IsMovedTo places n m s t →
+        StandsAt columns m r t f
+    stands_moved n m r s t f h k =
+        let ns = range_is n h.before h.ns h.behind s.start s.end h.numbers_are h.starts h.ends in
+        record {
+          before = k.before;
+          ns = columns_at places h.ns;
+          behind = k.behind;
+          numbers_are = k.moved_are ∙ ap (λ (xs : List ℕ). k.before ++ columns_at places xs ++ k.behind) ns;
+          starts = k.starts;
+          ends = omega (arith, k.ends, ap length ns, length-map h.ns (λ n. get_or places n 0));
+          residues_are = ap (slice_get r) k.element ∙ h.residues_are;
+          are_terms = AreTerms-renumbered words columns (λ n. get_or places n 0) moved h.ns (residues_of f) f h.are_terms;
+        }
 
-    stands_moved : (n : List ℕ) (r : List (List ℕ)) (span : Span) (f : List Term) → StandsAt words n r span f →
-        StandsAt columns (map (λ n. get_or places n 0) n) r span f
-    stands_moved n r span f s = record {
-      before = map (λ n. get_or places n 0) s.before;
-      ns = map (λ n. get_or places n 0) s.ns;
-      behind = map (λ n. get_or places n 0) s.behind;
-      numbers_are = slice-map n s.before s.behind s.ns s.numbers_are;
-      starts = length-map s.before (λ n. get_or places n 0) ∙ s.starts;
-      ends = omega (arith, s.ends, length-map s.ns (λ n. get_or places n 0));
-      residues_are = s.residues_are;
-      are_terms = AreTerms-renumbered words columns (λ n. get_or places n 0) moved s.ns (residues_of f) f s.are_terms;
-    }
+    span_moved : (n m : List ℕ) (r : List (List ℕ)) (s t : Option Span) (o : Option (List Term)) → IsSpanOf words n r s o →
+        IsMoved places n m s t → IsSpanOf columns m r t o
+    span_moved n m r None None None z k = tt
+    span_moved n m r None None (Some f) z k = absurd z
+    span_moved n m r None (Some t) o z k = absurd k
+    span_moved n m r (Some s) t None z k = absurd z
+    span_moved n m r (Some s) None (Some f) z k = absurd k
+    span_moved n m r (Some s) (Some t) (Some f) z k = stands_moved n m r s t f z k
 
-    span_moved : (n : List ℕ) (r : List (List ℕ)) (span : Option Span) (o : Option (List Term)) → IsSpanOf words n r span o →
-        IsSpanOf columns (map (λ n. get_or places n 0) n) r span o
-    span_moved n r None None z = tt
-    span_moved n r None (Some f) z = absurd z
-    span_moved n r (Some s) None z = absurd z
-    span_moved n r (Some s) (Some f) z = stands_moved n r s f z
-
-    spans_moved : (n : List ℕ) (r : List (List ℕ)) (spans : List (Option Span)) (reducers : List (Option (List Term))) →
+    spans_moved : (n m : List ℕ) (r : List (List ℕ)) (spans : List (Option Span)) (reducers : List (Option (List Term))) →
         AllZip (IsSpanOf words n r) spans reducers → length spans ≡ length words → length reducers ≡ length words
-        → (ks : List ℕ) → All (λ k. k < length words) ks → AllZip (IsSpanOf columns (map (λ n. get_or places n 0) n) r)
-        (map (λ k. get_or spans k None) ks) (map (λ k. get_or reducers k None) ks)
-    spans_moved n r spans reducers zipped many some [] below = tt
-    spans_moved n r spans reducers zipped many some (k ∷ ks) below =
-        let lt = All-head (λ k. k < length words) k ks below in (
-          span_moved n r (get_or spans k None) (get_or reducers k None)
-              (AllZip-at (IsSpanOf words n r) spans reducers k (get_or spans k None) (get_or reducers k None) zipped
-              (slice_get-get_or spans k None (omega (arith, lt, many))) (slice_get-get_or reducers k None (omega (arith, lt, some)))),
-          spans_moved n r spans reducers zipped many some ks (All-tail (λ k. k < length words) k ks below),
+        → (ks : List ℕ) → All (λ k. k < length words) ks → (ts : List (Option Span)) →
+        AllZip (IsMoved places n m) (map (λ k. get_or spans k None) ks) ts
+        → AllZip (IsSpanOf columns m r) ts (map (λ k. get_or reducers k None) ks)
+    spans_moved n m r spans reducers zipped many some [] below [] k = tt
+    spans_moved n m r spans reducers zipped many some [] below (t ∷ ts) k = absurd k
+    spans_moved n m r spans reducers zipped many some (i ∷ ks) below [] k = absurd k
+    spans_moved n m r spans reducers zipped many some (i ∷ ks) below (t ∷ ts) k =
+        let lt = All-head (λ k. k < length words) i ks below in (
+          span_moved n m r (get_or spans i None) t (get_or reducers i None)
+              (AllZip-at (IsSpanOf words n r) spans reducers i (get_or spans i None) (get_or reducers i None) zipped
+              (slice_get-get_or spans i None (omega (arith, lt, many))) (slice_get-get_or reducers i None (omega (arith, lt, some)))) k.0,
+          spans_moved n m r spans reducers zipped many some ks (All-tail (λ k. k < length words) i ks below) ts k.1,
         )
 
   -- the reducers in the order of the columns
@@ -165,19 +159,30 @@ module _ (words : List (List ℕ)) (order : List ℕ) (columns : List (List ℕ)
   pub listed_in_order : (G : List (List Term)) (given_words : List (List ℕ)) (from limit : ℕ) (spans : List (Option Span)) (n : List ℕ)
       (entries : ℕ) → IsNumberWalk G given_words words (length words) from limit spans n entries
       → AllPairs IsLetterwiseGreater columns → (places : List ℕ) → ((c : ℕ) → c < length order → get_or places (get_or order c 0) 0 ≡ c) →
-      (m : List ℕ) → (entries ≤ limit → m ≡ map (λ n. get_or places n 0) n) → (r : List (List ℕ)) → r ≡ map residues_of G
-      → (columns_spans : List (Option Span)) → columns_spans ≡ map (λ k. get_or spans k None) order →
-      IsListedClosure G given_words from limit columns columns_spans m r entries
-  listed_in_order G given_words from limit spans n entries walk falling places placed m renumbered r are_residues columns_spans are_spans =
+      (r : List (List ℕ)) → r ≡ map residues_of G → (m : List ℕ) (moved_spans : List (Option Span))
+      → (entries ≤ limit → AllZip (IsMoved places n m) (map (λ k. get_or spans k None) order) moved_spans) →
+      IsListedClosure G given_words from limit columns moved_spans m r entries
+  listed_in_order G given_words from limit spans n entries walk falling places placed r are_residues m moved_spans are_moved =
       let all = numbered_all G given_words words (length words) walk.reducers walk.numbered (omega arith) in
       let some : length walk.reducers ≡ length words = AllZip-length (HasReducer G) words walk.reducers all.1 in
       record {
         reducers = ordered walk.reducers;
         closed = closed_listing G given_words words columns walk.reducers (ordered walk.reducers) all.0 all.1 (ordered_listing walk.reducers some) falling;
         count = omega (arith, walk.count, ordered_terms walk.reducers some);
-        listed = λ le.
-            subst (λ (ns : List ℕ). AllZip (IsSpanOf columns ns r) columns_spans (ordered walk.reducers)) (sym (renumbered le))
-            (subst (λ (ss : List (Option Span)). AllZip (IsSpanOf columns (map (λ n. get_or places n 0) n) r) ss (ordered walk.reducers)) (sym are_spans)
-            (spans_moved places placed n r spans walk.reducers
-            (subst (λ (rs : List (List ℕ)). AllZip (IsSpanOf words n rs) spans walk.reducers) (sym are_residues) (walk.listed le)) (omega (arith, walk.size, some)) some order order_below));
+        listed = λ le. spans_moved places placed n m r spans walk.reducers
+            (subst (λ (rs : List (List ℕ)). AllZip (IsSpanOf words n rs) spans walk.reducers) (sym are_residues) (walk.listed le))
+            (omega (arith, walk.size, some)) some order order_below moved_spans (are_moved le);
       }
+
+-- a span that stands lies within the numbers
+pub spans_in : (words : List (List ℕ)) (n : List ℕ) (r : List (List ℕ)) (spans : List (Option Span)) (reducers : List (Option (List Term))) →
+    AllZip (IsSpanOf words n r) spans reducers → All (IsSpanIn n) spans
+spans_in words n r [] reducers z = All-nil (IsSpanIn n)
+spans_in words n r (s ∷ spans) [] z = absurd z
+spans_in words n r (None ∷ spans) (None ∷ os) z = All-cons (IsSpanIn n) None spans tt (spans_in words n r spans os z.1)
+spans_in words n r (None ∷ spans) (Some f ∷ os) z = absurd z.0
+spans_in words n r (Some s ∷ spans) (None ∷ os) z = absurd z.0
+spans_in words n r (Some s ∷ spans) (Some f ∷ os) z = All-cons (IsSpanIn n) (Some s) spans (
+  omega (arith, z.0.ends),
+  omega (arith, z.0.ends, z.0.starts, ap length z.0.numbers_are, length-append (z.0.before ++ z.0.ns) z.0.behind, length-append z.0.before z.0.ns),
+) (spans_in words n r spans os z.1)

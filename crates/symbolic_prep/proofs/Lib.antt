@@ -21,3 +21,4 @@ pub mod ByWord
 pub mod InOrder
 pub mod RowWords
 pub mod ListedClosures
+pub mod Moved

@@ -75,7 +75,7 @@ take_first [] ys = refl
 take_first (x ∷ xs) ys = ap (λ (zs : List ℕ). x ∷ zs) (take_first xs ys)
 
 -- what stands between others
-range_is : (xs before mid behind : List ℕ) (start end : ℕ) → xs ≡ before ++ mid ++ behind → length before ≡ start → start + length mid ≡ end
+pub range_is : (xs before mid behind : List ℕ) (start end : ℕ) → xs ≡ before ++ mid ++ behind → length before ≡ start → start + length mid ≡ end
     → slice_range xs start end ≡ mid
 range_is xs before mid behind start end e first last =
     ap (slice_range xs start) (sym last) ∙ ap (λ (s : ℕ). slice_range xs s (s + length mid)) (sym first)

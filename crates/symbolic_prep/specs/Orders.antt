@@ -1,9 +1,11 @@
 -- Words by number in another order.
-use Rattle.std.specs.Prelude.{ℕ, ◌≡◌, ◌<◌, ◌^◌, List, All, AllPairs, Some, map, length, slice_get, slice_index}
+use Rattle.std.specs.Prelude.{ℕ, ◌≡◌, ◌+◌, ◌<◌, ◌≤◌, ◌^◌, ◌++◌, List, All, AllPairs, Option, None, Some, map, length}
+use Rattle.std.specs.Prelude.{slice_get, slice_index, slice_range}
 use Rattle.std.specs.List.{range_with_len}
 use Rattle.std.specs.List.Sorted.{IsPermutation}
 use Rattle.words.specs.Order.{IsLetterwiseGreater}
 use Rattle.words.specs.Words.{AreWeights, degree_of}
+use Rattle.symbolic_prep.specs.declared.lists.Span.{Span}
 use Rattle.symbolic_prep.specs.Packing.{IsTable, unpacked}
 
 -- the keys rise, and beside each is its number
@@ -30,3 +32,28 @@ pub record ArePackedWords (bits room : ℕ) (keys : List ℕ) : Type 0 where
   pub table : IsTable bits room keys
   pub rising : AllPairs (λ a b. a < b) keys
   pub falling : AllPairs IsLetterwiseGreater (map (unpacked (2 ^ bits) room) keys)
+
+-- a span lies within the numbers
+abbrev pub IsSpanIn : List ℕ → Option Span → Type 0
+IsSpanIn numbers None = Unit {0}
+IsSpanIn numbers (Some s) = (s.start ≤ s.end) × (s.end ≤ length numbers)
+
+-- the columns of some numbers
+abbrev pub columns_at : List ℕ → List ℕ → List ℕ
+columns_at columns numbers = map (λ n. slice_index columns n) numbers
+
+-- the columns of the numbers of one span stand where another is, with the same element
+pub record IsMovedTo (columns numbers moved : List ℕ) (from to : Span) : Type 0 where
+  pub before : List ℕ
+  pub behind : List ℕ
+  pub moved_are : moved ≡ before ++ columns_at columns (slice_range numbers from.start from.end) ++ behind
+  pub starts : length before ≡ to.start
+  pub ends : to.start + length (slice_range numbers from.start from.end) ≡ to.end
+  pub element : to.element ≡ from.element
+
+-- a span has moved, or there is none
+abbrev pub IsMoved : List ℕ → List ℕ → List ℕ → Option Span → Option Span → Type 0
+IsMoved columns numbers moved None None = Unit {0}
+IsMoved columns numbers moved None (Some t) = ⊥
+IsMoved columns numbers moved (Some s) None = ⊥
+IsMoved columns numbers moved (Some s) (Some t) = IsMovedTo columns numbers moved s t

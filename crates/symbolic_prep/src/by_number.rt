@@ -1,5 +1,6 @@
 ghost use Rattle.std.specs.Prelude.{◌≡◌, ◌+◌, ◌^◌, ◌<◌, ◌≤◌, ◌↔◌, List, ℕ, All, Contains, IfOk, IsErrOf, IsTrue};
-ghost use Rattle.std.specs.Prelude.{length, map, slice_index};
+ghost use Rattle.std.specs.Prelude.{None, length, map, slice_index_or};
+ghost use Rattle.std.specs.List.{AllZip};
 ghost use Rattle.words.specs.Words.{IsOver, degree_of};
 ghost use Rattle.free_poly.specs.declared.term.Term.{Term};
 ghost use Rattle.free_poly.specs.Poly.{IsPolynomial};
@@ -9,15 +10,15 @@ ghost use Rattle.ideal_laws.specs.Quantities.{words_of};
 ghost use Rattle.lead_index.specs.Leads.{IsIndexOf};
 ghost use Rattle.symbolic_prep.specs.Columns.{IsListedClosure, words_in};
 ghost use Rattle.symbolic_prep.specs.Numbers.{IsNumberWalk, residues_of};
-ghost use Rattle.symbolic_prep.specs.Orders.{HaveOneDegree};
+ghost use Rattle.symbolic_prep.specs.Orders.{HaveOneDegree, IsMoved, IsSpanIn};
 ghost use Rattle.symbolic_prep.specs.Packing.{HasDigits, IsPacking, IsPackingFor};
 ghost use Rattle.symbolic_prep.specs.Walk.{HasMore};
 
 use crate::closing::keeps;
 use crate::columns::ColumnWords;
-use crate::lists::{Lists, push_product};
+use crate::lists::{Lists, Span, push_product};
 use crate::numbering::{Numbered, walk_by_number};
-use crate::ordering::{columns_of, renumber, spans_of};
+use crate::ordering::{columns_of, ordered};
 use crate::packing::Packing;
 use crate::pending::ColumnFault;
 use crate::residues::{ResidueLists, residues_of_basis};
@@ -130,10 +131,15 @@ fn in_order(
 {
     let (words, order) = numbered.table.in_order(alloc)?;
     let columns = columns_of(alloc, order.as_slice())?;
-    let spans = spans_of(alloc, numbered.spans.as_slice(), order.as_slice())?;
-    let mut numbers = numbered.numbers;
     let held = numbered.entries <= u64::from(limit);
-    renumber_if(held, numbers.as_mut_slice(), columns.as_slice());
+    let (spans, numbers) = ordered_if(
+        alloc,
+        held,
+        numbered.spans.as_slice(),
+        numbered.numbers.as_slice(),
+        order.as_slice(),
+        columns.as_slice(),
+    )?;
     Ok(ListedClosure {
         columns: ColumnWords::Packed(words),
         lists: Lists {
@@ -145,12 +151,24 @@ fn in_order(
     })
 }
 
-/// Puts the column of each number in its place, where the numbers are held.
-fn renumber_if(held: bool, numbers: &mut [u32], columns: &[u32])
-    requires { IsTrue held → All (λ n. n < length columns.now) numbers.old }
-    ensures { IsTrue held → numbers.new ≡ map (λ n. slice_index columns.now n) numbers.old }
+/// The reducers in the order of the columns, where they are held.
+fn ordered_if(
+    alloc: Global,
+    held: bool,
+    spans: &[Option<Span>],
+    numbers: &[u32],
+    order: &[u32],
+    columns: &[u32],
+) -> Result<(Vec<Option<Span>>, Vec<u32>), NoMemory>
+    requires order { All (λ n. n < length spans.now) order.now }
+    requires within { IsTrue held → All (IsSpanIn numbers.now) spans.now }
+    requires columns { IsTrue held → All (λ n. n < length columns.now) numbers.now }
+    ensures { IfOk result (λ parts. IsTrue held → AllZip (IsMoved columns.now numbers.now parts.1.items)
+        (map (λ n. slice_index_or spans.now n None) order.now) parts.0.items) }
 {
     if held {
-        renumber(numbers, columns);
+        ordered(alloc, spans, numbers, order, columns)
+    } else {
+        Ok((Vec::new(alloc), Vec::new(alloc)))
     }
 }

@@ -1,7 +1,8 @@
-ghost use Rattle.std.specs.Prelude.{◌≡◌, ◌≢◌, ◌<◌, ◌≤◌, ℕ, All, AllPairs, IfOk, None, length, map, slice_index};
+ghost use Rattle.std.specs.Prelude.{◌≡◌, ◌≢◌, ◌<◌, ◌++◌, ℕ, All, AllPairs, IfOk, None, OnOk, length, map, slice_index};
 ghost use Rattle.std.specs.Prelude.{slice_index_or};
-ghost use Rattle.std.specs.List.{range_with_len};
-ghost use Rattle.symbolic_prep.specs.Orders.{IsRising};
+ghost use Rattle.std.specs.List.{AllZip, range_with_len};
+ghost use Rattle.symbolic_prep.specs.Orders.{IsMoved, IsRising, IsSpanIn, columns_at};
+ghost use Rattle.symbolic_prep.specs.Numbers.{IsLonger};
 
 use crate::lists::Span;
 use std::alloc::Global;
@@ -45,22 +46,6 @@ pub(crate) fn parted(alloc: Global, pairs: &[(u64, u32)]) -> Result<(Vec<u64>, V
     Ok((keys, numbers))
 }
 
-/// The spans in another order.
-pub(crate) fn spans_of(
-    alloc: Global,
-    spans: &[Option<Span>],
-    order: &[u32],
-) -> Result<Vec<Option<Span>>, NoMemory>
-    requires { All (λ n. n < length spans.now) order.now }
-    ensures { IfOk result (λ ordered. ordered.items ≡ map (λ n. slice_index_or spans.now n None) order.now) }
-{
-    let mut ordered = Vec::with_capacity(alloc, order.len())?;
-    for number in order {
-        ordered.push(spans[*number as usize])?;
-    }
-    Ok(ordered)
-}
-
 /// The column of each number, where the columns are listed by their numbers.
 pub(crate) fn columns_of(alloc: Global, order: &[u32]) -> Result<Vec<u32>, NoMemory>
     requires few { length order.now < 4294967296 }
@@ -77,12 +62,59 @@ pub(crate) fn columns_of(alloc: Global, order: &[u32]) -> Result<Vec<u32>, NoMem
     Ok(columns)
 }
 
-/// Puts the column of each number in its place.
-pub(crate) fn renumber(numbers: &mut [u32], columns: &[u32])
-    requires { All (λ n. n < length columns.now) numbers.old }
-    ensures { numbers.new ≡ map (λ n. slice_index columns.now n) numbers.old }
+/// The reducers in another order, one behind another, with the column of each number in its place.
+pub(crate) fn ordered(
+    alloc: Global,
+    spans: &[Option<Span>],
+    numbers: &[u32],
+    order: &[u32],
+    columns: &[u32],
+) -> Result<(Vec<Option<Span>>, Vec<u32>), NoMemory>
+    requires order { All (λ n. n < length spans.now) order.now }
+    requires within { All (IsSpanIn numbers.now) spans.now }
+    requires columns { All (λ n. n < length columns.now) numbers.now }
+    ensures { IfOk result (λ parts. AllZip (IsMoved columns.now numbers.now parts.1.items)
+        (map (λ n. slice_index_or spans.now n None) order.now) parts.0.items) }
 {
-    for number in numbers.iter_mut() {
-        *number = columns[*number as usize];
+    let mut ordered = Vec::with_capacity(alloc, order.len())?;
+    let mut moved = Vec::with_capacity(alloc, numbers.len())?;
+    for number in order {
+        let span = push_moved(spans[*number as usize], numbers, columns, &mut moved)?;
+        ordered.push(span)?;
     }
+    Ok((ordered, moved))
+}
+
+/// Adds the columns of the numbers of a span, if there is one.
+fn push_moved(
+    span: Option<Span>,
+    numbers: &[u32],
+    columns: &[u32],
+    moved: &mut Vec<u32>,
+) -> Result<Option<Span>, NoMemory>
+    requires within { IsSpanIn numbers.now span }
+    requires columns { All (λ n. n < length columns.now) numbers.now }
+    ensures longer { OnOk result (IsLonger moved.old.items moved.new.items) }
+    ensures moved { IfOk result (IsMoved columns.now numbers.now moved.new.items span) }
+{
+    match span {
+        Some(span) => {
+            let start = moved.len();
+            push_columns(&numbers[span.start..span.end], columns, moved)?;
+            let end = moved.len();
+            Ok(Some(Span { start, end, ..span }))
+        }
+        None => Ok(None),
+    }
+}
+
+/// Adds the columns of some numbers.
+fn push_columns(numbers: &[u32], columns: &[u32], moved: &mut Vec<u32>) -> Result<(), NoMemory>
+    requires { All (λ n. n < length columns.now) numbers.now }
+    ensures { OnOk result (moved.new.items ≡ moved.old.items ++ columns_at columns.now numbers.now) }
+{
+    for number in numbers {
+        moved.push(columns[*number as usize])?;
+    }
+    Ok(())
 }
