@@ -38,11 +38,9 @@ pub(crate) fn scale(field: &Field, a: u32, from: usize, row: &[u32], multiple: &
 pub(crate) fn copy_row(problem: &Problem, r: u32, row: &mut [u32])
     requires row { r < problem.now.n }
     requires length { length row.old ≡ problem.now.m }
-    ensures { row.new ≡ row_of problem.now.m problem.now.cells.items r }
+    ensures { row.new ≡ row_of problem.now.rows.items r }
 {
-    let m = problem.m as usize;
-    let from = r as usize * m;
-    row.copy_from_slice(&problem.cells[from..from + m]);
+    problem.rows[r as usize].write(row);
 }
 
 pub(crate) fn clear(row: &mut [u32])
