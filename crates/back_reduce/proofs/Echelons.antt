@@ -27,18 +27,18 @@ use Rattle.back_reduce.proofs.Vectors.{leader_within, K, V, vec}
 
 -- a row and what it is reduced to
 abbrev pub IsReducedTo : ℕ → List Leader → Leader → List ℕ → Type 0
-IsReducedTo p leaders own row = IsReducedRow p leaders own.column own.row.items row
+IsReducedTo p leaders own row = IsReducedRow p leaders own.column own.row row
 
 abbrev pub columns_of : List Leader → List ℕ
 columns_of leaders = map (λ l. l.column) leaders
 
 abbrev pub starts_of : List Leader → List (List ℕ)
-starts_of leaders = map (λ l. l.row.items) leaders
+starts_of leaders = map (λ l. l.row) leaders
 
 module _ (p m : ℕ) where
   leaders_tail : (own : Leader) (leaders : List Leader) → AreLeaders p m (own ∷ leaders) → AreLeaders p m leaders
   leaders_tail own leaders h = record {
-    each = All-tail (λ l. IsLeader p m l.column l.row.items) own leaders h.each;
+    each = All-tail (λ l. IsLeader p m l.column l.row) own leaders h.each;
     rising = λ i j d below within. h.rising (suc i) (suc j) d (omega (arith, below)) (omega (arith, within));
   }
 
@@ -49,11 +49,11 @@ module _ (p m : ℕ) where
   form_of a all [] (e ∷ ends) h part from z = absurd z
   form_of a all (own ∷ leaders) [] h part from z = absurd z
   form_of a all (own ∷ leaders) (e ∷ ends) h part from z =
-      let start : IsLeader p m own.column own.row.items = All-head (λ l. IsLeader p m l.column l.row.items) own leaders h.each in
+      let start : IsLeader p m own.column own.row = All-head (λ l. IsLeader p m l.column l.row) own leaders h.each in
       let above : (k : ℕ) (d : Leader) → k < length leaders → own.column < (get_or leaders k d).column =
       λ k d within. h.rising zero (suc k) d (omega arith) (omega (arith, within)) in (
         All-head (λ (l : Leader). a ≤ l.column) own leaders from,
-        leader_within p m own.column own.row.items start,
+        leader_within p m own.column own.row start,
         z.0.leader.one,
         z.0.leader.before,
         All-map (λ d. get_or e d 0 ≡ 0) (λ (l : Leader). l.column) leaders
@@ -82,14 +82,14 @@ module _ (p m : ℕ) where
     one_contained (x ∷ rows) v (inl is) = (x, Contains-first x rows, is)
     one_contained (x ∷ rows) v (inr h) = let r = one_contained rows v h in (r.0, Contains-more x rows r.0 r.1, r.2)
 
-    start_one : (leaders : List Leader) (l : Leader) → Contains leaders l → OneOf p modulus (starts_of leaders) (vec p modulus l.row.items)
+    start_one : (leaders : List Leader) (l : Leader) → Contains leaders l → OneOf p modulus (starts_of leaders) (vec p modulus l.row)
     start_one [] l there = absurd (omega (arith, there.1))
     start_one (x ∷ leaders) l there = elim (Contains-cases x leaders l there) [
-      | inl is ↦ inl (ap (λ (i : Leader). vec p modulus i.row.items) (sym is))
+      | inl is ↦ inl (ap (λ (i : Leader). vec p modulus i.row) (sym is))
       | inr later ↦ inr (start_one leaders l later)
     ]
 
-    one_start : (leaders : List Leader) (v : Ve) → OneOf p modulus (starts_of leaders) v → (l : Leader) × Contains leaders l × (v ≡ vec p modulus l.row.items)
+    one_start : (leaders : List Leader) (v : Ve) → OneOf p modulus (starts_of leaders) v → (l : Leader) × Contains leaders l × (v ≡ vec p modulus l.row)
     one_start [] v h = absurd h
     one_start (x ∷ leaders) v (inl is) = (x, Contains-first x leaders, is)
     one_start (x ∷ leaders) v (inr h) = let r = one_start leaders v h in (r.0, Contains-more x leaders r.0 r.1, r.2)
@@ -101,15 +101,15 @@ module _ (p m : ℕ) where
           let own = b.0 in
           let Q = OneOf p modulus (starts_of leaders) in
           plus_inside p modulus (IsLaterVector p modulus leaders own.column) Q
-          (λ v later. IsInSpan-one Ke ℕ Q v (subst Q (sym later.is) (start_one leaders later.later later.there))) own.row.items r (b.1.related.sum modulus)
-          (IsInSpan-one Ke ℕ Q (vec p modulus own.row.items) (start_one leaders own b.1.left))
+          (λ v later. IsInSpan-one Ke ℕ Q v (subst Q (sym later.is) (start_one leaders later.later later.there))) own.row r (b.1.related.sum modulus)
+          (IsInSpan-one Ke ℕ Q (vec p modulus own.row) (start_one leaders own b.1.left))
 
-      start_in : (n : ℕ) (l : Leader) → Contains leaders l → m ≤ l.column + n → IsInRowSpan p modulus ends (vec p modulus l.row.items)
+      start_in : (n : ℕ) (l : Leader) → Contains leaders l → m ≤ l.column + n → IsInRowSpan p modulus ends (vec p modulus l.row)
       start_in zero l there le = absurd (omega (
         arith,
         le,
-        leader_within p m l.column l.row.items
-            (All-contains (λ (l : Leader). IsLeader p m l.column l.row.items) leaders l are.each there),
+        leader_within p m l.column l.row
+            (All-contains (λ (l : Leader). IsLeader p m l.column l.row) leaders l are.each there),
       ))
       start_in (suc n) l there le =
           let b = beside_left (IsReducedTo p leaders) leaders ends l z there in
@@ -117,7 +117,7 @@ module _ (p m : ℕ) where
           let Q = OneOf p modulus ends in
           plus_back p modulus (IsLaterVector p modulus leaders l.column) Q
           (λ v later. subst (IsInSpan Ke ℕ Q) (sym later.is) (start_in n later.later later.there (omega (arith, le, later.after))))
-          l.row.items r (b.1.related.sum modulus)
+          l.row r (b.1.related.sum modulus)
           (IsInSpan-one Ke ℕ Q (vec p modulus r) (contained_one ends r b.1.right))
 
       pub ends_from : (v : Ve) → IsInRowSpan p modulus ends v → IsInRowSpan p modulus (starts_of leaders) v
@@ -133,7 +133,7 @@ module _ (p m : ℕ) where
       let r = get_or ends k d in
       let b = beside_right (IsReducedTo p leaders) leaders ends r z (Contains-get_or ends k d within) in
       let own = b.0 in
-      let start : IsLeader p m own.column own.row.items = All-contains (λ (l : Leader). IsLeader p m l.column l.row.items) leaders own are.each b.1.left in
+      let start : IsLeader p m own.column own.row = All-contains (λ (l : Leader). IsLeader p m l.column l.row) leaders own are.each b.1.left in
       record { size = b.1.related.leader.size ∙ start.size; residues = b.1.related.leader.residues }
 
   pub rref_from : (rows : List (List ℕ)) (leaders : List Leader) (ends : List (List ℕ)) → AreLeaders p m leaders → AllZip (IsReducedTo p leaders) leaders ends
@@ -161,22 +161,14 @@ module _ (p m : ℕ) where
       length_all_zip_of (x ∷ xs) [] h = absurd h
       length_all_zip_of (x ∷ xs) (y ∷ ys) h = ap suc (length_all_zip_of xs ys h.1)
 
-mapped : {D : Type 0} (p : ℕ) (row : D → List ℕ) (all xs : List Leader) (ds : List D) →
-    AllZip (λ own d. IsReducedRow p all own.column own.row.items (row d)) xs ds → AllZip (IsReducedTo p all) xs (map row ds)
-mapped p row all [] [] h = tt
-mapped p row all [] (d ∷ ds) h = absurd h
-mapped p row all (x ∷ xs) [] h = absurd h
-mapped p row all (x ∷ xs) (d ∷ ds) h = (h.0, mapped p row all xs ds h.1)
-
 -- what the rows of a problem's leaders are reduced to
-pub problem_rref : {C D E : Type 0} (problem : Problem) (p : ℕ) (shown leaders : List Leader) (result : Result C E) (items : C → List D)
-    (row : D → List ℕ) → problem.modulus ≡ p → shown ≡ leaders → AreLeadersOf problem leaders
-    → IfOk result (λ c. AllZip (λ own d. IsReducedRow p shown own.column own.row.items (row d)) shown (items c)) →
-    IfOk result (λ c. IsRref problem.modulus problem.m (rows_of problem) (map row (items c)))
-problem_rref problem p shown leaders (Err e) items row is same h z = tt
-problem_rref problem p shown leaders (Ok c) items row is same h z =
+pub problem_rref : {C E : Type 0} (problem : Problem) (p : ℕ) (shown leaders : List Leader) (result : Result C E) (items : C → List (List ℕ))
+    → problem.modulus ≡ p → shown ≡ leaders → AreLeadersOf problem leaders
+    → IfOk result (λ c. AllZip (IsReducedTo p shown) shown (items c)) → IfOk result (λ c. IsRref problem.modulus problem.m (rows_of problem) (items c))
+problem_rref problem p shown leaders (Err e) items is same h z = tt
+problem_rref problem p shown leaders (Ok c) items is same h z =
     let q = problem.modulus in
-    let here : AllZip (λ own d. IsReducedRow q leaders own.column own.row.items (row d)) leaders (items c) =
-    subst (λ (n : ℕ). AllZip (λ own d. IsReducedRow n leaders own.column own.row.items (row d)) leaders (items c)) (sym is)
-    (subst (λ (l : List Leader). AllZip (λ own d. IsReducedRow p l own.column own.row.items (row d)) l (items c)) same z) in
-    rref_from q problem.m (rows_of problem) leaders (map row (items c)) h.are (mapped q row leaders leaders (items c) here) h.span
+    let here : AllZip (IsReducedTo q leaders) leaders (items c) =
+    subst (λ (n : ℕ). AllZip (IsReducedTo n leaders) leaders (items c)) (sym is)
+    (subst (λ (l : List Leader). AllZip (IsReducedTo p l) l (items c)) same z) in
+    rref_from q problem.m (rows_of problem) leaders (items c) h.are here h.span

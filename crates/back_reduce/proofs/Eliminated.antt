@@ -1,6 +1,7 @@
 -- A table after the rows of a problem have been inserted.
 use Rattle.std.proofs.Common.{◌≡◌, ◌+◌, ◌<◌, ℕ, List, Option, None, Some, length, get_or, set, replicate, sym, ap, ◌∙◌, inl, inr, arith, subst}
 use Rattle.std.proofs.lemmas.Bool.{cases_eq, cases_lt}
+use Rattle.std.proofs.lemmas.List.{get_or-replicate, length-replicate}
 use Rattle.std.proofs.lemmas.List.FromFn.{fill_by_all}
 use Rattle.linear_algebra.specs.Spans.{IsInSpan}
 use Rattle.linear_algebra.proofs.Algebra.{IsInSpan-one}
@@ -65,9 +66,9 @@ apart_more holder table at c d first second h k (old there) (old there') e = k t
 
 pub eliminated_more : (problem : Problem) (r : ℕ) (table after : List (Option Held)) → r < problem.n → IsEliminated problem r table →
     IsTable problem.modulus problem.m after
-    → IsInserted problem.modulus r table (row_of problem.m problem.cells.items r) after → IsEliminated problem (r + 1) after
+    → IsInserted problem.modulus r table (row_of problem.rows.items r) after → IsEliminated problem (r + 1) after
 eliminated_more problem r table after lt h is_table inserted =
-    let row = row_of problem.m problem.cells.items r in
+    let row = row_of problem.rows.items r in
     let holders = has_holders problem.modulus r table row after inserted in
     record {
       is_table = is_table;
@@ -86,9 +87,9 @@ eliminated_more problem r table after lt h is_table inserted =
             | inl before ↦ IsInSpan-trans (K problem.modulus modulus) ℕ P Q
                 (λ v own. IsInSpan-one (K problem.modulus modulus) ℕ Q v
                 (record { column = own.column; held = own.held; there = done.kept own.column own.held own.there; is = own.is }))
-                (vec problem.modulus modulus (row_of problem.m problem.cells.items k)) (h.reached modulus k before)
+                (vec problem.modulus modulus (row_of problem.rows.items k)) (h.reached modulus k before)
             | inr last ↦ (let same : k ≡ r = omega arith in subst (λ (i : ℕ). IsInSpan (K problem.modulus modulus) ℕ Q
-                (vec problem.modulus modulus (row_of problem.m problem.cells.items i))) (sym same) done.reached)
+                (vec problem.modulus modulus (row_of problem.rows.items i))) (sym same) done.reached)
           ]);
     }
 
@@ -96,7 +97,7 @@ eliminated_more problem r table after lt h is_table inserted =
 holder_read : (table : List (Option Held)) (c : ℕ) (held : Held) → held_at table c ≡ Some held → holder_in table c ≡ Some held.holder
 holder_read table c held there = ap holder_of there
 
-value_read : (table : List (Option Held)) (c k : ℕ) (held : Held) → held_at table c ≡ Some held → value_in table c k ≡ get_or held.row.items k 0
+value_read : (table : List (Option Held)) (c k : ℕ) (held : Held) → held_at table c ≡ Some held → value_in table c k ≡ get_or held.row k 0
 value_read table c k held there = ap (λ (x : Option Held). value_of x k) there
 
 held_of_holder : (table : List (Option Held)) (c r : ℕ) (B : Type 0) → holder_in table c ≡ Some r →
@@ -104,15 +105,21 @@ held_of_holder : (table : List (Option Held)) (c r : ℕ) (B : Type 0) → holde
 held_of_holder table c r B e k = option_cases B (held_at table c) (λ none. absurd (none_is_some r (sym (ap holder_of none) ∙ e)))
     (λ held there. k held there (same_some held.holder r (sym (holder_read table c held there) ∙ e)))
 
-row_held : (m : ℕ) (table : List (Option Held)) (c : ℕ) (held : Held) → length held.row.items ≡ m → held_at table c ≡ Some held →
-    held_row m (value_in table) c ≡ held.row.items
-row_held m table c held size there = sym (fill_by_all (value_in table c) held.row.items m 0 size (λ k lt. sym (value_read table c k held there)))
+-- the row of a column that is held
+pub row_held : (m : ℕ) (table : List (Option Held)) (c : ℕ) (held : Held) → length held.row ≡ m → held_at table c ≡ Some held →
+    held_row m (value_in table) c ≡ held.row
+row_held m table c held size there = sym (fill_by_all (value_in table c) held.row m 0 size (λ k lt. sym (value_read table c k held there)))
+
+-- and 0 where it is not
+pub row_free : (m : ℕ) (table : List (Option Held)) (c : ℕ) → held_at table c ≡ None → held_row m (value_in table) c ≡ replicate m 0
+row_free m table c free = sym (fill_by_all (value_in table c) (replicate m 0) m 0 (length-replicate m 0)
+    (λ k lt. get_or-replicate m k 0 0 lt ∙ sym (ap (λ (x : Option Held). value_of x k) free)))
 
 pub sequential : (problem : Problem) (table : List (Option Held)) → IsEliminated problem problem.n table → IsSequential problem table
 sequential problem table h =
     let p = problem.modulus in
     let m = problem.m in
-    let leader : (c : ℕ) (held : Held) → held_at table c ≡ Some held → IsLeader p m c held.row.items =
+    let leader : (c : ℕ) (held : Held) → held_at table c ≡ Some held → IsLeader p m c held.row =
     λ c held there. h.is_table.leaders c held (omega (arith, held_within table c held there, h.is_table.size)) there in
     let rows = held_rows m (holder_in table) (value_in table) in
     record {
@@ -147,7 +154,7 @@ sequential problem table h =
               (one_held p modulus m (holder_in table) (value_in table) own.column own.held.holder
               (omega (arith, held_within table own.column own.held own.there, h.is_table.size))
               (holder_read table own.column own.held own.there))))
-              (vec p modulus (row_of m problem.cells.items f.0)) (h.reached modulus f.0 f.1)))) v,
+              (vec p modulus (row_of problem.rows.items f.0)) (h.reached modulus f.0 f.1)))) v,
         );
       };
     }

@@ -64,15 +64,15 @@ holder_leader p m n value c r lt h = record {
 }
 
 pub leaders_are : (problem : Problem) (holder : ℕ → Option ℕ) (value : ℕ → ℕ → ℕ) (leaders : List Leader) → ArePivots problem holder value
-    → map (λ l. l.column) leaders ≡ held_columns problem.m holder → map (λ l. l.row.items) leaders ≡ held_rows problem.m holder value →
+    → map (λ l. l.column) leaders ≡ held_columns problem.m holder → map (λ l. l.row) leaders ≡ held_rows problem.m holder value →
     AreLeaders problem.modulus problem.m leaders
 leaders_are problem holder value leaders h columns rows =
     let m = problem.m in
     let count : length (held_columns m holder) ≡ length leaders = ap length (sym columns) ∙ length-map leaders (λ l. l.column) in
     let column : (k : ℕ) (d : Leader) → k < length leaders → (get_or leaders k d).column ≡ get_or (held_columns m holder) k 0 =
     λ k d within. sym (get_or-map (λ (l : Leader). l.column) leaders k d 0 within) ∙ ap (λ (l : List ℕ). get_or l k 0) columns in
-    let row : (k : ℕ) (d : Leader) → k < length leaders → (get_or leaders k d).row.items ≡ held_row m value (get_or (held_columns m holder) k 0) =
-    λ k d within. sym (get_or-map (λ (l : Leader). l.row.items) leaders k d [] within) ∙ ap (λ (l : List (List ℕ)). get_or l k []) rows
+    let row : (k : ℕ) (d : Leader) → k < length leaders → (get_or leaders k d).row ≡ held_row m value (get_or (held_columns m holder) k 0) =
+    λ k d within. sym (get_or-map (λ (l : Leader). l.row) leaders k d [] within) ∙ ap (λ (l : List (List ℕ)). get_or l k []) rows
     ∙ get_or-map (held_row m value) (held_columns m holder) k 0 [] (omega (arith, within, count)) in
     record {
       each = λ k d within. (
@@ -80,7 +80,7 @@ leaders_are problem holder value leaders h columns rows =
           let held = held_each holder m k 0 (omega (arith, within, count)) in
           let leader : IsLeader problem.modulus m c (held_row m value c) =
           holder_leader problem.modulus m problem.n value c held.2.0 held.1 (h.each c held.2.0 held.1 held.2.1) in
-          subst (λ (i : ℕ). IsLeader problem.modulus m i (get_or leaders k d).row.items) (sym (column k d within))
+          subst (λ (i : ℕ). IsLeader problem.modulus m i (get_or leaders k d).row) (sym (column k d within))
           (subst (IsLeader problem.modulus m c) (sym (row k d within)) leader));
       rising = λ i j d below within. omega (
         arith,
@@ -91,7 +91,7 @@ leaders_are problem holder value leaders h columns rows =
     }
 
 pub leaders_of_pivots : (problem : Problem) (holder : ℕ → Option ℕ) (value : ℕ → ℕ → ℕ) (leaders : List Leader) → ArePivots problem holder value
-    → map (λ l. l.column) leaders ≡ held_columns problem.m holder → map (λ l. l.row.items) leaders ≡ held_rows problem.m holder value →
+    → map (λ l. l.column) leaders ≡ held_columns problem.m holder → map (λ l. l.row) leaders ≡ held_rows problem.m holder value →
     AreLeadersOf problem leaders
 leaders_of_pivots problem holder value leaders h columns rows = record {
   are = leaders_are problem holder value leaders h columns rows;

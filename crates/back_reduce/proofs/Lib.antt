@@ -1,3 +1,5 @@
+pub mod EntryRows
+pub mod ListedRows
 pub mod Vectors
 pub mod Sums
 pub mod Tables

@@ -1,10 +1,11 @@
 -- The rows of a problem, and held rows, as lists and one by one.
-use Rattle.std.proofs.Common.{◌≡◌, ◌+◌, ◌*◌, ◌<◌, ◌≤◌, ℕ, zero, suc, List, [], ◌∷◌, ◌++◌, All, Option, None, Some, map, length, drop, refl, sym, ap}
+use Rattle.std.proofs.Common.{◌≡◌, ◌+◌, ◌*◌, ◌<◌, ◌≤◌, ℕ, zero, suc, List, [], ◌∷◌, ◌++◌, All, Option, None, Some, map, length, drop, refl, sym, ap, take}
 use Rattle.std.proofs.Common.{◌∙◌, inl, inr, arith, subst}
 use Rattle.std.specs.List.{flat_map, range_with_len}
 use Rattle.std.proofs.lemmas.Bool.{cases_eq}
 use Rattle.std.proofs.lemmas.List.{length-drop, length-take-le}
 use Rattle.std.proofs.lemmas.List.Elements.{All-drop, All-take}
+use Rattle.std.proofs.lemmas.List.FromFn.{fill_by_all, get_or-map-range_with_len, length-map-range_with_len}
 use Rattle.std.proofs.lemmas.Nat.{mul-le}
 use Rattle.field_table.specs.Residues.{IsFieldModulus}
 use Rattle.linear_algebra.specs.Echelon.{IsOneOf}
@@ -12,16 +13,30 @@ use Rattle.linear_algebra.specs.Fields.{Field}
 use Rattle.back_reduce.specs.declared.problem.Problem.{Problem}
 use Rattle.back_reduce.specs.Pivots.{held_row, held_rows, where_held}
 use Rattle.back_reduce.specs.Problems.{row_of, rows_of}
+use Rattle.back_reduce.specs.Rows.{cut_rows, IsRow}
 use Rattle.back_reduce.proofs.Vectors.{K, V, vec}
 
 row_end : (m n r : ℕ) → r < n → r * m + m ≤ n * m
 row_end m n r lt = omega (arith, mul-le (r + 1) m n m (omega arith) (omega arith))
 
-pub row_size : (m n : ℕ) (cells : List ℕ) (r : ℕ) → length cells ≡ n * m → r < n → length (row_of m cells r) ≡ m
-row_size m n cells r l lt = length-take-le m (drop (r * m) cells) (omega (arith, length-drop (r * m) cells, l, row_end m n r lt))
+pub length-cut_rows : (m n : ℕ) (cells : List ℕ) → length (cut_rows m n cells) ≡ n
+length-cut_rows m n cells = length-map-range_with_len (λ r. take m (drop (r * m) cells)) 0 n
 
-pub row_residues : (p m : ℕ) (cells : List ℕ) (r : ℕ) → All (λ a. a < p) cells → All (λ a. a < p) (row_of m cells r)
-row_residues p m cells r h = All-take (λ a. a < p) m (drop (r * m) cells) (All-drop (λ a. a < p) (r * m) cells h)
+-- rows that are cut from residues have m of them each
+pub cut_rows-are : (p m n : ℕ) (cells : List ℕ) → length cells ≡ n * m → All (λ a. a < p) cells → All (IsRow p m) (cut_rows m n cells)
+cut_rows-are p m n cells l residues r d within =
+    let lt : r < n = omega (arith, within, length-cut_rows m n cells) in
+    subst (IsRow p m) (sym (get_or-map-range_with_len (λ (k : ℕ). take m (drop (k * m) cells)) 0 n r r d lt (omega arith))) (record {
+      size = length-take-le m (drop (r * m) cells) (omega (arith, length-drop (r * m) cells, l, row_end m n r lt));
+      residues = All-take (λ a. a < p) m (drop (r * m) cells) (All-drop (λ a. a < p) (r * m) cells residues);
+    })
+
+-- each row of a problem has m residues
+pub row_is : (problem : Problem) (r : ℕ) → r < problem.n → IsRow problem.modulus problem.m (row_of problem.rows.items r)
+row_is problem r lt = problem.each r [] (omega (arith, lt, problem.count))
+
+rows_by_number : (problem : Problem) → rows_of problem ≡ map (row_of problem.rows.items) (range_with_len 0 problem.n)
+rows_by_number problem = fill_by_all (row_of problem.rows.items) problem.rows.items problem.n [] problem.count (λ k lt. refl)
 
 -- an option is none or some
 pub option_cases : {A : Type 0} (B : Type 0) (x : Option A) → (x ≡ None → B) → ((a : A) → x ≡ Some a → B) → B
@@ -98,12 +113,14 @@ module _ (p : ℕ) (modulus : IsFieldModulus p) where
       from_held a (suc n) v h = mutual_step a n (holder a) v refl (from_held (a + 1) n v) h
 
   -- the rows of a problem one by one
-  pub problem_row : (problem : Problem) (k : ℕ) → k < problem.n → OneOf (rows_of problem) (vec p modulus (row_of problem.m problem.cells.items k))
-  problem_row problem k lt = one_of_range (row_of problem.m problem.cells.items) 0 problem.n k (omega arith) (omega arith)
+  pub problem_row : (problem : Problem) (k : ℕ) → k < problem.n → OneOf (rows_of problem) (vec p modulus (row_of problem.rows.items k))
+  problem_row problem k lt = subst (λ (rows : List (List ℕ)). OneOf rows (vec p modulus (row_of problem.rows.items k))) (sym (rows_by_number problem))
+      (one_of_range (row_of problem.rows.items) 0 problem.n k (omega arith) (omega arith))
 
   pub row_problem : (problem : Problem) (v : Vr) → OneOf (rows_of problem) v →
-      (k : ℕ) × (k < problem.n) × (v ≡ vec p modulus (row_of problem.m problem.cells.items k))
-  row_problem problem v h = let r = range_one_of (row_of problem.m problem.cells.items) 0 problem.n v h in (r.0, omega (arith, r.2), r.3)
+      (k : ℕ) × (k < problem.n) × (v ≡ vec p modulus (row_of problem.rows.items k))
+  row_problem problem v h =
+      let r = range_one_of (row_of problem.rows.items) 0 problem.n v (subst (λ (rows : List (List ℕ)). OneOf rows v) (rows_by_number problem) h) in (r.0, omega (arith, r.2), r.3)
 
   -- the held rows one by one
   pub one_held : (m : ℕ) (holder : ℕ → Option ℕ) (value : ℕ → ℕ → ℕ) (c r : ℕ) → c < m → holder c ≡ Some r →

@@ -13,8 +13,9 @@ use Rattle.linear_algebra.specs.Spans.{IsInSpan}
 use Rattle.linear_algebra.proofs.Algebra.{IsInSpan-one, IsInSpan-scaled, IsInSpan-zero}
 use Rattle.linear_algebra.proofs.Elimination.{same_span}
 use Rattle.back_reduce.specs.declared.table.Held.{Held}
+use Rattle.back_reduce.specs.Entries.{IsLead}
 use Rattle.back_reduce.specs.Table.{held_at, nothing, placed, IsFirstFree, IsHeldVector, IsInserted, IsLeader, IsPlusHeld, IsTable}
-use Rattle.back_reduce.proofs.Sums.{plus_back, plus_inside}
+use Rattle.back_reduce.proofs.Sums.{plus_back, plus_inside, plus_nothing}
 use Rattle.back_reduce.proofs.Vectors.{K, V, res, vec, vec-scaled, vec-zero}
 
 -- what is left of a row, made monic, leads at its first column
@@ -61,11 +62,11 @@ module _ (table : List (Option Held)) (c : ℕ) (own : Held) (within : c < lengt
       let other : k ≡ c → ⊥ = λ is. none_is_some held (sym free ∙ ap (held_at table) (sym is) ∙ there) in
       put_elsewhere k other ∙ there
 
-pub put_table : (p m c : ℕ) (table : List (Option Held)) (own : Held) → IsTable p m table → c < m → IsLeader p m c own.row.items →
+pub put_table : (p m c : ℕ) (table : List (Option Held)) (own : Held) → IsTable p m table → c < m → IsLeader p m c own.row →
     IsTable p m (set table c (Some own))
 put_table p m c table own h within leader = record {
   size = length-set table c (Some own) ∙ h.size;
-  leaders = λ k held inside there. put_cases table c own (omega (arith, within, h.size)) (λ n g. n < m → IsLeader p m n g.row.items)
+  leaders = λ k held inside there. put_cases table c own (omega (arith, within, h.size)) (λ n g. n < m → IsLeader p m n g.row)
       (λ _. leader) (λ n g e below. h.leaders n g below e) k held there inside;
 }
 
@@ -96,13 +97,13 @@ module _ (p : ℕ) (modulus : IsFieldModulus p) where
 
   -- each row of the table is in the span
   abbrev pub AreSpanned : (Vt → Type 0) → List (Option Held) → Type 0
-  AreSpanned Q table = (c : ℕ) (held : Held) → held_at table c ≡ Some held → IsInSpan Kt ℕ Q (vec p modulus held.row.items)
+  AreSpanned Q table = (c : ℕ) (held : Held) → held_at table c ≡ Some held → IsInSpan Kt ℕ Q (vec p modulus held.row)
 
   by_rows : (Q : Vt → Type 0) (table : List (Option Held)) → AreSpanned Q table → (v : Vt) → IsHeldVector p modulus table v → IsInSpan Kt ℕ Q v
   by_rows Q table s v h = subst (IsInSpan Kt ℕ Q) (sym h.is) (s h.column h.held h.there)
 
   pub own_rows : (table : List (Option Held)) → AreSpanned (IsHeldVector p modulus table) table
-  own_rows table c held there = IsInSpan-one Kt ℕ (IsHeldVector p modulus table) (vec p modulus held.row.items)
+  own_rows table c held there = IsInSpan-one Kt ℕ (IsHeldVector p modulus table) (vec p modulus held.row)
       (record { column = c; held = held; there = there; is = refl })
 
   -- what an insertion does
@@ -134,31 +135,31 @@ module _ (p : ℕ) (modulus : IsFieldModulus p) where
       let d = res p modulus (get_or left c 0) in
       let inverse : Kt.mul d b ≡ Kt.one = same_residue p _ _ (sym (mul-mod (get_or left c 0) a p)
       ∙ ap (λ (n : ℕ). n % p) (mul_comm (get_or left c 0) a) ∙ sym (mod-mod (a * get_or left c 0) p) ∙ ap (λ (n : ℕ). n % p) one) in
-      let monic : (k : ℕ) → vec p modulus own.row.items k ≡ Kt.mul b (vec p modulus left k) =
+      let monic : (k : ℕ) → vec p modulus own.row k ≡ Kt.mul b (vec p modulus left k) =
       λ k. ap (λ (r : List ℕ). vec p modulus r k) own_row ∙ vec-scaled p modulus a left k in
       let kept_rows : (k : ℕ) (held : Held) → held_at table k ≡ Some held → held_at put k ≡ Some held = put_kept table c own within free in
       let in_put : (v : Vt) → IsHeldVector p modulus table v → IsInSpan Kt ℕ (IsHeldVector p modulus put) v =
       λ v h. IsInSpan-one Kt ℕ (IsHeldVector p modulus put) v (record
       { column = h.column; held = h.held; there = kept_rows h.column h.held h.there; is = h.is }) in
       subst (HasInserted Q table row) (sym is) (record {
-        spanned = λ s r. put_cases table c own within (λ n g. IsInSpan Kt ℕ Q (vec p modulus g.row.items))
-            (same_span Kt ℕ Q (λ k. Kt.mul b (vec p modulus left k)) (vec p modulus own.row.items) (λ k. sym (monic k))
+        spanned = λ s r. put_cases table c own within (λ n g. IsInSpan Kt ℕ Q (vec p modulus g.row))
+            (same_span Kt ℕ Q (λ k. Kt.mul b (vec p modulus left k)) (vec p modulus own.row) (λ k. sym (monic k))
             (IsInSpan-scaled Kt ℕ Q b (vec p modulus left) (plus_inside p modulus (IsHeldVector p modulus table) Q (by_rows Q table s) row
             left (sum modulus) r)))
             s;
         kept = kept_rows;
         reached = plus_back p modulus (IsHeldVector p modulus table) (IsHeldVector p modulus put) in_put row left (sum modulus)
-            (same_span Kt ℕ (IsHeldVector p modulus put) (λ k. Kt.mul d (vec p modulus own.row.items k)) (vec p modulus left)
+            (same_span Kt ℕ (IsHeldVector p modulus put) (λ k. Kt.mul d (vec p modulus own.row k)) (vec p modulus left)
             (λ k. ap (Kt.mul d) (monic k) ∙ sym (Kt.mul_assoc d b (vec p modulus left k))
             ∙ ap (λ (n : Kt.F). Kt.mul n (vec p modulus left k)) inverse ∙ Kt.mul_comm Kt.one (vec p modulus left k)
             ∙ Kt.mul_one (vec p modulus left k))
-            (IsInSpan-scaled Kt ℕ (IsHeldVector p modulus put) d (vec p modulus own.row.items) (own_rows put c own (put_there table c own within))));
+            (IsInSpan-scaled Kt ℕ (IsHeldVector p modulus put) d (vec p modulus own.row) (own_rows put c own (put_there table c own within))));
       })
 
 -- what is left of a row, made monic, in the table
 pub placed_from : (p holder at a : ℕ) (table : List (Option Held)) (items left : List ℕ) (own : Held) → IsTable p (length items) table →
     length left ≡ length items → IsPlusHeld p table items left → IsFirstFree table left at
-    → a < p → product_of p a (get_or left at 0) ≡ 1 → own.holder ≡ holder → own.row.items ≡ map (λ r. product_of p a r) left
+    → a < p → product_of p a (get_or left at 0) ≡ 1 → own.holder ≡ holder → own.row ≡ map (λ r. product_of p a r) left
     → IsTable p (length items) (set table at (Some own)) × IsInserted p holder table items (set table at (Some own))
 placed_from p holder at a table items left own h l sum first lt one own_holder own_row =
     let below : at < length items = omega (arith, first.within, l) in
@@ -166,3 +167,12 @@ placed_from p holder at a table items left own h l sum first lt one own_holder o
       put_table p (length items) at table own h below (subst (IsLeader p (length items) at) (sym own_row) leader),
       placed left at a own sum (omega (arith, below, h.size)) first.free lt one own_holder own_row refl,
     )
+
+-- a row that leads at a column where no row of the table does, made monic, in the table
+pub placed_first : (p holder at a : ℕ) (table : List (Option Held)) (row : List ℕ) (own : Held) → IsTable p (length row) table →
+    IsLead row at → held_at table at ≡ None → a < p → product_of p a (get_or row at 0) ≡ 1 → own.holder ≡ holder →
+    own.row ≡ map (λ r. product_of p a r) row
+    → IsTable p (length row) (set table at (Some own)) × IsInserted p holder table row (set table at (Some own))
+placed_first p holder at a table row own h lead free = placed_from p holder at a table row row own h refl
+    (λ modulus. plus_nothing p modulus (IsHeldVector p modulus table) row row refl)
+    (record { within = lead.within; other = lead.other; free = free; before = lead.before })

@@ -1,5 +1,5 @@
 -- Rows as vectors, and multiples of rows added to others.
-use Rattle.std.proofs.Common.{◌≡◌, ◌≢◌, ◌+◌, ◌-◌, ◌*◌, ◌%◌, ◌<◌, ℕ, zero, suc, List, [], ◌∷◌, ◌++◌, All, drop, map, length, get_or, take, refl, sym}
+use Rattle.std.proofs.Common.{◌≡◌, ◌≢◌, ◌+◌, ◌-◌, ◌*◌, ◌%◌, ◌<◌, ◌≤◌, ℕ, zero, suc, List, [], ◌∷◌, ◌++◌, All, drop, map, length, get_or, take, refl, sym}
 use Rattle.std.proofs.Common.{ap, ap₂, ◌∙◌, inl, inr, arith, length-append, mul-zero, mul-one, add-zero}
 use Rattle.std.proofs.Math.Nat.{add-mod, mod-eq_of_lt, mod-mod, mod_self, zero-mod}
 use Rattle.std.proofs.lemmas.Bool.{cases_lt}
@@ -55,18 +55,17 @@ gone_entry p m c row pivot l residues h within other =
     ∙ ap (λ (n : ℕ). (y + (p - y) % p * n) % p) h.one ∙ ap (λ (n : ℕ). (y + n) % p) (mul-one ((p - y) % p) ∙ negative)
     ∙ ap (λ (n : ℕ). n % p) (omega (arith, lt)) ∙ mod_self p
 
--- what is added from the column of a leader on is added to the whole
-pub added_from : (p a at k j : ℕ) (row leader rest : List ℕ) → All (λ r. r < p) row → IsLeader p (length row) at leader →
-    k ≡ length row - at → j ≡ length leader - at
+-- what is added from a column on is added to the whole, where the other row is 0 before it
+pub added_from : (p a at k j : ℕ) (row leader rest : List ℕ) → All (λ r. r < p) row → length row ≡ length leader → at ≤ length leader →
+    ((i : ℕ) → i < at → get_or leader i 0 ≡ 0) → k ≡ length row - at → j ≡ length leader - at
     → rest ≡ plus_multiple p a (take k (drop at row)) (take j (drop at leader)) → put_mid at k row rest ≡ plus_multiple p a row leader
-added_from p a at k j row leader rest residues h left right is =
-    let within : at < length row = leader_within p (length row) at leader h in
+added_from p a at k j row leader rest residues size within none_before left right is =
     let left_whole : take k (drop at row) ≡ drop at row = take_all k (drop at row) (omega (arith, length-drop at row, left)) in
     let right_whole : take j (drop at leader) ≡ drop at leader = take_all j (drop at leader) (omega (arith, length-drop at leader, right)) in
     let none : drop k (drop at row) ≡ [] = drop_all k (drop at row) (omega (arith, length-drop at row, left)) in
-    let same : length (drop at row) ≡ length (drop at leader) = length-drop at row ∙ ap (λ (n : ℕ). n - at) (sym h.size) ∙ sym (length-drop at leader) in
+    let same : length (drop at row) ≡ length (drop at leader) = length-drop at row ∙ ap (λ (n : ℕ). n - at) size ∙ sym (length-drop at leader) in
     let sums : rest ≡ plus_multiple p a (drop at row) (drop at leader) = is ∙ ap₂ (plus_multiple p a) left_whole right_whole in
-    let front : length (take at row) ≡ at = length-take-le at row (omega (arith, within)) in
+    let front : length (take at row) ≡ at = length-take-le at row (omega (arith, within, size)) in
     let long : length (take at row ++ rest) ≡ length row = omega (
       arith,
       length-append (take at row) rest,
@@ -75,11 +74,12 @@ added_from p a at k j row leader rest residues h left right is =
       length-plus_multiple p a (drop at row) (drop at leader),
       length-drop at row,
       within,
+      size,
     ) in
     ap (λ (z : List ℕ). take at row ++ (rest ++ z)) none ∙ ap (λ (z : List ℕ). take at row ++ z) (append-nil rest)
-    ∙ plus_multiple_by_places p a row leader (take at row ++ rest) long (sym h.size) (λ i inside. elim (cases_lt i at) [
+    ∙ plus_multiple_by_places p a row leader (take at row ++ rest) long size (λ i inside. elim (cases_lt i at) [
       | inl before ↦ get_or_append_left (take at row) rest 0 i (omega (arith, before, front)) ∙ get_or-take at row i 0 before
-          ∙ sym (ap (λ (n : ℕ). (get_or row i 0 + a * n) % p) (h.before i before) ∙ ap (λ (n : ℕ). (get_or row i 0 + n) % p) (mul-zero a)
+          ∙ sym (ap (λ (n : ℕ). (get_or row i 0 + a * n) % p) (none_before i before) ∙ ap (λ (n : ℕ). (get_or row i 0 + n) % p) (mul-zero a)
           ∙ ap (λ (n : ℕ). n % p) (add-zero (get_or row i 0)) ∙ mod-eq_of_lt (residues i 0 inside))
       | inr from ↦ (
           let n = i - at in

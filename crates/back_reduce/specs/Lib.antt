@@ -1,3 +1,5 @@
+pub mod Entries
+pub mod Forms
 pub mod Rows
 pub mod Rref
 pub mod Problems

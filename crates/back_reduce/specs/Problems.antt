@@ -1,11 +1,10 @@
 -- The rows of a problem.
-use Rattle.std.specs.Prelude.{ℕ, ◌*◌, List, drop, map, take}
-use Rattle.std.specs.List.{range_with_len}
+use Rattle.std.specs.Prelude.{ℕ, List, [], slice_index_or}
 use Rattle.back_reduce.specs.declared.problem.Problem.{Problem}
 
--- row r has the m cells from cell r * m on
-abbrev pub row_of : ℕ → List ℕ → ℕ → List ℕ
-row_of m cells r = take m (drop (r * m) cells)
+-- the row with this number
+abbrev pub row_of : List (List ℕ) → ℕ → List ℕ
+row_of rows r = slice_index_or rows r []
 
 abbrev pub rows_of : Problem → List (List ℕ)
-rows_of problem = map (row_of problem.m problem.cells.items) (range_with_len 0 problem.n)
+rows_of problem = problem.rows.items

@@ -1,5 +1,6 @@
 -- Rows of residues as vectors over numbered columns, and their span.
-use Rattle.std.specs.Prelude.{ℕ, ◌≡◌, ◌<◌, List, All, length, map, slice_index}
+use Rattle.std.specs.Prelude.{ℕ, ◌≡◌, ◌*◌, ◌<◌, List, All, drop, length, map, slice_index, take}
+use Rattle.std.specs.List.{range_with_len}
 use Rattle.field_table.specs.Residues.{IsFieldModulus}
 use Rattle.linear_algebra.specs.Echelon.{IsOneOf}
 use Rattle.linear_algebra.specs.Laws.{ResidueVector}
@@ -10,6 +11,10 @@ use Rattle.linear_algebra.specs.Spans.{IsInSpan}
 pub record IsRow (p m : ℕ) (row : List ℕ) : Type 0 where
   pub size : length row ≡ m
   pub residues : All (λ a. a < p) row
+
+-- n rows of m residues that stand one after another
+abbrev pub cut_rows : ℕ → ℕ → List ℕ → List (List ℕ)
+cut_rows m n cells = map (λ r. take m (drop (r * m) cells)) (range_with_len 0 n)
 
 module _ (p : ℕ) (modulus : IsFieldModulus p) where
   -- a row has its residue at each of its columns, and 0 at the others

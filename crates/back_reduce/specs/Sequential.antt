@@ -16,7 +16,7 @@ holder_of (Some held) = Some held.holder
 
 abbrev pub value_of : Option Held → ℕ → ℕ
 value_of None k = 0
-value_of (Some held) k = slice_index held.row.items k
+value_of (Some held) k = slice_index held.row k
 
 abbrev pub holder_in : List (Option Held) → ℕ → Option ℕ
 holder_in table c = holder_of (held_at table c)
@@ -27,5 +27,5 @@ value_in table c = value_of (held_at table c)
 -- the table has the pivots of the problem
 pub record IsSequential (problem : Problem) (table : List (Option Held)) : Type 0 where
   pub size : length table ≡ problem.m
-  pub widths : (c : ℕ) (held : Held) → held_at table c ≡ Some held → length held.row.items ≡ problem.m
+  pub widths : (c : ℕ) (held : Held) → held_at table c ≡ Some held → length held.row ≡ problem.m
   pub pivots : ArePivots problem (holder_in table) (value_in table)

@@ -24,7 +24,7 @@ held_at table c = slice_index_or table c None
 -- for each of m columns a row that leads there, or none
 pub record IsTable (p m : ℕ) (table : List (Option Held)) : Type 0 where
   pub size : length table ≡ m
-  pub leaders : (c : ℕ) (held : Held) → c < m → held_at table c ≡ Some held → IsLeader p m c held.row.items
+  pub leaders : (c : ℕ) (held : Held) → c < m → held_at table c ≡ Some held → IsLeader p m c held.row
 
 -- the row now is the row and a sum of multiples of vectors with P
 pub record IsPlusSum (p : ℕ) (modulus : IsFieldModulus p) (P : ResidueVector p modulus ℕ → Type 0)
@@ -39,7 +39,7 @@ pub record IsHeldVector (p : ℕ) (modulus : IsFieldModulus p) (table : List (Op
   pub column : ℕ
   pub held : Held
   pub there : held_at table column ≡ Some held
-  pub is : v ≡ vector p modulus held.row.items
+  pub is : v ≡ vector p modulus held.row
 
 -- and a sum of multiples of rows of the table
 abbrev pub IsPlusHeld : ℕ → List (Option Held) → List ℕ → List ℕ → Type 0
@@ -60,7 +60,7 @@ pub data IsInserted (p holder : ℕ) (table : List (Option Held)) (row : List �
     placed : (left : List ℕ) (c a : ℕ) (held : Held) → IsPlusHeld p table row left → c < length table →
         held_at table c ≡ None → a < p →
         product_of p a (slice_index left c) ≡ 1
-        → held.holder ≡ holder → held.row.items ≡ map (λ r. product_of p a r) left →
+        → held.holder ≡ holder → held.row ≡ map (λ r. product_of p a r) left →
         after ≡ slice_set table c (Some held) → IsInserted p holder table row after
 
 -- the table after the first rows of a problem
@@ -70,7 +70,7 @@ pub record IsEliminated (problem : Problem) (count : ℕ) (table : List (Option 
   pub apart : (c d : ℕ) (first second : Held) → held_at table c ≡ Some first → held_at table d ≡ Some second →
       first.holder ≡ second.holder → c ≡ d
   pub inside : (modulus : IsFieldModulus problem.modulus) (c : ℕ) (held : Held) → held_at table c ≡ Some held →
-      IsInRowSpan problem.modulus modulus (rows_of problem) (vector problem.modulus modulus held.row.items)
+      IsInRowSpan problem.modulus modulus (rows_of problem) (vector problem.modulus modulus held.row)
   pub reached : (modulus : IsFieldModulus problem.modulus) (k : ℕ) → k < count
       → IsInSpan (residue_field problem.modulus modulus) ℕ (IsHeldVector problem.modulus modulus table)
-      (vector problem.modulus modulus (row_of problem.m problem.cells.items k))
+      (vector problem.modulus modulus (row_of problem.rows.items k))

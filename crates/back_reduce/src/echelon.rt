@@ -1,13 +1,13 @@
-ghost use Rattle.std.specs.Prelude.{◌≡◌, ◌<◌, All, IfOk, length, map};
+ghost use Rattle.std.specs.Prelude.{◌≡◌, ◌<◌, All, IfOk, length, replicate, true};
 ghost use Rattle.std.specs.List.{AllZip};
-ghost use Rattle.back_reduce.specs.Leaders.{AreLeaders, AreLeadersOf, IsLeaderAmong, IsReducedRow};
-ghost use Rattle.back_reduce.specs.Pivots.{held_row};
+ghost use Rattle.back_reduce.specs.Leaders.{AreLeaders, AreLeadersOf, AreMarked, IsLeaderAmong, IsReducedRow};
 ghost use Rattle.back_reduce.specs.Problems.{rows_of};
 ghost use Rattle.back_reduce.specs.Rref.{IsRref};
 ghost use Rattle.back_reduce.specs.Table.{IsLeader};
 
 use crate::NoMemory;
 use crate::pivots::PivotRows;
+use crate::row::Row;
 use crate::table::clear_entry;
 use field_table::Field;
 use rayon::prelude::*;
@@ -18,7 +18,7 @@ use std::thread::Threads;
 #[derive(Debug, Drop)]
 pub struct Leader {
     pub column: u32,
-    pub row: Vec<u32>,
+    pub row: Row,
 }
 
 /// The reduced row echelon form of the span of the problem's rows, by rising leading column. The rows are reduced
@@ -28,12 +28,13 @@ pub fn reduced<R: Threads + Sync, P: PivotRows>(
     alloc: Global,
     field: &Field,
     pivots: &P,
-) -> Result<Vec<Vec<u32>>, NoMemory>
+) -> Result<Vec<Row>, NoMemory>
     requires { (P.given pivots.now).modulus ≡ field.now }
-    ensures { let problem = P.given pivots.now in IfOk result (λ echelon. IsRref problem.modulus problem.m (rows_of problem) (map (λ row. row.items) echelon.items)) }
+    ensures { let problem = P.given pivots.now in IfOk result (λ echelon. IsRref problem.modulus problem.m (rows_of problem) echelon.items) }
 {
     let leaders = leaders_of(alloc, pivots)?;
-    reduced_rows(rt, alloc, field, leaders.as_slice())
+    let marks = marks_of(alloc, pivots.problem().m, leaders.as_slice())?;
+    reduced_rows(rt, alloc, field, leaders.as_slice(), marks.as_slice())
 }
 
 /// The held columns, rising, with their rows.
@@ -44,79 +45,91 @@ fn leaders_of<P: PivotRows>(alloc: Global, pivots: &P) -> Result<Vec<Leader>, No
     let mut leaders = Vec::new(alloc);
     for column in 0..m {
         if pivots.holder(column).is_some() {
-            let row = row_at(alloc, pivots, m, column)?;
+            let row = pivots.row(alloc, column)?;
             leaders.push(Leader { column, row })?;
         }
     }
     Ok(leaders)
 }
 
-/// The row that leads at a column.
-fn row_at<P: PivotRows>(
-    alloc: Global,
-    pivots: &P,
-    m: u32,
-    column: u32,
-) -> Result<Vec<u32>, NoMemory>
-    requires all { m ≡ (P.given pivots.now).m }
-    requires within { column < m }
-    ensures { IfOk result (λ row. row.items ≡ held_row m (P.values pivots.now) column) }
+/// A mark for each column, which is set at those that are held.
+fn marks_of(alloc: Global, m: u32, leaders: &[Leader]) -> Result<Vec<bool>, NoMemory>
+    requires { All (λ leader. leader.column < m) leaders.now }
+    ensures size { IfOk result (λ marks. length marks.items ≡ m) }
+    ensures marked { IfOk result (λ marks. AreMarked leaders.now marks.items) }
 {
-    let mut row = Vec::with_capacity(alloc, m as usize)?;
-    for at in 0..m {
-        row.push(pivots.value(column, at))?;
+    let mut marks = vec![in alloc; false; m as usize]?;
+    for leader in leaders {
+        marks[leader.column as usize] = true;
     }
-    Ok(row)
+    Ok(marks)
 }
 
-/// Each row, reduced by those of later columns.
+/// Each row, reduced by those of later columns. Each part of the rows has a buffer.
 fn reduced_rows<R: Threads + Sync>(
     rt: &R,
     alloc: Global,
     field: &Field,
     leaders: &[Leader],
-) -> Result<Vec<Vec<u32>>, NoMemory>
-    requires { All (IsLeaderAmong field.now leaders.now) leaders.now }
-    ensures { IfOk result (λ echelon. AllZip (λ own row. IsReducedRow field.now leaders.now own.column own.row.items
-        row.items) leaders.now echelon.items) }
+    marks: &[bool],
+) -> Result<Vec<Row>, NoMemory>
+    requires { All (IsLeaderAmong field.now leaders.now marks.now) leaders.now }
+    ensures { IfOk result (λ echelon. AllZip (λ own row. IsReducedRow field.now leaders.now own.column own.row row)
+        leaders.now echelon.items) }
 {
     leaders
         .par_iter()
         .with_min_len(rows_a_part(leaders))
-        .map(
-            move |own: &Leader| -> Result<Vec<u32>, NoMemory>
-                requires { IsLeaderAmong field.now leaders.now own.now }
+        .map_init(
+            move || Vec::new(alloc),
+            move |buffer: &mut Vec<u32>, own: &Leader| -> Result<Row, NoMemory>
+                requires { IsLeaderAmong field.now leaders.now marks.now own.now }
                 ensures { IfOk result (λ row. IsReducedRow field.entry.now leaders.entry.now own.now.column
-                    own.now.row.items row.items) }
-            { reduced_row(alloc, field, leaders, own) },
+                    own.now.row row) }
+            { reduced_row(alloc, field, leaders, marks, buffer, own) },
         )
-        .collect::<Result<Vec<Vec<u32>>, NoMemory>>(rt, alloc)?
+        .collect::<Result<Vec<Row>, NoMemory>>(rt, alloc)?
 }
 
 /// How many rows a thread is to have at least. Where rows are few and short, they are done before threads have begun;
 /// the rows are the same in any parts.
 fn rows_a_part(leaders: &[Leader]) -> usize {
-    let width = match leaders.first() {
-        Some(leader) => leader.row.len(),
-        None => 0,
-    };
-    let cells = leaders.len().saturating_mul(width).max(1);
-    (4_194_304 / cells).max(1)
+    let mut residues = 0usize;
+    for leader in leaders {
+        residues = residues.saturating_add(leader.row.size());
+    }
+    (4_194_304 / residues.max(1)).max(1)
 }
 
-/// The row, reduced by those of later columns.
+/// The row, reduced by those of later columns. One that is 0 at these is copied.
 fn reduced_row(
     alloc: Global,
     field: &Field,
     leaders: &[Leader],
+    marks: &[bool],
+    buffer: &mut Vec<u32>,
     own: &Leader,
-) -> Result<Vec<u32>, NoMemory>
-    requires { IsLeaderAmong field.now leaders.now own.now }
-    ensures { IfOk result (λ row. IsReducedRow field.now leaders.now own.now.column own.now.row.items row.items) }
+) -> Result<Row, NoMemory>
+    requires { IsLeaderAmong field.now leaders.now marks.now own.now }
+    ensures { IfOk result (λ row. IsReducedRow field.now leaders.now own.now.column own.now.row row) }
 {
-    let mut row = Vec::from_slice(alloc, own.row.as_slice())?;
-    clear_later(field, leaders, own.column, row.as_mut_slice());
-    Ok(row)
+    if own.row.is_clear(marks, own.column) {
+        return own.row.copy(alloc);
+    }
+    make_long(alloc, buffer, own.row.len())?;
+    own.row.write(buffer.as_mut_slice());
+    clear_later(field, leaders, own.column, buffer.as_mut_slice());
+    Row::from_residues(alloc, buffer.as_slice())
+}
+
+/// Gives a buffer its length, where it has another.
+fn make_long(alloc: Global, buffer: &mut Vec<u32>, n: usize) -> Result<(), NoMemory>
+    ensures { IfOk result (λ _. length buffer.new.items ≡ n) }
+{
+    if buffer.len() != n {
+        *buffer = vec![in alloc; 0u32; n]?;
+    }
+    Ok(())
 }
 
 /// Adds multiples of the rows of later columns, so that the row is 0 at each of these. Column by column from the left,
@@ -134,6 +147,6 @@ fn clear_later(field: &Field, leaders: &[Leader], column: u32, row: &mut [u32])
         if row[at] == 0 {
             continue;
         }
-        clear_entry(field, row, at, later.row.as_slice());
+        clear_entry(field, row, at, &later.row);
     }
 }

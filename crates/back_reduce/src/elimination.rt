@@ -1,14 +1,14 @@
 ghost use Rattle.std.specs.Prelude.{◌≡◌, ◌<◌, IfOk, None, replicate};
 ghost use Rattle.back_reduce.specs.declared.problem.Problem.{Problem};
 ghost use Rattle.back_reduce.specs.declared.table.Held.{Held};
-ghost use Rattle.back_reduce.specs.Pivots.{ArePivots};
-ghost use Rattle.back_reduce.specs.Problems.{row_of};
+ghost use Rattle.back_reduce.specs.Pivots.{held_row, ArePivots};
 ghost use Rattle.back_reduce.specs.Sequential.{holder_in, value_in};
 ghost use Rattle.back_reduce.specs.Table.{IsEliminated};
 
 use crate::NoMemory;
 use crate::pivots::PivotRows;
 use crate::problem::Problem;
+use crate::row::Row;
 use crate::table::{Held, insert};
 use field_table::Field;
 use std::alloc::Global;
@@ -51,8 +51,15 @@ impl PivotRows for SeqPivots {
 
     fn value(&self, column: u32, at: u32) -> u32 {
         match &self.table[column as usize] {
-            Some(held) => held.row[at as usize],
+            Some(held) => held.row.at(at as usize),
             None => 0,
+        }
+    }
+
+    fn row(&self, alloc: Global, column: u32) -> Result<Row, NoMemory> {
+        match &self.table[column as usize] {
+            Some(held) => held.row.copy(alloc),
+            None => Ok(Row::zeros(alloc, self.problem.m)),
         }
     }
 }
@@ -72,9 +79,17 @@ fn table_of(alloc: Global, field: &Field, problem: &Problem) -> Result<Vec<Optio
     ensures { IfOk result (λ table. IsEliminated problem.now problem.now.n table.items) }
 {
     let mut table = no_rows(alloc, problem.m as usize)?;
+    let mut buffer = vec![in alloc; 0u32; problem.m as usize]?;
     for r in 0..problem.n {
-        let row = row_copy(alloc, problem, r)?;
-        insert(field, table.as_mut_slice(), r, row);
+        let row = &problem.rows[r as usize];
+        insert(
+            alloc,
+            field,
+            table.as_mut_slice(),
+            r,
+            row,
+            buffer.as_mut_slice(),
+        )?;
     }
     Ok(table)
 }
@@ -88,14 +103,4 @@ fn no_rows(alloc: Global, columns: usize) -> Result<Vec<Option<Held>>, NoMemory>
         table.push(None)?;
     }
     Ok(table)
-}
-
-/// A row of the problem.
-fn row_copy(alloc: Global, problem: &Problem, r: u32) -> Result<Vec<u32>, NoMemory>
-    requires { r < problem.now.n }
-    ensures { IfOk result (λ row. row.items ≡ row_of problem.now.m problem.now.cells.items r) }
-{
-    let m = problem.m as usize;
-    let from = r as usize * m;
-    Vec::from_slice(alloc, &problem.cells[from..from + m])
 }

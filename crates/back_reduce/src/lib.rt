@@ -6,9 +6,13 @@
 
 mod echelon;
 mod elimination;
+mod form;
 mod laws;
+mod listed;
 mod pivots;
 mod problem;
+mod row;
+mod scale;
 mod table;
 #[cfg(test)]
 mod tests;
@@ -18,6 +22,7 @@ pub use elimination::{SeqPivots, eliminate};
 pub use laws::echelon_law;
 pub use pivots::PivotRows;
 pub use problem::Problem;
+pub use row::Row;
 
 /// Want of memory.
 pub type NoMemory = std::alloc::AllocError;

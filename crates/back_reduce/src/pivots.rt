@@ -1,8 +1,11 @@
-ghost use Rattle.std.specs.Prelude.{◌≡◌, ◌<◌, ℕ, Option};
+ghost use Rattle.std.specs.Prelude.{◌≡◌, ◌<◌, ℕ, IfOk, Option};
 ghost use Rattle.back_reduce.specs.declared.problem.Problem.{Problem};
-ghost use Rattle.back_reduce.specs.Pivots.{ArePivots};
+ghost use Rattle.back_reduce.specs.Pivots.{held_row, ArePivots};
 
+use crate::NoMemory;
 use crate::problem::Problem;
+use crate::row::Row;
+use std::alloc::Global;
 
 /// Rows that lead at the columns of a problem, at most one at each, with the span of the problem's rows.
 pub trait PivotRows: Sync {
@@ -29,4 +32,17 @@ pub trait PivotRows: Sync {
         requires column { column < (given self.now).m }
         requires at { at < (given self.now).m }
         ensures { result ≡ values self.now column at };
+
+    /// The row that leads at the column, and a row of 0 where none does.
+    fn row(&self, alloc: Global, column: u32) -> Result<Row, NoMemory>
+        requires { column < (given self.now).m }
+        ensures { IfOk result (λ row. row ≡ held_row (given self.now).m (values self.now) column) }
+    {
+        let m = self.problem().m;
+        let mut residues = Vec::with_capacity(alloc, m as usize)?;
+        for at in 0..m {
+            residues.push(self.value(column, at))?;
+        }
+        Row::from_residues(alloc, residues.as_slice())
+    }
 }

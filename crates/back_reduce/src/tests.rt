@@ -7,6 +7,7 @@ use crate::echelon::reduced;
 use crate::elimination::eliminate;
 use crate::pivots::PivotRows;
 use crate::problem::Problem;
+use crate::row::Row;
 use field_table::{Field, listed_moduli_law};
 use std::alloc::Global;
 use std::test::Fail;
@@ -19,20 +20,16 @@ fn problem_of(alloc: Global, m: u32, n: u32, cells: &[u32]) -> Result<Option<Pro
     if m > 8 || n > 8 || cells.len() != (n * m) as usize || !cells.iter().all(|a| *a < 101) {
         return Ok(None);
     }
-    Ok(Some(Problem {
-        degree: 0,
-        modulus: 101,
-        m,
-        n,
-        cells: Vec::from_slice(alloc, cells)?,
-    }))
+    Ok(Some(Problem::from_cells(alloc, 0, 101, m, n, cells)?))
 }
 
 /// The rows, one after another.
-fn joined(alloc: Global, rows: &[Vec<u32>]) -> Result<Vec<u32>, NoMemory> {
+fn joined(alloc: Global, rows: &[Row]) -> Result<Vec<u32>, NoMemory> {
     let mut all = Vec::new(alloc);
     for row in rows {
-        all.extend_from_slice(row.as_slice())?;
+        let mut residues = vec![in alloc; 0u32; row.len()]?;
+        row.write(residues.as_mut_slice());
+        all.extend_from_slice(residues.as_slice())?;
     }
     Ok(all)
 }
@@ -64,7 +61,8 @@ fn rows_have_their_echelon_form(rt: HostRuntime) -> Result<(), Fail> {
         let echelon = reduced(&rt, alloc, &field, &pivots)?;
         let found = joined(alloc, echelon.as_slice())?;
         assert_eq!(rt; found.as_slice(), form, "of {cells:?}");
-        assert_eq!(rt; pivots.problem().cells.as_slice(), cells);
+        let given = joined(alloc, pivots.problem().rows.as_slice())?;
+        assert_eq!(rt; given.as_slice(), cells);
     }
     Ok(())
 }

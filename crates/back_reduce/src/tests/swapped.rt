@@ -7,6 +7,7 @@ use crate::NoMemory;
 use crate::elimination::{SeqPivots, eliminate};
 use crate::pivots::PivotRows;
 use crate::problem::Problem;
+use crate::row::Row;
 use field_table::Field;
 use std::alloc::Global;
 
@@ -67,13 +68,14 @@ fn stacked(alloc: Global, field: &Field, first: &[u32], second: &[u32]) -> Resul
     requires few { length first.now ≤ 8 }
     ensures { IfOk result (λ problem. IsStacked field.now problem first.now second.now) }
 {
-    let mut cells = Vec::from_slice(alloc, first)?;
-    cells.extend_from_slice(second)?;
+    let mut rows = Vec::with_capacity(alloc, 2)?;
+    rows.push(Row::from_residues(alloc, first)?)?;
+    rows.push(Row::from_residues(alloc, second)?)?;
     Ok(Problem {
         degree: 0,
         modulus: field.modulus(),
         m: first.len() as u32,
         n: 2,
-        cells,
+        rows,
     })
 }

@@ -30,10 +30,10 @@ loop-later-preserved c =
     let next = c.clear_entry.new.row in
     let index = c.loop-later.later-index in
     let later : Leader = c.later-item.result in
-    let pivot = later.row.items in
+    let pivot = later.row in
     let within : index < length leaders = omega arith in
     let at = later.column in
-    let leader : IsLeader p m at pivot = subst (λ (l : Leader). IsLeader p m l.column l.row.items) (sym c.later-item.is)
+    let leader : IsLeader p m at pivot = subst (λ (l : Leader). IsLeader p m l.column l.row) (sym c.later-item.is)
     (c.requires.leaders.each index later within) in
     let there : Contains leaders later = subst (Contains leaders) (sym c.later-item.is) (Contains-get_or leaders index later within) in
     let after : column < at = c.if-later-column.false in
@@ -41,7 +41,7 @@ loop-later-preserved c =
     let now = c.loop-later.invariant.leader in
     let other : get_or row at 0 ≢ 0 = c.if-row-at-eq0.false in
     let factor = negative_of p (get_or row at 0) in
-    let sums : next ≡ plus_multiple p factor row pivot = c.clear_entry.ensures.sums ∙ ap (plus_multiple p factor row) c.as_slice.ensures.value in
+    let sums : next ≡ plus_multiple p factor row pivot = c.clear_entry.ensures.sums in
     let kept : (k : ℕ) → k < at → get_or next k 0 ≡ get_or row k 0 =
     λ k lt. ap (λ (r : List ℕ). get_or r k 0) sums ∙ kept_entry p m factor at k row pivot now.size now.residues leader lt (omega (arith, lt, below)) in
     record {

@@ -1,4 +1,4 @@
-use Rattle.std.proofs.Common.{◌≡◌, ℕ, map, refl, sym, ap, ◌∙◌, arith, subst}
+use Rattle.std.proofs.Common.{◌≡◌, ℕ, map, refl, sym, ap, ◌∙◌, arith}
 use Rattle.std.proofs.lemmas.List.{map-id}
 use Rattle.back_reduce.specs.declared.echelon.Leader.{Leader}
 use Rattle.back_reduce.specs.declared.problem.Problem.{Problem}
@@ -21,14 +21,14 @@ loop-column-preserved g c =
           let after = c.if-is_some.leaders.items in
           let some = sym c.is_some.ensures ∙ w.if-is_some.true in
           let leader : Leader = record { column = n; row = w.in_ok-row.row } in
-          let row = subst (λ (i : ℕ). w.in_ok-row.row.items ≡ held_row i value n) width w.in_ok-row.ensures in
+          let row = w.in_ok-row.ensures in
           let pushed = w.push.new.self.items in
           let shown = ap (λ v. v.items) w.leaders-is in
           let grown = w.in_ok-push.ensures.items in
           record {
             columns = listed_more holders (λ k. k) (λ (h : Leader). h.column) n after pushed before leader found shown grown
                 c.holder.ensures some refl c.loop-column.invariant.columns;
-            rows = listed_more holders (held_row m value) (λ (h : Leader). h.row.items) n after pushed before leader found shown grown
+            rows = listed_more holders (held_row m value) (λ (h : Leader). h.row) n after pushed before leader found shown grown
                 c.holder.ensures some row c.loop-column.invariant.rows;
           })
       | else-is_some w ↦ (
@@ -37,7 +37,7 @@ loop-column-preserved g c =
           let kept = ap (λ v. v.items) w.leaders-is in
           record {
             columns = listed_same holders (λ k. k) (λ (h : Leader). h.column) n after before found kept c.holder.ensures not c.loop-column.invariant.columns;
-            rows = listed_same holders (held_row m value) (λ (h : Leader). h.row.items) n after before found kept c.holder.ensures not
+            rows = listed_same holders (held_row m value) (λ (h : Leader). h.row) n after before found kept c.holder.ensures not
                 c.loop-column.invariant.rows;
           })
     ]
@@ -51,6 +51,6 @@ returns g c =
     let leaders = c.loop-column.leaders.items in
     let columns : map (λ (h : Leader). h.column) leaders ≡ held_columns problem.m holders = c.loop-column.invariant.columns
     ∙ map-id (held_columns c.loop-column.column holders) ∙ ap (λ (n : ℕ). held_columns n holders) end in
-    let rows : map (λ (h : Leader). h.row.items) leaders ≡ map (held_row problem.m value) (held_columns problem.m holders) =
+    let rows : map (λ (h : Leader). h.row) leaders ≡ map (held_row problem.m value) (held_columns problem.m holders) =
     c.loop-column.invariant.rows ∙ ap (λ (n : ℕ). map (held_row problem.m value) (held_columns n holders)) end in
     leaders_of_pivots problem holders value leaders c.problem.ensures.pivots columns rows

@@ -1,16 +1,12 @@
-use Rattle.std.proofs.Common.{◌-◌, ◌<◌, ℕ, All, length, refl, sym, ap, ◌∙◌, arith, subst}
+use Rattle.std.proofs.Common.{◌<◌, ℕ, All, length, sym, ap, ◌∙◌, arith, subst}
 use Rattle.field_table.specs.Residues.{plus_multiple}
 use Rattle.field_table.proofs.Multiples.{plus_multiple-residues}
-use Rattle.back_reduce.proofs.Vectors.{added_from, leader_within}
+use Rattle.back_reduce.proofs.Vectors.{leader_within}
 use Rattle.back_reduce.proofs.table.clear_entry.Goals as goal
 
 pub returns-clause-sums : goal.returns-clause-sums
 returns-clause-sums c =
-    let row = c.args.row.now in
-    let leader = c.args.leader.now in
-    added_from c.args.field.now c.neg-a.result c.args.at (length row - c.args.at) (length leader - c.args.at) row leader c.axpy_lanes.new.y
-    c.requires.row c.requires.leader refl refl c.axpy_lanes.ensures.sums
-    ∙ ap (λ (n : ℕ). plus_multiple c.args.field.now n row leader) c.neg-a.ensures
+    c.add_multiple.ensures ∙ ap (λ (n : ℕ). plus_multiple c.args.field.now n c.args.row.now c.args.leader.now) c.neg-a.ensures
 
 pub returns-clause-residues : goal.returns-clause-residues
 returns-clause-residues c =

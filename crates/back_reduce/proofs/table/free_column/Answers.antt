@@ -17,7 +17,7 @@ read table at found held within e is = sym (get_or_read table at found within e 
 pub loop-at-init : goal.loop-at-init
 loop-at-init c = record {
   residues = c.requires.residues;
-  before = λ k lt. absurd (omega (arith, lt));
+  before = c.requires.before;
   reduced = λ modulus. plus_nothing c.args.field.now modulus (IsHeldVector c.args.field.now modulus c.args.table.now) c.args.row.now c.args.row.now refl;
 }
 
@@ -27,8 +27,7 @@ clear_entry-requires-clause-leader c =
     c.index-table-at.is c.in-Some.is in
     let leader = c.requires.table.leaders c.loop-at.at c.in-Some.held (omega arith) there in
     let size : length c.loop-at.row ≡ length c.args.row.now = omega arith in
-    subst (IsLeader c.args.field.now (length c.loop-at.row) c.loop-at.at) (sym c.as_slice.ensures.value)
-    (subst (λ (n : ℕ). IsLeader c.args.field.now n c.loop-at.at c.in-Some.held.row.items) (sym size) leader)
+    subst (λ (n : ℕ). IsLeader c.args.field.now n c.loop-at.at c.in-Some.held.row) (sym size) leader
 
 pub loop-at-preserved : goal.loop-at-preserved
 loop-at-preserved c =
@@ -37,15 +36,14 @@ loop-at-preserved c =
     let row = c.loop-at.row in
     let at = c.loop-at.at in
     let held = c.in-Some.held in
-    let pivot = held.row.items in
+    let pivot = held.row in
     let within : at < length row = omega arith in
     let size : length row ≡ length c.args.row.now = omega arith in
     let there = read table at c.index-table-at.result held (omega (arith, c.requires.table.size)) c.index-table-at.is c.in-Some.is in
     let leader = c.requires.table.leaders at held (omega arith) there in
     let other : get_or row at 0 ≢ 0 = c.if-row-at-eq0.false in
     let factor = negative_of p (get_or row at 0) in
-    let sums : c.clear_entry.new.row ≡ plus_multiple p factor row pivot = c.clear_entry.ensures.sums
-    ∙ ap (plus_multiple p factor row) c.as_slice.ensures.value in
+    let sums : c.clear_entry.new.row ≡ plus_multiple p factor row pivot = c.clear_entry.ensures.sums in
     let kept : (k : ℕ) → k < at → get_or c.clear_entry.new.row k 0 ≡ get_or row k 0 =
     λ k lt. ap (λ (r : List ℕ). get_or r k 0) sums ∙ kept_entry p (length c.args.row.now) factor at k row pivot size
     c.loop-at.invariant.residues leader lt (omega (arith, lt, within, size)) in

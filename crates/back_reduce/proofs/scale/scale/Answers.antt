@@ -2,7 +2,7 @@ use Rattle.std.proofs.Common.{◌<◌, ap, ◌∙◌, arith, get_or, length, set
 use Rattle.std.proofs.lemmas.List.{get_or_default}
 use Rattle.std.proofs.lemmas.List.Edits.{map_over_more}
 use Rattle.field_table.specs.Residues.{product_of}
-use Rattle.back_reduce.proofs.table.scale.Goals as goal
+use Rattle.back_reduce.proofs.scale.scale.Goals as goal
 
 pub loop-entry-preserved : goal.loop-entry-preserved
 loop-entry-preserved c =
