@@ -1,6 +1,8 @@
-ghost use Rattle.std.specs.Prelude.{◌≡◌, [], ◌∷◌, ◌++◌, ◌*◌, ℕ, IfOk, OnOk};
-ghost use Rattle.row_store.specs.Sums.{cells_of, AreHeld};
+ghost use Rattle.std.specs.Prelude.{◌≡◌, [], ◌∷◌, ◌++◌, IfOk, OnOk};
+ghost use Rattle.back_reduce.specs.Entries.{AreEntries};
+ghost use Rattle.row_store.specs.Sums.{cells_of};
 
+use back_reduce::Row;
 use field_table::NoMemory;
 use std::alloc::Global;
 
@@ -32,15 +34,18 @@ impl Left {
         Ok(())
     }
 
-    /// The residues at all m places.
-    pub(crate) fn cells(&self, alloc: Global, m: usize) -> Result<Vec<u32>, NoMemory>
-        requires held { (p : ℕ) × AreHeld p m self.now.places.items self.now.residues.items }
-        ensures { IfOk result (λ cells. cells.items ≡ cells_of m self.now) }
+    /// The row of m residues that these are. Where they are many, all are held.
+    pub(crate) fn into_row(self, alloc: Global, m: u32) -> Result<Row, NoMemory>
+        requires { AreEntries m self.places.items self.residues.items }
+        ensures { IfOk result (λ row. row ≡ cells_of m self) }
     {
-        let mut cells = vec![in alloc; 0u32; m]?;
-        for (i, place) in self.places.iter().enumerate() {
-            cells[*place as usize] = self.residues[i];
+        let few = self.places.len() <= m as usize / 6;
+        let row = Row::from_entries(m, self.places, self.residues);
+        if few {
+            return Ok(row);
         }
-        Ok(cells)
+        let mut residues = vec![in alloc; 0u32; m as usize]?;
+        row.write(residues.as_mut_slice());
+        Row::from_residues(alloc, residues.as_slice())
     }
 }
