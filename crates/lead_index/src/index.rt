@@ -3,7 +3,7 @@ ghost use Rattle.lead_index.specs.Leads.{IsFirstReducer, IsFree, IsFresh, IsFree
 
 use crate::lead::Lead;
 use crate::tree::{Node, attach, first_element, push_path};
-use std::alloc::Global;
+use std::alloc::{AllocError, Global};
 use std::marker::Model;
 use words::{NoMemory, Word};
 
@@ -47,11 +47,15 @@ impl LeadIndex {
         }
     }
 
+    /// Nodes have numbers of 32 bits, and to want more is want of memory.
     pub fn add(&mut self, lead: &[u8], element: u32) -> Result<(), NoMemory>
         requires { IsFresh self.old lead.now }
         ensures added { OnOk result (self.new ≡ self.old ++ record { word = lead.now; element = element } ∷ []) }
         ensures unchanged { OnErr result (self.new ≡ self.old) }
     {
+        if self.nodes.len() + lead.len() > u32::MAX as usize {
+            return Err(AllocError);
+        }
         let word = Word::from_letters(self.alloc, lead)?;
         self.nodes.reserve(lead.len())?;
         self.leads.push(Lead { word, element })?;

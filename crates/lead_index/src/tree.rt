@@ -6,8 +6,8 @@ ghost use Rattle.lead_index.specs.Tree.{HasPath, IsAttached, IsMissed, IsOnPath,
 #[derive(Debug, Clone, Copy)]
 pub(crate) struct Node {
     pub(crate) letter: u8,
-    pub(crate) child: Option<usize>,
-    pub(crate) sibling: Option<usize>,
+    pub(crate) child: Option<u32>,
+    pub(crate) sibling: Option<u32>,
     pub(crate) element: Option<u32>,
 }
 
@@ -27,7 +27,7 @@ pub(crate) fn first_element(nodes: &[Node], letters: &[u8]) -> Option<u32>
             let Some(sibling) = here.sibling else {
                 return None;
             };
-            node = sibling;
+            node = sibling as usize;
             continue;
         }
         if let Some(element) = here.element {
@@ -36,16 +36,17 @@ pub(crate) fn first_element(nodes: &[Node], letters: &[u8]) -> Option<u32>
         let Some(child) = here.child else {
             return None;
         };
-        node = child;
+        node = child as usize;
         place += 1;
     }
     None
 }
 
 /// Gives the number of letters along which the tree has a path, and links the end of this path to the next node
-/// that will be pushed.
+/// that will be pushed, whose number has 32 bits.
 pub(crate) fn attach(nodes: &mut Vec<Node>, letters: &[u8]) -> usize
-    requires { IsRising nodes.old.items }
+    requires rising { IsRising nodes.old.items }
+    requires few { vec_len nodes.old < 4294967296 }
     ensures attached { IsAttached nodes.old.items nodes.new.items letters.now result }
     ensures within { result ≤ length letters.now }
     ensures count { vec_len nodes.new ≡ vec_len nodes.old }
@@ -61,29 +62,30 @@ pub(crate) fn attach(nodes: &mut Vec<Node>, letters: &[u8]) -> usize
         let here = nodes[node];
         if here.letter != letters[place] {
             let Some(sibling) = here.sibling else {
-                nodes[node].sibling = Some(next);
+                nodes[node].sibling = Some(next as u32);
                 return place;
             };
-            node = sibling;
+            node = sibling as usize;
             continue;
         }
         place += 1;
         let Some(child) = here.child else {
-            nodes[node].child = Some(next);
+            nodes[node].child = Some(next as u32);
             return place;
         };
-        node = child;
+        node = child as usize;
     }
     place
 }
 
 /// Pushes a node for each letter, each the child of the one before, with the element at the last.
 pub(crate) fn push_path(nodes: &mut Vec<Node>, letters: &[u8], element: u32)
-    requires { vec_len nodes.old + length letters.now ≤ vec_capacity nodes.old }
+    requires room { vec_len nodes.old + length letters.now ≤ vec_capacity nodes.old }
+    requires few { vec_len nodes.old + length letters.now < 4294967296 }
     ensures { HasPath nodes.old.items nodes.new.items letters.now element }
 {
     for i in 0..letters.len() {
-        let node = path_node(letters, i, nodes.len() + 1, element);
+        let node = path_node(letters, i, nodes.len() as u32 + 1, element);
         match nodes.push(node) {
             Ok(()) => {}
             Err(_) => unreachable!(),
@@ -91,7 +93,7 @@ pub(crate) fn push_path(nodes: &mut Vec<Node>, letters: &[u8], element: u32)
     }
 }
 
-fn path_node(letters: &[u8], i: usize, next: usize, element: u32) -> Node
+fn path_node(letters: &[u8], i: usize, next: u32, element: u32) -> Node
     requires { i < length letters.now }
     ensures { IsOnPath next letters.now element i result }
 {

@@ -22,3 +22,4 @@ pub mod InOrder
 pub mod RowWords
 pub mod ListedClosures
 pub mod Moved
+pub mod OverColumns

@@ -5,7 +5,7 @@ use Rattle.std.specs.List.{AllZip}
 use Rattle.words.specs.Order.{IsLetterwiseGreater}
 use Rattle.free_poly.specs.declared.term.Term.{Term}
 use Rattle.ideal_laws.specs.Quantities.{contested_words, reducers_in, terms_in}
-use Rattle.symbolic_prep.specs.Closed.{IsClosed}
+use Rattle.symbolic_prep.specs.Closed.{IsClosed, MayReduceOver}
 use Rattle.symbolic_prep.specs.Numbers.{IsSpanOf, IsSpanWithin, reducer_on}
 use Rattle.symbolic_prep.specs.declared.lists.Span.{Span}
 use Rattle.symbolic_prep.specs.declared.columns.ColumnWords.{ColumnWords}
@@ -16,14 +16,15 @@ abbrev pub words_in : ColumnWords → List (List ℕ)
 words_in (Packed words) = words
 words_in (Plain words) = words.items
 
--- what is kept of a closure: columns that have numbers and fall, for each the span of its reducer or none, and those
--- that have none
+-- what is kept of a closure: columns that have numbers and fall, for each the span of its reducer over them or none,
+-- and those that have none
 pub record IsKeptClosed (columns : List (List ℕ)) (spans : List (Option Span)) (numbers : List ℕ)
     (residues : List (List ℕ)) (contested : List (List ℕ)) : Type 0 where
   pub few : length columns < 4294967296
   pub falling : AllPairs IsLetterwiseGreater columns
   pub size : length spans ≡ length columns
   pub within : All (IsSpanWithin (length columns) numbers residues) spans
+  pub reducers : AllZip (MayReduceOver columns) columns (map (reducer_on columns numbers residues) spans)
   pub contested_is : contested ≡ contested_words columns (map (reducer_on columns numbers residues) spans)
 
 -- the whole closure with its entries, cut above the limit, and with its reducers where they are not

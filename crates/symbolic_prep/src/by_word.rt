@@ -14,7 +14,7 @@ ghost use Rattle.symbolic_prep.specs.Numbers.{AreListed, IsLonger, IsSpanOf};
 use crate::by_number::ListedClosure;
 use crate::closing::keeps;
 use crate::columns::{ColumnWords, place_of};
-use crate::lists::{Lists, Span};
+use crate::lists::{Lists, Span, place_behind};
 use crate::pending::{ColumnFault, words_of_rows};
 use crate::residues::ResidueLists;
 use crate::walk::walk;
@@ -132,9 +132,9 @@ fn push_listed(
 {
     match reducer {
         Some(poly) => {
-            let start = numbers.len();
+            let start = place_behind(numbers.len())?;
             push_numbers(columns, poly.terms(), numbers)?;
-            let end = numbers.len();
+            let end = place_behind(numbers.len())?;
             let element = residues.len() as u32;
             residues.push(alloc, poly.terms())?;
             Ok(Some(Span {

@@ -46,6 +46,7 @@ pub fn close(
         → (degree ≡ d) × IsFirstPassing (IsClosedQuantity basis.now.elements rows.now) (closing_limits limits.now)
         kind value }
 {
+    let _done = basis.done();
     let entries = entries_of(rows, limits.entries);
     let listed = match closure_of(alloc, basis, index, rows, entries, d, limits) {
         Ok(listed) => listed,

@@ -1,4 +1,4 @@
-ghost use Rattle.std.specs.Prelude.{◌≡◌, ◌+◌, ◌^◌, ◌<◌, ◌≤◌, ◌⊎◌, ◌++◌, ◌∷◌, [], All, Contains, IsErrOf, IsTrue};
+ghost use Rattle.std.specs.Prelude.{◌≡◌, ◌+◌, ◌^◌, ◌<◌, ◌≤◌, ◌⊎◌, ◌++◌, ◌∷◌, [], All, Contains, IfOk, IsErrOf, IsTrue};
 ghost use Rattle.std.specs.Prelude.{OnOk, length, map};
 ghost use Rattle.free_poly.specs.Terms.{product};
 ghost use Rattle.symbolic_prep.specs.Numbers.{AreListed, IsGrown};
@@ -9,6 +9,8 @@ use crate::pending::ColumnFault;
 use crate::residues::ResidueLists;
 use crate::table::WordTable;
 use free_poly::Term;
+use std::alloc::AllocError;
+use words::NoMemory;
 
 /// The reducers of columns: where each stands, the numbers of their words, and the coefficients of their elements.
 #[derive(Debug, Drop)]
@@ -21,8 +23,8 @@ pub(crate) struct Lists {
 /// Where the numbers of a reducer's words stand, and the element that it is a multiple of.
 #[derive(Debug, Clone, Copy)]
 pub(crate) struct Span {
-    pub(crate) start: usize,
-    pub(crate) end: usize,
+    pub(crate) start: u32,
+    pub(crate) end: u32,
     pub(crate) element: u32,
 }
 
@@ -80,4 +82,14 @@ pub(crate) fn push_number(
         numbers.push(number)?;
     }
     Ok(())
+}
+
+/// The place behind so many numbers, in 32 bits. More would be want of memory; no limit of entries lets them come.
+pub(crate) fn place_behind(count: usize) -> Result<u32, NoMemory>
+    ensures { IfOk result (λ place. place ≡ count) }
+{
+    if count > u32::MAX as usize {
+        return Err(AllocError);
+    }
+    Ok(count as u32)
 }

@@ -10,7 +10,7 @@ ghost use Rattle.symbolic_prep.specs.Packing.{HasDigits};
 ghost use Rattle.symbolic_prep.specs.Walk.{HasMore};
 
 use crate::closing::keeps;
-use crate::lists::{Span, push_number, push_product};
+use crate::lists::{Span, place_behind, push_number, push_product};
 use crate::packing::pack;
 use crate::pending::{ColumnFault, tail_of};
 use crate::table::WordTable;
@@ -136,7 +136,7 @@ fn push_reducer(
             let rest_key = pack(packing, rest);
             let entries = counted(entries, terms.len(), limit);
             let held = entries <= u64::from(limit);
-            let start = numbers.len();
+            let start = place_behind(numbers.len())?;
             push_number(held, number, numbers)?;
             push_product(
                 tail_of(terms),
@@ -149,7 +149,7 @@ fn push_reducer(
                 table,
                 numbers,
             )?;
-            let end = numbers.len();
+            let end = place_behind(numbers.len())?;
             let element = place.element;
             Ok((
                 Some(Span {

@@ -4,7 +4,7 @@ ghost use Rattle.std.specs.List.{AllZip, range_with_len};
 ghost use Rattle.symbolic_prep.specs.Orders.{IsMoved, IsRising, IsSpanIn, columns_at};
 ghost use Rattle.symbolic_prep.specs.Numbers.{IsLonger};
 
-use crate::lists::Span;
+use crate::lists::{Span, place_behind};
 use std::alloc::Global;
 use words::NoMemory;
 
@@ -99,9 +99,13 @@ fn push_moved(
 {
     match span {
         Some(span) => {
-            let start = moved.len();
-            push_columns(&numbers[span.start..span.end], columns, moved)?;
-            let end = moved.len();
+            let start = place_behind(moved.len())?;
+            push_columns(
+                &numbers[span.start as usize..span.end as usize],
+                columns,
+                moved,
+            )?;
+            let end = place_behind(moved.len())?;
             Ok(Some(Span { start, end, ..span }))
         }
         None => Ok(None),

@@ -8,7 +8,7 @@ pub returns-in_default-clause-attached : goal.returns-in_default-clause-attached
 returns-in_default-clause-attached c =
     let same = c.loop-place.invariant.0 in
     let way = c.loop-place.invariant.4 in
-    attached_beside _ _ _ _ _ c.requires way c.loop-place-test.true (read_node _ _ _ _ same way.within c.index-here.ensures)
+    attached_beside _ _ _ _ _ c.requires.rising way c.loop-place-test.true (read_node _ _ _ _ same way.within c.index-here.ensures)
     c.if-here-letters.true c.in_default.is
     _ _ _ same (omega arith) (read_node _ _ _ _ same way.within c.index_mut.ensures.value)
 
@@ -19,7 +19,7 @@ loop-place-preserved-then-here-letters c =
       i.1,
       i.2,
       i.3,
-      way_sibling _ _ _ _ _ c.requires i.4 c.loop-place-test.true (read_node _ _ _ _ i.0 i.4.within c.index-here.ensures)
+      way_sibling _ _ _ _ _ c.requires.rising i.4 c.loop-place-test.true (read_node _ _ _ _ i.0 i.4.within c.index-here.ensures)
           c.if-here-letters.true _ c.in-Some.is,
     )
 
@@ -27,7 +27,7 @@ pub returns-in_default-child-clause-attached : goal.returns-in_default-child-cla
 returns-in_default-child-clause-attached c =
     let same = c.loop-place.invariant.0 in
     let way = c.loop-place.invariant.4 in
-    attached_below _ _ _ _ _ c.requires way c.loop-place-test.true (read_node _ _ _ _ same way.within c.index-here.ensures)
+    attached_below _ _ _ _ _ c.requires.rising way c.loop-place-test.true (read_node _ _ _ _ same way.within c.index-here.ensures)
     c.if-here-letters.false c.in_default-child.is
     _ _ _ same (omega arith) (read_node _ _ _ _ same way.within c.index_mut-in_default-child.ensures.value)
 
@@ -38,7 +38,7 @@ loop-place-preserved c =
       i.1,
       i.2,
       omega arith,
-      way_child _ _ _ _ _ c.requires i.4 c.loop-place-test.true
+      way_child _ _ _ _ _ c.requires.rising i.4 c.loop-place-test.true
           (read_node _ _ _ _ i.0 i.4.within c.index-here.ensures) c.if-here-letters.false _ c.in-Some-child.is,
     )
 

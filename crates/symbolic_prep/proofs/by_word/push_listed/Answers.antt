@@ -32,9 +32,9 @@ returns-in_ok-push-in-Some-clause-stands c =
     let same : c.terms-in-Some.result.now ≡ f = c.terms-in-Some.ensures.value ∙ sym c.terms.ensures.value in
     let pushed : q ≡ c.args.residues.now ++ residues_of f ∷ [] =
     c.in_ok-push-in-Some.ensures ∙ ap (λ (g : List Term). c.args.residues.now ++ residues_of g ∷ []) same in
-    let s : Span = record { start = c.len-start.result; end = c.len-end.result; element = c.len-element.result } in
-    let first : length n ≡ s.start = omega (arith, c.len-start.ensures, c.args.numbers.now.ok) in
-    let long : length m ≡ s.end = omega (arith, c.len-end.ensures, c.push_numbers.new.numbers.ok) in
+    let s : Span = record { start = c.in_ok-start-in-Some.start; end = c.in_ok-end-in-Some.end; element = c.len-element.result } in
+    let first : length n ≡ s.start = omega (arith, c.in_ok-start-in-Some.ensures, c.len.ensures, c.args.numbers.now.ok) in
+    let long : length m ≡ s.end = omega (arith, c.in_ok-end-in-Some.ensures, c.len-in-Some.ensures, c.push_numbers.new.numbers.ok) in
     let own : IsSpanOf columns m q (Some s) (Some f) =
     listed_stands columns n m f c.in_ok-push_numbers-in-Some.ensures c.args.residues.now q pushed s first long (sym c.len-element.ensures) in
     subst (IsSpanOf columns m q (Some s)) (ap Some c.terms.ensures.value ∙ sym c.in-Some.is) own

@@ -80,8 +80,8 @@ push_product-requires-clause-fits c =
     (sym (c.tail_of.ensures ∙ ap below_lead c.terms-terms.ensures.value))
     (tail_room b c.done-done.ensures.kept c.requires.form w c.requires.letters (take at w) c.behind-rest.result.now f q c.args.table.now.room c.requires.room)
 
-pub returns-in_ok-push_product-in-Some-clause-reduced : goal.returns-in_ok-push_product-in-Some-clause-reduced
-returns-in_ok-push_product-in-Some-clause-reduced c =
+pub returns-in_ok-end-in-Some-clause-reduced : goal.returns-in_ok-end-in-Some-clause-reduced
+returns-in_ok-end-in-Some-clause-reduced c =
     let b = c.args.basis.now in
     let w : List ℕ = c.args.word.now in
     let at = c.in-Some.place.at in
@@ -102,9 +102,9 @@ returns-in_ok-push_product-in-Some-clause-reduced c =
     let n2 = c.push_product.new.numbers.items in
     let count : c.counted-entries.result ≡ min (c.args.entries + length f) (c.args.limit + 1) =
     omega (arith, c.counted-entries.ensures, ap length c.terms-terms.ensures.value) in
-    let size : length n0 ≡ c.len-start.result = search rules in
-    let end_size : length n2 ≡ c.len-end.result = search rules in
-    let span : Span = record { start = c.len-start.result; end = c.len-end.result; element = c.in-Some.place.element } in
+    let size : length n0 ≡ c.in_ok-start-in-Some.start = search rules in
+    let end_size : length n2 ≡ c.in_ok-end-in-Some.end = search rules in
+    let span : Span = record { start = c.in_ok-start-in-Some.start; end = c.in_ok-end-in-Some.end; element = c.in-Some.place.element } in
     let pushed : c.counted-entries.result ≤ c.args.limit → n1 ≡ n0 ++ c.args.number ∷ [] =
     λ le. c.in_ok-push_number-in-Some.ensures.pushed (le-leb _ _ (omega (arith, le, c.from.ensures))) in
     let listed : c.counted-entries.result ≤ c.args.limit → AreListed new n1 n2 (product u (below_lead f) v) =

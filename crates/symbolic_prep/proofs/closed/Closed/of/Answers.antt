@@ -15,6 +15,7 @@ invariant_of-result c =
       falling = c.requires.falling;
       size = c.requires.size;
       within = c.requires.within;
+      reducers = c.requires.reducers;
       contested_is = c.in_ok-contested.ensures columns numbers residues
           ∙ ap (λ (ss : List (Option Span)). contested_words columns (map (reducer_on columns numbers residues) ss))
           c.as_slice.ensures.value;
