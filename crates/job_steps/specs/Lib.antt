@@ -1,4 +1,5 @@
 pub mod Progress
+pub mod Reaches
 pub mod Gains
 pub mod Printing
 pub mod Status
