@@ -15,3 +15,4 @@ pub mod Obstructions
 pub mod InDegree
 pub mod FewElements
 pub mod Values
+pub mod OneOutcome

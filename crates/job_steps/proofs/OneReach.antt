@@ -8,8 +8,7 @@ use Rattle.ideal_laws.proofs.Dimensions.{has_one_dimension}
 use Rattle.ideal_laws.proofs.OneBasis.{has_one_basis}
 use Rattle.poly_writer.specs.Outputs.{IsBasisText, IsSeriesText}
 use Rattle.poly_writer.specs.Texts.{basis_text, series_text}
-use Rattle.job_steps.specs.Progress.{IsBasisPart, IsOutput, IsPart, IsReach, IsText, Reach, Task, whole, refused, crowded}
-use Rattle.job_steps.specs.Reaches.{HasOneText}
+use Rattle.job_steps.specs.Progress.{IsBasisPart, IsOutput, IsPart, IsReach, IsTaskText, IsText, Reach, Task, whole, refused, crowded}
 use Rattle.job_steps.proofs.Reaches.{none_and_refused, one_stop, one_text, small_and_large}
 
 -- a list of so many values, one for each number from s on
@@ -65,10 +64,11 @@ module _ (t : Task) (st : IsSetting t.modulus t.letters.weights t.relations) whe
   text_of (refused kind d value) = basis_part_of (d - 1)
   text_of (crowded d value) = output_of (d - 1)
 
-  has_one_text : (reach : Reach) → IsReach t reach → IsOne (IsText t reach)
-  has_one_text reach h =
+  -- a task that comes so far has one text
+  pub one_task_text : (reach : Reach) → IsReach t reach → IsOne (IsTaskText t)
+  one_task_text reach h =
       let x = text_of reach in
-      record { value = x.0; holds = x.1; only = λ text is. one_text t st reach reach text x.0 h is h x.1 }
+      record { value = x.0; holds = (reach, h, x.1); only = λ text is. one_text t st is.0 reach text x.0 is.1 is.2 h x.1 }
 
   -- two reaches of one task are one
   pub one_reach : (r s : Reach) → IsReach t r → IsReach t s → r ≡ s
@@ -87,6 +87,3 @@ module _ (t : Task) (st : IsSetting t.modulus t.letters.weights t.relations) whe
   one_reach (crowded d v) (crowded e w) a b =
       let s = one_stop t st (crowded d v) (crowded e w) NormalWords NormalWords d e v w a (refl, refl, refl) b (refl, refl, refl) in
       λ i. crowded (s.1 i) (s.2 i)
-
-pub texts_are_one : HasOneText
-texts_are_one t st reach h = has_one_text t st reach h

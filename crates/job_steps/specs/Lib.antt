@@ -1,5 +1,4 @@
 pub mod Progress
-pub mod Reaches
 pub mod Gains
 pub mod Printing
 pub mod Status
@@ -7,3 +6,4 @@ pub mod Inputs
 pub mod Lines
 pub mod Traces
 pub mod Statuses
+pub mod Reaches

@@ -1,9 +1,11 @@
--- Each task comes exactly as far as one reach says, and has one text.
-use Rattle.std.specs.Prelude.{ℕ, ◌<◌, ◌≤◌, Contains, length}
+-- Each task that is posed has exactly one reach, and exactly one text.
+use Rattle.std.specs.Prelude.{ℕ, ◌<◌, ◌≤◌, List, Contains, length}
 use Rattle.ideal_laws.specs.declared.limits.LimitKind.{LimitKind}
 use Rattle.ideal_laws.specs.declared.limits.LimitKind.TheVariants.{PlainWords, Terms}
 use Rattle.ideal_laws.specs.Laws.{IsOne, IsSetting}
-use Rattle.job_steps.specs.Progress.{IsReach, IsText, Reach, Task}
+use Rattle.job_steps.specs.declared.status.Status.{Status}
+use Rattle.job_steps.specs.Progress.{IsReach, IsTaskText, Task}
+use Rattle.job_steps.specs.Statuses.{IsTaskOutcome}
 
 -- a limit that each degree passes whose reduced basis has more elements than a basis keeps
 abbrev pub BoundsElements : LimitKind → ℕ → Type 0
@@ -21,11 +23,14 @@ pub record IsPosed (t : Task) : Type 0 where
   pub among : Contains t.limits limit
   pub bounds : BoundsElements limit.0 limit.1
 
--- a task comes exactly so far
+-- each comes exactly so far
 abbrev pub HasOneReach : Type 0
 HasOneReach = (t : Task) → IsPosed t → IsOne (IsReach t)
 
--- and of a task that comes so far exactly this is printed
+-- and has exactly one text
 abbrev pub HasOneText : Type 0
-HasOneText = (t : Task) → IsSetting t.modulus t.letters.weights t.relations → (reach : Reach) → IsReach t reach →
-    IsOne (IsText t reach)
+HasOneText = (t : Task) → IsPosed t → IsOne (IsTaskText t)
+
+-- and exactly one status with its text
+abbrev pub HasOneOutcome : Type 0
+HasOneOutcome = (t : Task) → IsPosed t → IsOne (λ (o : Status × List ℕ). IsTaskOutcome t o.0 o.1)

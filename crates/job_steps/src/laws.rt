@@ -1,8 +1,10 @@
-ghost use Rattle.job_steps.specs.Reaches.{HasOneReach, HasOneText};
+ghost use Rattle.job_steps.specs.Reaches.{HasOneOutcome, HasOneReach, HasOneText};
 
-/// Each task comes exactly as far as one reach says: whether all degrees are done or which quantity passes first is
-/// a function of the task. And of a task that comes so far exactly one text is printed.
+/// Each task that is posed comes exactly as far as one reach says: whether all of its degrees are done, or which
+/// quantity passes first, is a function of the task. So it has exactly one text, and ends with
+/// exactly one status.
 pub fn reach_law()
     ensures reach { HasOneReach }
     ensures text { HasOneText }
+    ensures outcome { HasOneOutcome }
 {}
