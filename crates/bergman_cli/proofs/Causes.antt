@@ -1,5 +1,5 @@
 -- What the end of a run says of its status.
-use Rattle.std.proofs.Common.{◌≡◌, ◌≢◌, ◌⊎◌, ◌↔◌, ℕ, List, [], refl, ap, inl, inr, subst}
+use Rattle.std.proofs.Common.{◌≡◌, ◌≢◌, ◌⊎◌, ◌↔◌, ◌≤◌, ℕ, List, [], refl, ap, inl, inr, subst}
 use Rattle.std.specs.declared.option.Option.{Option}
 use Rattle.std.specs.Io.KnownBytes.{Appends}
 use Rattle.bg_io.specs.Ends.{Rose}
@@ -18,8 +18,9 @@ use Rattle.bergman_cli.specs.Outcomes.{HasWrittenPart, HasWrittenSome, IsOutcome
 use Rattle.bergman_cli.specs.Run.{IsEnd, IsJobEnd, IsUngivenTo, OfGiven, OfWork, ReadsSource}
 use Rattle.bergman_cli.proofs.Given.{make_or_reads}
 use Rattle.bergman_cli.proofs.Given.{ungiven_input}
-use Rattle.bergman_cli.proofs.Jobs.{no_fault, one_fault}
-use Rattle.bergman_cli.proofs.Works.{never, work_gained, work_memory, work_write}
+use Rattle.bergman_cli.proofs.Jobs.{bound_range, no_fault, one_fault}
+use Rattle.bergman_cli.proofs.Posed.{gb_posed}
+use Rattle.bergman_cli.proofs.Works.{never, work_gained, work_memory, work_part, work_write}
 
 -- an end of the input is one of few statuses
 module _ (p : ℕ) (left now : Option (List ℕ)) (b a : ℕ) where
@@ -109,6 +110,7 @@ module _ (job : Job) (left now : Option (List ℕ)) (b a : ℕ) (held more : Opt
     letters = h.letters;
     relations = h.relations;
     reads = h.reads;
+    alphabet = h.alphabet;
     setting = h.setting;
     holds = work_gained job h.letters h.relations held more room before after job.command status h.holds own;
   }
@@ -124,34 +126,38 @@ module _ (job : Job) (left now : Option (List ℕ)) (b a : ℕ) (held more : Opt
 
   pub job_write : Ends WriteFault → Rose before after
   job_write (inl h) = absurd (ungiven_not job.modulus left now b a job.command WriteFault h.0 (λ none. none) (λ is. cc))
-  job_write (inr h) = (work_write job h.letters h.relations held more room before after job.command h.holds).0
+  job_write (inr h) = work_write job h.letters h.relations held more room before after job.command h.holds
 
-  pub job_part : Ends WriteFault → OfGiven job left now (λ letters relations. HasWrittenPart job letters relations held more room)
-  job_part (inl h) = absurd (ungiven_not job.modulus left now b a job.command WriteFault h.0 (λ none. none) (λ is. cc))
-  job_part (inr h) = record {
+  pub job_part : job.bound ≤ 64 → Ends WriteFault → OfGiven job left now (λ letters relations. HasWrittenPart job letters relations held more room)
+  job_part few (inl h) = absurd (ungiven_not job.modulus left now b a job.command WriteFault h.0 (λ none. none) (λ is. cc))
+  job_part few (inr h) = record {
     text = h.text;
     is_given = h.is_given;
     letters = h.letters;
     relations = h.relations;
     reads = h.reads;
+    alphabet = h.alphabet;
     setting = h.setting;
-    holds = (work_write job h.letters h.relations held more room before after job.command h.holds).1;
+    holds = work_part job h.letters h.relations held more room before after (gb_posed job h.letters h.relations few h.alphabet h.setting)
+        job.command h.holds;
   }
 
-  pub job_memory : Ends NoMemory → Appends held more [] ⊎ OfGiven job left now (λ letters relations. HasWrittenSome job letters relations held more)
-  job_memory (inl h) = inl h.1
-  job_memory (inr h) = elim (work_memory job h.letters h.relations held more room before after job.command h.holds) [
-    | inl none ↦ inl none
-    | inr some ↦ inr (record {
-      text = h.text;
-      is_given = h.is_given;
-      letters = h.letters;
-      relations = h.relations;
-      reads = h.reads;
-      setting = h.setting;
-      holds = some;
-    })
-  ]
+  pub job_memory : job.bound ≤ 64 → Ends NoMemory → Appends held more [] ⊎ OfGiven job left now (λ letters relations. HasWrittenSome job letters relations held more)
+  job_memory few (inl h) = inl h.1
+  job_memory few (inr h) = elim (work_memory job h.letters h.relations held more room before after
+      (gb_posed job h.letters h.relations few h.alphabet h.setting) job.command h.holds) [
+        | inl none ↦ inl none
+        | inr some ↦ inr (record {
+          text = h.text;
+          is_given = h.is_given;
+          letters = h.letters;
+          relations = h.relations;
+          reads = h.reads;
+          alphabet = h.alphabet;
+          setting = h.setting;
+          holds = some;
+        })
+      ]
 
 module _ (words : List (List ℕ)) (left now : Option (List ℕ)) (b a : ℕ) (held more : Option (List ℕ)) (room : Option ℕ) (before after : ℕ) where
   abbrev End : Status → Type 0
@@ -197,12 +203,17 @@ module _ (words : List (List ℕ)) (left now : Option (List ℕ)) (b a : ℕ) (h
     end_write is = let e = subst End is end in job_write e.0 left now b a held more room before after e.2
 
     pub end_part : status ≡ WriteFault → OfWork words left now (λ job letters relations. HasWrittenPart job letters relations held more room)
-    end_part is = let e = subst End is end in (e.0, e.1, job_part e.0 left now b a held more room before after e.2)
+    end_part is = let e = subst End is end in (
+      e.0,
+      e.1,
+      job_part e.0 left now b a held more room before after
+          (bound_range words e.0 e.1).1 e.2,
+    )
 
     pub end_memory : status ≡ NoMemory → Appends held more [] ⊎ OfWork words left now (λ job letters relations. HasWrittenSome job letters relations held more)
     end_memory is =
         let e = subst End is end in
-        elim (job_memory e.0 left now b a held more room before after e.2) [
+        elim (job_memory e.0 left now b a held more room before after (bound_range words e.0 e.1).1 e.2) [
           | inl none ↦ inl none
           | inr some ↦ inr (e.0, e.1, some)
         ]

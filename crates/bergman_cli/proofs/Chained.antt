@@ -1,5 +1,5 @@
 -- What chains answers is an outcome of its job, and one status of it is due.
-use Rattle.std.proofs.Common.{◌≡◌, ◌≢◌, ◌+◌, ◌≤◌, ℕ, List, [], length, refl, sym, ap, ◌∙◌, arith, subst, false, true}
+use Rattle.std.proofs.Common.{◌≡◌, ◌≢◌, ◌+◌, ℕ, List, [], length, refl, sym, ap, ◌∙◌, arith, subst, false, true}
 use Rattle.std.specs.List.{Contains}
 use Rattle.words.specs.Names.{Letters}
 use Rattle.free_poly.specs.declared.term.Term.{Term}
@@ -10,11 +10,9 @@ use Rattle.ideal_laws.specs.Kept.{IsKept}
 use Rattle.ideal_laws.specs.Laws.{IsSetting}
 use Rattle.ideal_laws.specs.Overlaps.{ListsLower}
 use Rattle.ideal_laws.specs.Quantities.{IsFirstRefused, NonePassesUpto}
-use Rattle.anick_chains.specs.declared.chain.Chain.{Chain}
 use Rattle.anick_chains.specs.BasisTips.{HasMinimalChains, leads_of}
 use Rattle.anick_chains.specs.Listed.{AreListed}
 use Rattle.anick_chains.specs.Listing.{IsFirstMany}
-use Rattle.anick_chains.specs.Texts.{chain_text}
 use Rattle.command_words.specs.declared.job.Command.TheVariants as commands
 use Rattle.command_words.specs.declared.job.Job.{Job}
 use Rattle.job_steps.specs.declared.answer.Answer.{Answer}

@@ -100,7 +100,7 @@ module _ (job : Job) (law : HasOneReading) (some : 0 < job.modulus) (left now : 
         by_status ReadFault e = not_comes ReadFault (λ none. none) (λ same. cc) (λ same. cc) e
         by_status WriteFault e = inr (
           failed_writes job letters relations held more room before after job.command own st is e,
-          (work_write job letters relations held more room before after job.command e).0,
+          work_write job letters relations held more room before after job.command e,
         )
         by_status NoMemory e = inr tt
 

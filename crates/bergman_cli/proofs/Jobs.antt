@@ -71,7 +71,7 @@ module _ (words : List (List ℕ)) (job : Job) (j : IsJob words job) where
       let t = told words job keys.Mod j (modulus_stands job.command j.complete) in
       subst (Contains listed_moduli) (sym (one_count job.modulus t.1.number t.1.value_is)) t.1.listed
 
-  bound_range : (1 ≤ job.bound) × (job.bound ≤ 64)
+  pub bound_range : (1 ≤ job.bound) × (job.bound ≤ 64)
   bound_range =
       let t = told words job keys.Deg j (bound_stands job.command j.complete) in
       (omega (arith, one_count job.bound t.1.number t.1.value_is, t.1.above), omega (arith, one_count job.bound t.1.number t.1.value_is, t.1.below))

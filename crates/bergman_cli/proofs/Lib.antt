@@ -8,6 +8,7 @@ pub mod Places
 pub mod AnswerTexts
 pub mod Answering
 pub mod NormalOutcomes
+pub mod Posed
 pub mod Works
 pub mod Causes
 pub mod Completing

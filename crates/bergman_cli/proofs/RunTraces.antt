@@ -1,7 +1,7 @@
 -- The trace of a run is that of the task of its job, or none.
 use Rattle.std.proofs.Common.{◌≡◌, ◌≢◌, ◌+◌, ℕ, Bool, true, false, List, [], ◌∷◌, refl, sym, ap, inr, subst}
 use Rattle.std.specs.declared.option.Option.{Option}
-use Rattle.words.specs.Names.{Letters}
+use Rattle.words.specs.Names.{IsAlphabet, Letters}
 use Rattle.free_poly.specs.declared.term.Term.{Term}
 use Rattle.ideal_laws.specs.declared.account.Account.{Account}
 use Rattle.ideal_laws.specs.declared.limits.LimitKind.{LimitKind}
@@ -179,34 +179,35 @@ module _ (words : List (List ℕ)) (left now held more : Option (List ℕ)) (roo
 
   -- the trace of the work on what was given
   module _ (job : Job) (is : IsJob words job) (letters : Letters) (relations : List (List Term))
-      (reads : IsGivenReading job left now letters relations) (setting : IsSetting job.modulus letters.weights relations) (trace : List ℕ)
-    where
-      given_trace : (status : Status) → IsWorkTrace job letters relations held more room status trace →
-          OfWork words left now (λ own l rs. IsWorkTrace own l rs held more room status trace)
-      given_trace status h = (
-        job,
-        is,
-        record {
-          text = reads.0;
-          is_given = reads.1;
-          letters = letters;
-          relations = relations;
-          reads = reads.2;
-          setting = setting;
-          holds = h;
-        },
-      )
+      (reads : IsGivenReading job left now letters relations) (alphabet : IsAlphabet letters)
+      (setting : IsSetting job.modulus letters.weights relations) (trace : List ℕ) where
+    given_trace : (status : Status) → IsWorkTrace job letters relations held more room status trace →
+        OfWork words left now (λ own l rs. IsWorkTrace own l rs held more room status trace)
+    given_trace status h = (
+      job,
+      is,
+      record {
+        text = reads.0;
+        is_given = reads.1;
+        letters = letters;
+        relations = relations;
+        reads = reads.2;
+        alphabet = alphabet;
+        setting = setting;
+        holds = h;
+      },
+    )
 
-      none_of : (status : Status) → (IsTraced status → ⊥) → IsWorkTrace job letters relations held more room status trace → trace ≡ []
-      none_of status none h = untraced job letters relations held more room trace job.command status none h
+    none_of : (status : Status) → (IsTraced status → ⊥) → IsWorkTrace job letters relations held more room status trace → trace ≡ []
+    none_of status none h = untraced job letters relations held more room trace job.command status none h
 
-      pub work_trace : (status : Status) → IsWorkTrace job letters relations held more room status trace → Traces status trace
-      work_trace Done h = given_trace Done h
-      work_trace (Usage fault) h = none_of (Usage fault) (λ none. none) h
-      work_trace (Input problem) h = none_of (Input problem) (λ none. none) h
-      work_trace (Limit kind d value) h = given_trace (Limit kind d value) h
-      work_trace (Chains d value) h = none_of (Chains d value) (λ none. none) h
-      work_trace (Products d value) h = none_of (Products d value) (λ none. none) h
-      work_trace ReadFault h = none_of ReadFault (λ none. none) h
-      work_trace WriteFault h = given_trace WriteFault h
-      work_trace NoMemory h = inr (given_trace NoMemory h)
+    pub work_trace : (status : Status) → IsWorkTrace job letters relations held more room status trace → Traces status trace
+    work_trace Done h = given_trace Done h
+    work_trace (Usage fault) h = none_of (Usage fault) (λ none. none) h
+    work_trace (Input problem) h = none_of (Input problem) (λ none. none) h
+    work_trace (Limit kind d value) h = given_trace (Limit kind d value) h
+    work_trace (Chains d value) h = none_of (Chains d value) (λ none. none) h
+    work_trace (Products d value) h = none_of (Products d value) (λ none. none) h
+    work_trace ReadFault h = none_of ReadFault (λ none. none) h
+    work_trace WriteFault h = given_trace WriteFault h
+    work_trace NoMemory h = inr (given_trace NoMemory h)

@@ -11,8 +11,10 @@ use Rattle.command_words.specs.declared.job.Command.TheVariants.{Gb, Make, Modul
 use Rattle.command_words.specs.declared.job.Job.{Job}
 use Rattle.job_steps.specs.declared.status.Status.{Status}
 use Rattle.job_steps.specs.declared.status.Status.TheVariants as statuses
+use Rattle.job_steps.specs.Reaches.{IsPosed}
 use Rattle.job_steps.specs.Status.{PrintsNothing}
 use Rattle.job_steps.specs.Statuses.{HasGained, HasGainedPart, IsAnswered, IsOwn, IsTaskEnd, IsTaskStatus, IsThis}
+use Rattle.job_steps.proofs.OneOutcome.{outcome_part, outcome_some}
 use Rattle.job_steps.proofs.Statuses.{answered_by, answered_gained, cut_is_some, of_parts, one_task_status, task_gained, task_outcome_status, task_status_own}
 use Rattle.job_steps.proofs.Statuses.{task_status_prints}
 use Rattle.bergman_cli.specs.Gb.{gb_task}
@@ -115,19 +117,27 @@ module _ (job : Job) (letters : Letters) (relations : List (List Term)) where
     work_gained Normal status h own = answered_gained (Outcome Normal) held more room before after status
         (of_parts (Outcome Normal) held more room before after status (λ is. subst IsOwn is own) h) own
 
-    pub work_write : (command : Command) → Ends command statuses.WriteFault → Rose before after × HasWrittenPartOf command job letters relations held more room
-    work_write Gb h = h
-    work_write Make h = h
-    work_write Module h = h
-    work_write Chains h = h
-    work_write Normal h = h
+    pub work_write : (command : Command) → Ends command statuses.WriteFault → Rose before after
+    work_write Gb h = h.0
+    work_write Make h = h.0
+    work_write Module h = h.0
+    work_write Chains h = h.0
+    work_write Normal h = h.0
 
-    pub work_memory : (command : Command) → Ends command statuses.NoMemory → Appends held more [] ⊎ HasWrittenSomeOf command job letters relations held more
-    work_memory Gb h = inr h
-    work_memory Make h = inl h
-    work_memory Module h = inl h
-    work_memory Chains h = inl h
-    work_memory Normal h = h
+    module _ (posed : IsPosed (gb_task job letters relations)) where
+      pub work_part : (command : Command) → Ends command statuses.WriteFault → HasWrittenPartOf command job letters relations held more room
+      work_part Gb h = (outcome_part (gb_task job letters relations) posed held more room h.1, h.1)
+      work_part Make h = h.1
+      work_part Module h = h.1
+      work_part Chains h = h.1
+      work_part Normal h = h.1
+
+      pub work_memory : (command : Command) → Ends command statuses.NoMemory → Appends held more [] ⊎ HasWrittenSomeOf command job letters relations held more
+      work_memory Gb h = inr (outcome_some (gb_task job letters relations) posed held more h, h)
+      work_memory Make h = inl h
+      work_memory Module h = inl h
+      work_memory Chains h = inl h
+      work_memory Normal h = h
 
     part_writes : (command : Command) (own : Status) → IsSetting job.modulus letters.weights relations → Due command own →
         HasGainedPart held more room (Outcome command) → Writes command own

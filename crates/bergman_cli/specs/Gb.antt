@@ -1,13 +1,17 @@
--- What the command gb asks of letters and relations.
-use Rattle.std.specs.Prelude.{Bool, true, false, List}
-use Rattle.words.specs.Names.{Letters}
+-- What the command gb asks of letters and relations, and that it has one answer.
+use Rattle.std.specs.Prelude.{ℕ, Bool, true, false, List}
+use Rattle.words.specs.Names.{IsAlphabet, Letters}
 use Rattle.free_poly.specs.declared.term.Term.{Term}
+use Rattle.ideal_laws.specs.Laws.{IsOne, IsSetting}
 use Rattle.ideal_laws.specs.Limits.{standard_limits}
 use Rattle.command_words.specs.declared.job.Job.{Job}
 use Rattle.command_words.specs.declared.job.Show.{Show}
 use Rattle.command_words.specs.declared.job.Show.TheVariants.{Basis, Series, Both}
+use Rattle.job_steps.specs.declared.status.Status.{Status}
 use Rattle.job_steps.specs.Progress.{Task}
+use Rattle.job_steps.specs.Statuses.{IsTaskOutcome}
 use Rattle.bergman_cli.specs.Engines.{limits_of}
+use Rattle.bergman_cli.specs.Jobs.{IsSound}
 
 abbrev pub shows_basis : Show → Bool
 shows_basis Basis = true
@@ -31,3 +35,9 @@ gb_task job letters relations = record {
   shows_basis = shows_basis job.show;
   shows_series = shows_series job.show;
 }
+
+-- a job on letters and relations has exactly one status with its text
+abbrev pub HasOneAnswer : Type 0
+HasOneAnswer = (job : Job) (letters : Letters) (relations : List (List Term)) → IsSound job → IsAlphabet letters →
+    IsSetting job.modulus letters.weights relations
+    → IsOne (λ (o : Status × List ℕ). IsTaskOutcome (gb_task job letters relations) o.0 o.1)

@@ -42,19 +42,23 @@ IsOutcomeOf Normal job letters relations status text = IsNormalOutcome job lette
 abbrev pub IsOutcome : Job → Letters → List (List Term) → Status → List ℕ → Type 0
 IsOutcome job = IsOutcomeOf job.command job
 
--- what was gained where a write failed
+-- what was gained where a write failed: a proper prefix of the text of an outcome; and with gb, whose lines are
+-- written on the way, of what was due then
 abbrev pub HasWrittenPartOf : Command → Job → Letters → List (List Term) → Option (List ℕ) → Option (List ℕ) →
     Option ℕ → Type 0
-HasWrittenPartOf Gb job letters relations held more room = HasPrintedPart (gb_task job letters relations) held more room
+HasWrittenPartOf Gb job letters relations held more room =
+    HasGainedPart held more room (IsOutcomeOf Gb job letters relations)
+    × HasPrintedPart (gb_task job letters relations) held more room
 HasWrittenPartOf command job letters relations held more room =
     HasGainedPart held more room (IsOutcomeOf command job letters relations)
 
 abbrev pub HasWrittenPart : Job → Letters → List (List Term) → Option (List ℕ) → Option (List ℕ) → Option ℕ → Type 0
 HasWrittenPart job = HasWrittenPartOf job.command job
 
--- what was gained where memory was wanting, if something was
+-- the same of a prefix where memory was wanting, if something was gained
 abbrev pub HasWrittenSomeOf : Command → Job → Letters → List (List Term) → Option (List ℕ) → Option (List ℕ) → Type 0
-HasWrittenSomeOf Gb job letters relations held more = HasPrintedSome (gb_task job letters relations) held more
+HasWrittenSomeOf Gb job letters relations held more = HasGainedSome held more (IsOutcomeOf Gb job letters relations)
+    × HasPrintedSome (gb_task job letters relations) held more
 HasWrittenSomeOf Normal job letters relations held more =
     HasGainedSome held more (IsOutcomeOf Normal job letters relations)
 HasWrittenSomeOf command job letters relations held more = ⊥

@@ -1,7 +1,7 @@
 -- What a run has read and printed, and why it ended so.
 use Rattle.std.specs.Prelude.{ℕ, ◌≡◌, ◌⊎◌, ◌<◌, ◌≤◌, List, [], Option, Some, length}
 use Rattle.std.specs.Io.KnownBytes.{Appends}
-use Rattle.words.specs.Names.{Letters}
+use Rattle.words.specs.Names.{IsAlphabet, Letters}
 use Rattle.free_poly.specs.declared.term.Term.{Term}
 use Rattle.bg_io.specs.Ends.{Rose}
 use Rattle.ideal_laws.specs.Laws.{IsSetting}
@@ -48,6 +48,7 @@ pub record OfGiven (job : Job) (left now : Option (List ℕ)) (Holds : Letters �
   pub letters : Letters
   pub relations : List (List Term)
   pub reads : Reads text job.modulus letters relations
+  pub alphabet : IsAlphabet letters
   pub setting : IsSetting job.modulus letters.weights relations
   pub holds : Holds letters relations
 

@@ -14,5 +14,6 @@ mod run;
 mod tests;
 
 pub use command_words::{Command, EngineKind, Job, Key, Show, UsageFault, read_words};
+pub use gb::gb_law;
 pub use job_steps::{InputProblem, Status};
 pub use run::bergman;

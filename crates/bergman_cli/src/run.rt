@@ -183,6 +183,7 @@ fn run_job<R: Threads + Sync, E: DegreeEngine, S: Source, K: Sink, T: Sink>(
         Err(status) => return status,
     };
     setting_law(&field, &given);
+    let _letters = given.alphabet.len();
     work(rt, alloc, job, engine, &field, &given, out, err, failed)
 }
 

@@ -7,3 +7,12 @@ pub mod DegreeLines
 pub mod Counted
 pub mod Statuses
 pub mod Writes
+pub mod OneReach
+pub mod Reached
+pub mod Reducers
+pub mod Closures
+pub mod Obstructions
+pub mod InDegree
+pub mod FewElements
+pub mod Values
+pub mod OneOutcome

@@ -23,8 +23,8 @@ use Rattle.job_steps.specs.declared.print.PrintFault.TheVariants.{Limit, WriteFa
 use Rattle.job_steps.specs.Gains.{GainsPart, GainsSome, HasPrintedPart, HasPrintedSome, IsUndone}
 use Rattle.job_steps.specs.Printing.{IsBasisUndone}
 use Rattle.job_steps.specs.Progress.{IsBasisPart, IsBasisSoFar, HasLinesBelow, IsBeginning, IsDue, IsFirstLargeCoefficient, IsOutput, IsPart, IsReach}
-use Rattle.job_steps.specs.Progress.{IsStoppedBy, IsText, AreSmallBelow, PassesNone, Reach, Task, whole, refused, crowded}
-use Rattle.job_steps.proofs.Gaining.{beginning_self, beginning_trans, cut_of_beginning, no_room_for}
+use Rattle.job_steps.specs.Progress.{IsStoppedBy, IsTaskText, IsText, AreSmallBelow, PassesNone, Reach, Task, whole, refused, crowded}
+use Rattle.job_steps.proofs.Gaining.{beginning_self, beginning_trans}
 use Rattle.job_steps.proofs.Printed.{degree_texts-append}
 
 -- a list whose elements stand at the same places in another one is its front
@@ -70,7 +70,7 @@ module _ (p : ℕ) (weights : List ℕ) (relations : List (List Term)) (st : IsS
   one_coefficient : (d h k : ℕ) → IsHilbertCoefficient p weights relations d h → IsHilbertCoefficient p weights relations d k → h ≡ k
   one_coefficient d h k a b = let dim = has_one_dimension p weights relations st d in (dim.coefficient h).0 a ∙ sym ((dim.coefficient k).0 b)
 
-  small_and_large : (limit d e value : ℕ) → AreSmallBelow p weights relations limit e → IsFirstLargeCoefficient p weights relations limit d value → d < e → ⊥
+  pub small_and_large : (limit d e value : ℕ) → AreSmallBelow p weights relations limit e → IsFirstLargeCoefficient p weights relations limit d value → d < e → ⊥
   small_and_large limit d e value small large within =
       let s = small d within in
       omega (arith, s.2, large.large, one_coefficient d s.0 large.coefficient s.1 large.is_coefficient)
@@ -107,7 +107,7 @@ module _ (t : Task) (st : IsSetting t.modulus t.letters.weights t.relations) whe
   abbrev weights : List ℕ
   weights = t.letters.weights
 
-  none_and_refused : (d e value : ℕ) (kind : LimitKind) → PassesNone t e → IsFirstRefused p weights t.relations t.limits t.bound kind d value → d ≤ e → ⊥
+  pub none_and_refused : (d e value : ℕ) (kind : LimitKind) → PassesNone t e → IsFirstRefused p weights t.relations t.limits t.bound kind d value → d ≤ e → ⊥
   none_and_refused d e value kind none first le =
       let n = none d first.from le in
       let same = one_below p weights t.relations st d n.0 first.below n.1 first.is_below in
@@ -231,32 +231,15 @@ module _ (t : Task) (st : IsSetting t.modulus t.letters.weights t.relations) whe
   due_begins e s x y (inl a) rb b = so_far_begins e s x y a rb b
   due_begins e s x y (inr a) rb b = subst (IsBeginning x) (one_text a.0 s x y a.1 a.2 rb b) (beginning_self x)
 
+  begins_text : (e : ℕ) (x : List ℕ) → IsDue t e x → (y : List ℕ) → IsTaskText t y → IsBeginning x y
+  begins_text e x due y is = due_begins e is.0 x y due is.1 is.2
+
   printed_part : (a c : Option (List ℕ)) (r : Option ℕ) (e : ℕ) (x : List ℕ) → IsDue t e x → (part : GainsPart a c r x) →
       HasLinesBelow t e part.gained → HasPrintedPart t a c r
-  printed_part a c r e x due part below = record {
-    gained = part.gained;
-    appended = part.appended;
-    last = e;
-    due = x;
-    is_due = due;
-    lines_below = below;
-    of_due = (part.cut_short, part.no_room);
-    of_text = λ reach y is_reach is_text.
-        let b = due_begins e reach x y due is_reach is_text in
-        (cut_of_beginning part.gained x y part.cut_short b, no_room_for r x y b part.no_room);
-  }
+  printed_part a c r e x due part below = record { last = e; due = x; is_due = due; begins = begins_text e x due; part = part; lines_below = below }
 
   printed_some : (a c : Option (List ℕ)) (e : ℕ) (x : List ℕ) → IsDue t e x → (part : GainsSome a c x) → HasLinesBelow t e part.gained → HasPrintedSome t a c
-  printed_some a c e x due part below = record {
-    gained = part.gained;
-    appended = part.appended;
-    last = e;
-    due = x;
-    is_due = due;
-    lines_below = below;
-    of_due = part.beginning;
-    of_text = λ reach y is_reach is_text. beginning_trans part.gained x y part.beginning (due_begins e reach x y due is_reach is_text);
-  }
+  printed_some a c e x due part below = record { last = e; due = x; is_due = due; begins = begins_text e x due; part = part; lines_below = below }
 
   -- with what holds of the last degree
   pub part_upto : (a c : Option (List ℕ)) (r : Option ℕ) (Holds : ℕ → Type 0) (e : ℕ) (x : List ℕ) → IsDue t e x →

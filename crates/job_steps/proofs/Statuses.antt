@@ -1,17 +1,13 @@
 -- A task ends with one status, of its own.
-use Rattle.std.proofs.Common.{◌≡◌, ◌≢◌, ◌⊎◌, ℕ, List, [], ◌∷◌, ◌++◌, refl, sym, ap, ◌∙◌, inl, inr, subst}
-use Rattle.std.proofs.lemmas.List.{append-nil}
+use Rattle.std.proofs.Common.{◌≡◌, ◌≢◌, ℕ, List, [], ◌∷◌, ◌++◌, refl, sym, ◌∙◌, inl, inr, subst}
 use Rattle.std.specs.declared.option.Option.{Option}
-use Rattle.std.specs.Io.KnownBytes.{Appends}
-use Rattle.bg_io.specs.Ends.{IsCutShort, Rose}
+use Rattle.bg_io.specs.Ends.{IsCutShort}
 use Rattle.ideal_laws.specs.Laws.{IsSetting}
-use Rattle.job_steps.specs.declared.status.InputProblem.TheVariants as problems
 use Rattle.job_steps.specs.declared.status.Status.{Status}
 use Rattle.job_steps.specs.declared.status.Status.TheVariants.{Done, Usage, Input, Limit, Chains, Products, ReadFault, WriteFault, NoMemory}
-use Rattle.job_steps.specs.Gains.{GainsPart, HasPrinted, HasPrintedPart, HasPrintedSome}
 use Rattle.job_steps.specs.Progress.{Task}
 use Rattle.job_steps.specs.Status.{PrintsNothing}
-use Rattle.job_steps.specs.Statuses.{HasGained, HasGainedPart, IsAnswered, IsAnsweredInParts, IsOwn, IsTaskEnd, IsTaskOutcome, IsTaskStatus, IsThis}
+use Rattle.job_steps.specs.Statuses.{HasGained, IsAnswered, IsAnsweredInParts, IsOwn, IsTaskEnd, IsTaskOutcome, IsTaskStatus, IsThis}
 use Rattle.job_steps.proofs.Reaches.{one_stop, whole_is_not_stopped}
 
 -- the statuses of a task are its own

@@ -4,7 +4,7 @@ use Rattle.std.specs.Io.KnownBytes.{Appends}
 use Rattle.bg_io.specs.Ends.{CountsGained, HasRoom, IsCutShort, RoomFalls, Rose}
 use Rattle.job_steps.specs.declared.print.PrintFault.{PrintFault}
 use Rattle.job_steps.specs.declared.print.PrintFault.TheVariants.{Limit, WriteFault, NoMemory}
-use Rattle.job_steps.specs.Progress.{HasLinesBelow, IsBeginning, IsDue, IsReach, IsStoppedBy, IsText, Reach, Task}
+use Rattle.job_steps.specs.Progress.{HasLinesBelow, IsBeginning, IsDue, IsReach, IsStoppedBy, IsTaskText, IsText, Reach, Task}
 use Rattle.job_steps.specs.Progress.{last_degree}
 
 -- In the following, held and more are what the sink tells of its bytes before and after, room and left the room that
@@ -47,29 +47,24 @@ pub record HasPrinted (t : Task) (reach : Reach) (held more : Option (List ℕ))
   pub is_text : IsText t reach text
   pub appended : Appends held more text
 
--- a proper prefix of what the task prints, however far it comes, and no room was told for the whole; it is a proper
--- prefix of what was due once the degrees up to the last one were computed, and has the lines of those below that one
+-- once the degrees up to the last one were computed, a proper prefix was gained of the text that was due then, which
+-- begins the text of the task; no room was told for the whole; and the lines of the degrees below the last were gained
 pub record HasPrintedPart (t : Task) (held more : Option (List ℕ)) (room : Option ℕ) : Type 0 where
-  pub gained : List ℕ
-  pub appended : Appends held more gained
   pub last : ℕ
   pub due : List ℕ
   pub is_due : IsDue t last due
-  pub lines_below : HasLinesBelow t last gained
-  pub of_due : IsCutShort gained due × (HasRoom room (length due) → ⊥)
-  pub of_text : (reach : Reach) (text : List ℕ) → IsReach t reach → IsText t reach text → IsCutShort gained text
-      × (HasRoom room (length text) → ⊥)
+  pub begins : (text : List ℕ) → IsTaskText t text → IsBeginning due text
+  pub part : GainsPart held more room due
+  pub lines_below : HasLinesBelow t last part.gained
 
--- the same of a prefix
+-- the same of some prefix
 pub record HasPrintedSome (t : Task) (held more : Option (List ℕ)) : Type 0 where
-  pub gained : List ℕ
-  pub appended : Appends held more gained
   pub last : ℕ
   pub due : List ℕ
   pub is_due : IsDue t last due
-  pub lines_below : HasLinesBelow t last gained
-  pub of_due : IsBeginning gained due
-  pub of_text : (reach : Reach) (text : List ℕ) → IsReach t reach → IsText t reach text → IsBeginning gained text
+  pub begins : (text : List ℕ) → IsTaskText t text → IsBeginning due text
+  pub part : GainsSome held more due
+  pub lines_below : HasLinesBelow t last part.gained
 
 -- why a task was not done, what was gained of its text, and what holds of the last degree that was computed
 abbrev pub IsUndone : Task → Option (List ℕ) → Option (List ℕ) → Option ℕ → ℕ → ℕ → (ℕ → Type 0) → PrintFault → Type 0

@@ -6,3 +6,4 @@ pub mod Inputs
 pub mod Lines
 pub mod Traces
 pub mod Statuses
+pub mod Reaches

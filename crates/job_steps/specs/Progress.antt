@@ -86,6 +86,10 @@ IsText t whole text = IsOutput t t.bound text
 IsText t (refused kind d value) text = IsBasisPart t (d - 1) text
 IsText t (crowded d value) text = IsOutput t (d - 1) text
 
+-- the text of a task
+abbrev pub IsTaskText : Task → List ℕ → Type 0
+IsTaskText t text = (reach : Reach) × IsReach t reach × IsText t reach text
+
 -- the first bytes of a text, or all of them
 pub record IsBeginning (first text : List ℕ) : Type 0 where
   pub rest : List ℕ

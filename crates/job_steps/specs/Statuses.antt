@@ -1,12 +1,12 @@
 -- The statuses that a task ends with by itself, and the text that goes with each.
-use Rattle.std.specs.Prelude.{ℕ, ◌≡◌, ◌≢◌, ◌⊎◌, List, [], Option}
+use Rattle.std.specs.Prelude.{ℕ, ◌≡◌, ◌⊎◌, List, [], Option}
 use Rattle.std.specs.Io.KnownBytes.{Appends}
 use Rattle.bg_io.specs.Ends.{Rose}
 use Rattle.job_steps.specs.declared.status.InputProblem.TheVariants.{TooFewNames, Shape, TooFewRelations, AboveBound}
 use Rattle.job_steps.specs.declared.status.Status.{Status}
 use Rattle.job_steps.specs.declared.status.Status.TheVariants.{Done, Input, Limit, Chains, Products, WriteFault}
 use Rattle.job_steps.specs.declared.status.Status.TheVariants.{NoMemory}
-use Rattle.job_steps.specs.Gains.{GainsAll, GainsPart, GainsSome, HasPrinted, HasPrintedPart, HasPrintedSome}
+use Rattle.job_steps.specs.Gains.{GainsPart, GainsSome, HasPrinted, HasPrintedPart, HasPrintedSome}
 use Rattle.job_steps.specs.Progress.{IsReach, IsStoppedBy, IsText, Reach, Task, whole}
 
 -- a status that the work on a text ends with by itself

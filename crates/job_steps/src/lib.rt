@@ -5,6 +5,7 @@
 
 mod answer;
 mod input;
+mod laws;
 #[cfg(test)]
 mod line_tests;
 mod lines;
@@ -14,6 +15,7 @@ mod telling;
 
 pub use answer::{Answer, write_answer};
 pub use input::read_input;
+pub use laws::reach_law;
 pub use print::{Asked, PrintFault, print_job};
 pub use status::{InputProblem, Status};
 pub use telling::tell_status;

@@ -1,5 +1,4 @@
 use Rattle.std.proofs.Common.{◌+◌, ℕ, Err, refl, ap, ◌∙◌}
-use Rattle.anick_chains.specs.Texts.{chain_text}
 use Rattle.bergman_cli.proofs.Chained.{many_chains, refused_chains, told_chains}
 use Rattle.bergman_cli.proofs.chains.chains_answer.Goals as goal
 

@@ -14,6 +14,6 @@ returns-clause-told g c =
     let setting = subst (λ (p : ℕ). IsSetting p given.alphabet.weights given.relations) c.in-Ok.ensures c.setting_law.ensures in (
       told.0,
       λ words is. work_trace words _ _ _ _ _ c.args.job.now is given.alphabet given.relations c.in-Ok-read_given.ensures.given
-          setting told.0 c.work.result told.1,
+          c.len-letters.ensures.alphabet setting told.0 c.work.result told.1,
       told.2,
     )

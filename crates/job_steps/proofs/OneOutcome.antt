@@ -1,0 +1,80 @@
+-- A task has one status with its text, and what is gained on the way begins this text.
+use Rattle.std.proofs.Common.{ℕ, List, refl}
+use Rattle.std.specs.declared.option.Option.{Option}
+use Rattle.ideal_laws.specs.declared.limits.LimitKind.TheVariants.{NormalWords}
+use Rattle.job_steps.specs.declared.status.Status.{Status}
+use Rattle.job_steps.specs.declared.status.Status.TheVariants.{Done, Usage, Input, Limit, Chains, Products, ReadFault, WriteFault, NoMemory}
+use Rattle.job_steps.specs.Gains.{HasPrintedPart, HasPrintedSome}
+use Rattle.job_steps.specs.Progress.{IsReach, IsTaskText, IsText, Reach, Task, whole, refused, crowded}
+use Rattle.job_steps.specs.Reaches.{HasOneOutcome, IsPosed}
+use Rattle.job_steps.specs.Statuses.{HasGainedPart, HasGainedSome, IsTaskOutcome}
+use Rattle.job_steps.proofs.Gaining.{beginning_trans, cut_of_beginning, no_room_for}
+use Rattle.job_steps.proofs.Statuses.{one_task_status, task_outcome_status}
+use Rattle.job_steps.proofs.Values.{has_one_text}
+
+module _ (t : Task) where
+  -- the text of a task goes with a status
+  outcome_of : (text : List ℕ) → IsTaskText t text → (status : Status) × IsTaskOutcome t status text
+  outcome_of text h = by_reach h.0 h.1 h.2
+    where
+      by_reach : (reach : Reach) → IsReach t reach → IsText t reach text → (status : Status) × IsTaskOutcome t status text
+      by_reach whole r x = (Done, (r, x))
+      by_reach (refused kind d value) r x = (Limit kind d value, (refused kind d value, r, (refl, refl, refl), x))
+      by_reach (crowded d value) r x = (Limit NormalWords d value, (crowded d value, r, (refl, refl, refl), x))
+
+  -- the text of an outcome is that of the task
+  outcome_text : (status : Status) (text : List ℕ) → IsTaskOutcome t status text → IsTaskText t text
+  outcome_text Done text h = (whole, h.0, h.1)
+  outcome_text (Usage fault) text h = absurd h
+  outcome_text (Input problem) text h = absurd h
+  outcome_text (Limit kind d value) text h = (h.0, h.1, h.3)
+  outcome_text (Chains d value) text h = absurd h
+  outcome_text (Products d value) text h = absurd h
+  outcome_text ReadFault text h = absurd h
+  outcome_text WriteFault text h = absurd h
+  outcome_text NoMemory text h = absurd h
+
+  module _ (posed : IsPosed t) where
+    -- what was gained of the text that was due is a beginning of the text of an outcome
+    pub outcome_part : (held more : Option (List ℕ)) (room : Option ℕ) → HasPrintedPart t held more room → HasGainedPart held more room (IsTaskOutcome t)
+    outcome_part held more room h =
+        let one = has_one_text t posed in
+        let o = outcome_of one.value one.holds in
+        let begins = h.begins one.value one.holds in (
+          o.0,
+          one.value,
+          o.1,
+          record {
+            gained = h.part.gained;
+            appended = h.part.appended;
+            cut_short = cut_of_beginning h.part.gained h.due one.value h.part.cut_short begins;
+            no_room = no_room_for room h.due one.value begins h.part.no_room;
+          },
+        )
+
+    pub outcome_some : (held more : Option (List ℕ)) → HasPrintedSome t held more → HasGainedSome held more (IsTaskOutcome t)
+    outcome_some held more h =
+        let one = has_one_text t posed in
+        let o = outcome_of one.value one.holds in (
+          o.0,
+          one.value,
+          o.1,
+          record {
+            gained = h.part.gained;
+            appended = h.part.appended;
+            beginning = beginning_trans h.part.gained h.due one.value h.part.beginning (h.begins one.value one.holds);
+          },
+        )
+
+pub has_one_outcome : HasOneOutcome
+has_one_outcome t posed =
+    let one = has_one_text t posed in
+    let own = outcome_of t one.value one.holds in
+    record {
+      value = (own.0, one.value);
+      holds = own.1;
+      only = λ (o : Status × List ℕ) h.
+          let status = one_task_status t posed.setting o.0 own.0 (task_outcome_status t o.0 o.1 h) (task_outcome_status t own.0 one.value own.1) in
+          let text = one.only o.1 (outcome_text t o.0 o.1 h) in
+          λ i. (status i, text i);
+    }
