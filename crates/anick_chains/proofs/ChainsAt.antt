@@ -1,5 +1,5 @@
 -- The chains of a degree are the free letters and the chains of lower degrees with one piece more, each once.
-use Rattle.std.proofs.Common.{◌≡◌, ◌≢◌, ◌↔◌, ◌+◌, ◌-◌, ◌<◌, ◌≤◌, ◌&&◌, ◌==◌, ℕ, Bool, true, false, not, cond, List, [], ◌∷◌, ◌++◌, length, refl, sym}
+use Rattle.std.proofs.Common.{◌≡◌, ◌≢◌, ◌↔◌, ◌+◌, ◌-◌, ◌<◌, ◌&&◌, ◌==◌, ℕ, Bool, true, false, not, cond, List, [], ◌∷◌, ◌++◌, length, refl, sym}
 use Rattle.std.proofs.Common.{ap, ◌∙◌, inl, inr, arith, subst, AllPairs, append-nil, eq-eqb}
 use Rattle.std.specs.List.{Contains, flat_map, range_with_len}
 use Rattle.std.proofs.lemmas.Bool.{eqb-true}
@@ -15,7 +15,7 @@ use Rattle.overlaps.specs.Walk.{lead_word}
 use Rattle.anick_chains.specs.BasisTips.{leads_of}
 use Rattle.anick_chains.specs.Chains.{HasTip, IsChain, IsFirst, chain_degree}
 use Rattle.anick_chains.specs.Laws.{AreListedTips, IsExtension}
-use Rattle.anick_chains.specs.Walk.{chains_at, continued, free_letter, free_letters, last_piece, next_of, next_pieces, onward, stands}
+use Rattle.anick_chains.specs.Walk.{chains_at, continued, free_letter, free_letters, last_piece, next_of, onward, stands}
 use Rattle.anick_chains.proofs.Ends.{IsEnded, same_ends}
 use Rattle.anick_chains.proofs.Extensions.{are_tips, extension_to_next, next_to_extension}
 use Rattle.anick_chains.proofs.LastPieces.{chain_ended, last_piece-is}

@@ -1,6 +1,6 @@
 -- What an index of the leading words of a basis answers on the tips that stand in a word.
-use Rattle.std.proofs.Common.{◌≡◌, ◌++◌, ◌+◌, ℕ, true, false, cond, List, [], ◌∷◌, length, take, drop, get_or, refl, sym, ap, ◌∙◌, arith, subst, Some}
-use Rattle.std.proofs.Common.{append-nil, append_assoc}
+use Rattle.std.proofs.Common.{◌≡◌, ◌++◌, ℕ, true, false, List, [], length, take, drop, get_or, sym, ap, ◌∙◌, subst, Some}
+use Rattle.std.proofs.Common.{append_assoc}
 use Rattle.std.specs.List.{Contains}
 use Rattle.std.proofs.lemmas.List.{take-append-drop}
 use Rattle.std.proofs.lemmas.List.Elements.{All-contains}
@@ -16,7 +16,7 @@ use Rattle.overlaps.proofs.Fronts.{occurs_inside}
 use Rattle.overlaps.proofs.Places.{element_kept, lead-is, monic-lead}
 use Rattle.anick_chains.specs.BasisTips.{leads_of}
 use Rattle.anick_chains.specs.Chains.{HasTip}
-use Rattle.anick_chains.specs.Walk.{stands, unless_stands}
+use Rattle.anick_chains.specs.Walk.{stands}
 use Rattle.anick_chains.proofs.Nexts.{lead_listed, listed_lead}
 use Rattle.anick_chains.proofs.Stands.{stands-has, stands-not}
 

@@ -1,3 +1,4 @@
+pub mod FirstMany
 pub mod Ends
 pub mod Tips
 pub mod Mates

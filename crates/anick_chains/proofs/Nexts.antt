@@ -1,16 +1,15 @@
 -- The walk through the tips lists exactly the pieces that may follow a piece, each once.
 use Rattle.std.proofs.Common.{◌≡◌, ◌≢◌, ◌+◌, ◌-◌, ◌<◌, ◌≤◌, ℕ, Bool, true, false, cond, List, [], ◌∷◌, ◌++◌, length, take, drop, map, get_or, refl}
 use Rattle.std.proofs.Common.{sym, ap, ◌∙◌, inl, inr, arith, subst, AllPairs, length-append, length-drop, length-take, append-nil}
-use Rattle.std.specs.List.{Contains, flat_map, range_with_len}
-use Rattle.std.proofs.lemmas.Bool.{cases_lt}
-use Rattle.std.proofs.lemmas.List.{append_assoc, append_cancel_right, get_or_default, take-append-drop}
+use Rattle.std.specs.List.{Contains, range_with_len}
+use Rattle.std.proofs.lemmas.List.{append_assoc, get_or_default, take-append-drop}
 use Rattle.std.proofs.lemmas.List.Elements.{All-nil}
 use Rattle.std.proofs.lemmas.List.Kept.{AllPairs-cons}
 use Rattle.words.specs.Words.{degree_of}
 use Rattle.words.proofs.Degrees.{Contains-range, range-bounds, range-rising}
 use Rattle.words.proofs.Members.{AllPairs-nil, Contains-cases, Contains-first, Contains-flat_map, Contains-flat_map_cases, Contains-map}
 use Rattle.words.proofs.Members.{Contains-map_cases, Contains-none}
-use Rattle.words.proofs.Weights.{degree_of-append, degree_of-take}
+use Rattle.words.proofs.Weights.{degree_of-append}
 use Rattle.free_poly.specs.declared.term.Term.{Term}
 use Rattle.free_poly.specs.Poly.{lead_or_none}
 use Rattle.ideal_laws.proofs.Meeting.{split}
@@ -20,7 +19,7 @@ use Rattle.anick_chains.specs.BasisTips.{leads_of}
 use Rattle.anick_chains.specs.Chains.{HasTip}
 use Rattle.anick_chains.specs.Laws.{AreListedTips, IsExtension}
 use Rattle.anick_chains.specs.Walk.{end_of, ends_of, goes_on, next_pieces, stands, unless_stands}
-use Rattle.anick_chains.proofs.Ends.{ended, length-ended, no_end}
+use Rattle.anick_chains.proofs.Ends.{ended, length-ended}
 use Rattle.anick_chains.proofs.Fitting.{goes_on-both, goes_on-says}
 use Rattle.anick_chains.proofs.Members.{AllPairs-joined}
 use Rattle.anick_chains.proofs.Stands.{stands-free, stands-not}

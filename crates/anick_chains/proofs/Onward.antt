@@ -1,5 +1,5 @@
 -- The chains of a list, one after another, with one more piece.
-use Rattle.std.proofs.Common.{◌≡◌, ◌+◌, ◌<◌, ◌≤◌, ℕ, List, ◌++◌, ◌∷◌, [], All, length, map, take, get_or, sym, ap, ◌∙◌, arith, subst, length-append}
+use Rattle.std.proofs.Common.{◌≡◌, ◌+◌, ◌<◌, ◌≤◌, ℕ, List, ◌++◌, ◌∷◌, [], All, length, take, get_or, sym, ap, ◌∙◌, arith, subst, length-append}
 use Rattle.std.specs.List.{Contains, flat_map}
 use Rattle.std.proofs.lemmas.List.{length-map, take_all}
 use Rattle.std.proofs.lemmas.List.Folds.{flat_map-map}
@@ -14,7 +14,7 @@ use Rattle.anick_chains.specs.declared.chain.Chain.{Chain}
 use Rattle.anick_chains.specs.BasisTips.{leads_of}
 use Rattle.anick_chains.specs.Chains.{AreNext, IsChain}
 use Rattle.anick_chains.specs.Listed.{AreListed, pieces_of, with_degree}
-use Rattle.anick_chains.specs.Walk.{continued, last_piece, next_of, onward}
+use Rattle.anick_chains.specs.Walk.{last_piece, next_of, onward}
 use Rattle.anick_chains.proofs.BasisTips.{listed_tips}
 use Rattle.anick_chains.proofs.Extensions.{are_tips}
 use Rattle.anick_chains.proofs.LastPieces.{chain_ended, last_piece-is}

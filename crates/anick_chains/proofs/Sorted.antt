@@ -1,19 +1,18 @@
 -- The chains of a degree by length, and then by falling pieces.
-use Rattle.std.proofs.Common.{◌≡◌, ◌≢◌, ◌<◌, ℕ, Bool, true, false, List, map, length, get_or, refl, sym, ap, ◌∙◌, inl, inr, arith, AllPairs, All, subst}
+use Rattle.std.proofs.Common.{◌≡◌, ◌≢◌, ℕ, Bool, false, List, get_or, refl, sym, ap, ◌∙◌, inr, arith, AllPairs, All, subst}
 use Rattle.std.specs.List.{Contains, IsDistinct}
 use Rattle.std.specs.List.Sorted.{IsPermutation, IsSorted}
-use Rattle.std.specs.Ordering.{eq_by_cmp, is_eq, is_lt, ordering_reverse}
+use Rattle.std.specs.Ordering.{eq_by_cmp, is_eq}
 use Rattle.std.specs.Cmp.{IsTotalOrder, on_total}
 use Rattle.std.specs.declared.cmp.Ordering.{Ordering}
 use Rattle.std.specs.declared.cmp.Ordering.TheVariants.{Less, Equal, Greater}
-use Rattle.std.proofs.lemmas.Bool.{cases_Bool}
 use Rattle.std.proofs.lemmas.List.{get_or_default}
 use Rattle.std.proofs.lemmas.List.Elements.{All-contains}
-use Rattle.std.proofs.lemmas.List.MinMax.{ranks_by}
-use Rattle.std.proofs.lemmas.List.Sorted.{Contains-permutation, IsPermutation-sym, sorted_far}
-use Rattle.std.proofs.lemmas.Map.Keys.{IsDistinct-IsPermutation, IsDistinct-from_apart, apart_from_distinct}
+use Rattle.std.proofs.lemmas.List.Sorted.{Contains-permutation, IsPermutation-sym}
+use Rattle.std.proofs.lemmas.Map.Keys.{IsDistinct-IsPermutation, IsDistinct-from_apart}
 use Rattle.words.specs.Words.{AreWeights}
 use Rattle.words.proofs.Members.{AllPairs-map, All-from_members, Contains-map, Contains-map_cases}
+use Rattle.overlaps.proofs.Strict.{strictly, tied_both}
 use Rattle.anick_chains.specs.declared.chain.Chain.{Chain}
 use Rattle.anick_chains.specs.Chains.{chain_degree}
 use Rattle.anick_chains.specs.Compare.{pieces_cmp}
@@ -32,14 +31,6 @@ module _ (weights : List ℕ) (aw : AreWeights weights) where
   abbrev AreTied : Chain → Chain → Bool
   AreTied = eq_by_cmp found_cmp
 
-  tied_both : (x y : Chain) → AreTied x y ≡ AreTied y x
-  tied_both x y = ap is_eq (found_total.antisymm x y) ∙ turned (found_cmp y x)
-    where
-      turned : (r : Ordering) → is_eq (ordering_reverse r) ≡ is_eq r
-      turned Less = refl
-      turned Equal = refl
-      turned Greater = refl
-
   untied : (x y : Chain) → x.pieces ≢ y.pieces → AreTied x y ≡ false
   untied x y ne = by_order (found_cmp x y) refl
     where
@@ -47,19 +38,6 @@ module _ (weights : List ℕ) (aw : AreWeights weights) where
       by_order Less e = ap is_eq e
       by_order Equal e = absurd (ne (pieces_ties weights aw x.pieces y.pieces e))
       by_order Greater e = ap is_eq e
-
-  -- a sorted list without ties
-  strictly : (xs : List Chain) → IsSorted found_cmp xs → IsDistinct AreTied xs → AllPairs (λ x y. found_cmp x y ≡ Less) xs
-  strictly xs sorted apart i j e before within =
-      less (found_cmp (get_or xs i e) (get_or xs j e)) (apart_from_distinct AreTied xs i j e apart before within)
-      (ap is_lt (sym (found_total.antisymm (get_or xs j e) (get_or xs i e)))
-      ∙ sorted_far (λ x y. is_lt (found_cmp x y)) (ranks_by found_total (λ (x : Chain). x)) xs sorted i j e (omega (arith, before))
-      within)
-    where
-      less : (r : Ordering) → is_eq r ≡ false → is_lt (ordering_reverse r) ≡ false → r ≡ Less
-      less Less f g = refl
-      less Equal f g = cc f
-      less Greater f g = cc g
 
   module _ (d : ℕ) (all : List (List (List ℕ))) (apart : AllPairs (λ a b. a ≢ b) all) (degree : All (λ c. chain_degree weights c ≡ d) all)
       (block sorted : List Chain) (is : block ≡ with_degree d all) (moved : IsPermutation block sorted) where
@@ -91,7 +69,7 @@ module _ (weights : List ℕ) (aw : AreWeights weights) where
     -- in the order of chains
     pub sorted_stands : IsSorted found_cmp sorted → AllPairs (StandsBefore weights) (pieces_of sorted)
     sorted_stands up =
-        let pairs = strictly sorted up (IsDistinct-IsPermutation AreTied tied_both block sorted moved (subst (IsDistinct AreTied) (sym is)
+        let pairs = strictly found_cmp found_total sorted up (IsDistinct-IsPermutation AreTied (tied_both found_cmp found_total) block sorted moved (subst (IsDistinct AreTied) (sym is)
         (IsDistinct-from_apart AreTied (with_degree d all) (AllPairs-map chain_of (λ a b. a ≢ b) (λ x y. AreTied x y ≡ false)
         (λ a b ne. untied (chain_of a) (chain_of b) ne) all apart)))) in
         AllPairs-map (λ (x : Chain). x.pieces) (λ x y. StandsBefore weights x.pieces y.pieces) (StandsBefore weights) (λ x y s. s) sorted

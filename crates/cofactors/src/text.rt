@@ -2,7 +2,7 @@ ghost use Rattle.std.specs.Prelude.{◌≡◌, ◌++◌, ◌<◌, All, IfOk, cod
 ghost use Rattle.std.specs.List.{flat_map};
 ghost use Rattle.words.specs.Words.{IsOver};
 ghost use Rattle.free_poly.specs.Terms.{HasResidues, UsesLetters};
-ghost use Rattle.poly_writer.specs.Texts.{line, size_of, size_text, term_text};
+ghost use Rattle.poly_writer.specs.Texts.{line, size_text, term_text};
 ghost use Rattle.cofactors.specs.Texts.{answer_text, factor_text, first_text, minus_text, normal_text, product_line};
 ghost use Rattle.cofactors.specs.Texts.{residue_text};
 
@@ -10,7 +10,7 @@ use crate::certificate::Certificate;
 use crate::product::Product;
 use field_table::Field;
 use free_poly::{Poly, Term};
-use poly_writer::{push_number, push_size, push_term, push_word};
+use poly_writer::{balanced_size, push_number, push_size, push_term, push_word};
 use std::alloc::Global;
 use words::{Alphabet, NoMemory};
 
@@ -74,21 +74,8 @@ fn push_first(
     ensures { IfOk result (λ _. text.new.items ≡ text.old.items ++ first_text alphabet.now.names field.now term.now) }
 {
     push_minus(text, field, term.coefficient)?;
-    push_size(text, size(field, term.coefficient))?;
+    push_size(text, balanced_size(field, term.coefficient))?;
     push_word(text, alphabet, term.word.letters())
-}
-
-/// The size of the balanced residue.
-fn size(field: &Field, residue: u32) -> u32
-    requires { residue < field.now }
-    ensures { result ≡ size_of field.now residue }
-{
-    let modulus = field.modulus();
-    if residue <= modulus / 2 {
-        residue
-    } else {
-        modulus - residue
-    }
 }
 
 /// The sign of the balanced residue, where it is negative.
@@ -115,7 +102,7 @@ fn push_product(
 {
     text.extend_from_slice(b"from ")?;
     push_minus(text, field, product.coefficient)?;
-    push_number(text, u64::from(size(field, product.coefficient)))?;
+    push_number(text, u64::from(balanced_size(field, product.coefficient)))?;
     text.extend_from_slice(b" ")?;
     push_factor(text, alphabet, product.left.letters())?;
     text.extend_from_slice(b" ")?;

@@ -1,29 +1,20 @@
 -- The number of normal words of a degree is its Hilbert coefficient.
-use Rattle.std.proofs.Common.{◌≡◌, ◌≢◌, ◌⊎◌, ◌+◌, ◌<◌, ◌≤◌, ℕ, zero, suc, List, [], ◌∷◌, ◌++◌, length, take, drop, refl, sym, ap, ◌∙◌, inl, inr}
-use Rattle.std.proofs.Common.{arith, All, AllPairs, subst, Some, append_assoc, length-append}
+use Rattle.std.proofs.Common.{◌≡◌, ◌≢◌, ◌+◌, ◌≤◌, ℕ, List, [], ◌∷◌, ◌++◌, length, refl, ap, inl, inr}
+use Rattle.std.proofs.Common.{arith, AllPairs, subst, length-append}
 use Rattle.std.specs.List.{Contains}
-use Rattle.std.proofs.Math.Seq.{drop-append_seam, take-append_seam}
-use Rattle.std.proofs.lemmas.List.{take-append-drop}
 use Rattle.std.proofs.lemmas.List.Elements.{All-contains, Contains-append_cases, Contains-append_left, Contains-append_right}
-use Rattle.words.specs.Words.{IsFactor, OccursAt, degree_of, words_of_degree}
-use Rattle.words.proofs.Degrees.{words_of_degree-says}
 use Rattle.words.proofs.Members.{AllPairs-first, AllPairs-rest, Contains-cases, Contains-first, Contains-more, Contains-none}
 use Rattle.free_poly.specs.declared.term.Term.{Term}
-use Rattle.free_poly.specs.Poly.{lead_of}
-use Rattle.free_poly.proofs.Products.{degree_of-round}
 use Rattle.free_poly.proofs.Totals.{letterwise-apart}
-use Rattle.ideal_laws.specs.Closure.{IsNormal}
 use Rattle.ideal_laws.specs.Dimension.{IsHilbertCoefficient}
 use Rattle.ideal_laws.specs.Engine.{Elements, IsReducedUpto}
-use Rattle.ideal_laws.specs.Ideal.{IsLeadingWord}
 use Rattle.ideal_laws.specs.Kept.{IsKept}
 use Rattle.ideal_laws.specs.Laws.{IsSetting}
 use Rattle.ideal_laws.specs.Overlaps.{AreLower}
 use Rattle.ideal_laws.proofs.Dimensions.{has_one_dimension}
-use Rattle.ideal_laws.proofs.Factors.{factor_law}
 use Rattle.ideal_laws.proofs.Lower.{lists_lower}
-use Rattle.ideal_laws.proofs.OneBasis.{minimal_led}
 use Rattle.hilbert.specs.Series.{CountsCoefficients, IsCount}
+use Rattle.hilbert.proofs.NormalLeads.{normal_from, normal_no_lead}
 
 -- a list that has x, in the parts before and after it
 record IsHad {X : Type 0} (x : X) (xs : List X) : Type 0 where
@@ -53,48 +44,10 @@ no_longer (x ∷ xs) ys p h =
     ]) in
     omega (arith, rest, length-append k.before k.after, length-append k.before (x ∷ k.after), ap length k.is)
 
-factor_occurs : (v w : List ℕ) (f : IsFactor v w) → OccursAt v w (length f.before)
-factor_occurs v w f =
-    let split : w ≡ f.before ++ (v ++ f.after) = f.joined ∙ append_assoc f.before v f.after in
-    record {
-      within = omega (arith, ap length split, length-append f.before (v ++ f.after), length-append v f.after);
-      same = ap (λ (x : List ℕ). take (length v) (drop (length f.before) x)) split
-          ∙ ap (take (length v)) (drop-append_seam f.before (v ++ f.after)) ∙ take-append_seam v f.after;
-    }
-
-occurs_factor : (v w : List ℕ) (k : ℕ) → OccursAt v w k → IsFactor v w
-occurs_factor v w k o = record {
-  before = take k w;
-  after = drop (length v) (drop k w);
-  joined = sym (append_assoc (take k w) v (drop (length v) (drop k w)) ∙ ap (λ (x : List ℕ). take k w ++ (x ++ drop (length v) (drop k w))) (sym o.same)
-      ∙ ap (λ (x : List ℕ). take k w ++ x) (take-append-drop (length v) (drop k w)) ∙ take-append-drop k w);
-}
-
 module _ (p : ℕ) (relations : List (List Term)) (basis : Elements) (st : IsSetting p basis.weights relations) (kept : IsKept basis)
     (upto : IsReducedUpto p relations basis) where
   lower : AreLower p basis.weights relations (basis.done + 1) basis.elements
   lower = lists_lower p basis.weights relations st (basis.done + 1) basis (record { kept = kept; next = refl; same_weights = refl; reduced = upto })
-
-  -- a leading word is not normal
-  leading_not_normal : (d : ℕ) (w : List ℕ) → d ≤ basis.done → Contains (words_of_degree basis.weights d) w → IsNormal basis.elements w →
-      IsLeadingWord p basis.weights relations d w → ⊥
-  leading_not_normal d w le m normal l =
-      let says = words_of_degree-says basis.weights st.are_weights d w m in
-      let own = subst (λ (n : ℕ). IsLeadingWord p basis.weights relations n w) (sym says.1) l in
-      let f = (factor_law p basis.weights relations st w says.0).0 own in
-      let g = minimal_led p basis.weights relations st f.0 f.2 in
-      let within : degree_of basis.weights f.0 < basis.done + 1 =
-      omega (arith, le, says.1, ap (degree_of basis.weights) f.1.joined, degree_of-round basis.weights f.1.before f.0 f.1.after) in
-      normal g.0 f.0 (length f.1.before) ((lower g.0).1 (degree_of basis.weights f.0, within, g.1)) g.2 (factor_occurs f.0 w f.1)
-
-  -- the other words are
-  normal_from : (d : ℕ) (w : List ℕ) → Contains (words_of_degree basis.weights d) w → (IsLeadingWord p basis.weights relations d w → ⊥) →
-      IsNormal basis.elements w
-  normal_from d w m not g v k among led o =
-      let says = words_of_degree-says basis.weights st.are_weights d w m in
-      let r = (lower g).0 among in
-      not (subst (λ (n : ℕ). IsLeadingWord p basis.weights relations n w) says.1
-      ((factor_law p basis.weights relations st w says.0).1 (v, occurs_factor v w k o, r.2.minimal v led)))
 
   pub count_coefficient : (d n : ℕ) → d ≤ basis.done → IsCount basis.weights basis.elements d n → IsHilbertCoefficient p basis.weights relations d n
   count_coefficient d n le c =
@@ -104,14 +57,15 @@ module _ (p : ℕ) (relations : List (List Term)) (basis : Elements) (st : IsSet
       (λ w m.
       let s = (c.are_normal.exactly w).0 m in
       elim ((H.split w).0 s.0) [
-        | inl l ↦ absurd (leading_not_normal d w le s.0 s.1 ((H.are_leading.exactly w).0 l))
+        | inl l ↦ absurd (normal_no_lead p basis.weights relations st (basis.done + 1) basis.elements lower d w (omega (arith, le)) s.0 s.1
+            ((H.are_leading.exactly w).0 l))
         | inr o ↦ o
       ]) in
       let back : length H.others ≤ length c.words =
       no_longer H.others c.words H.apart
       (λ w m.
       let all = (H.split w).1 (inr m) in
-      (c.are_normal.exactly w).1 (all, normal_from d w all (H.are_others w m))) in
+      (c.are_normal.exactly w).1 (all, normal_from p basis.weights relations st (basis.done + 1) basis.elements lower d w all (H.are_others w m))) in
       (H.coefficient n).1 (omega (arith, there, back, c.count))
 
 pub counts_coefficients : CountsCoefficients

@@ -1,3 +1,4 @@
 pub mod Indexed
+pub mod NormalLeads
 pub mod Coefficients
 pub mod Steps

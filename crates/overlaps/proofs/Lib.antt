@@ -5,5 +5,6 @@ pub mod Sums
 pub mod Ordered
 pub mod Exactly
 pub mod Apart
+pub mod Strict
 pub mod Sorted
 pub mod Rows

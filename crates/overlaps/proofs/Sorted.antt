@@ -1,15 +1,14 @@
 -- A list of obstructions by falling word, and then by the left element.
-use Rattle.std.proofs.Common.{◌≡◌, ◌⊎◌, ◌<◌, ℕ, Bool, false, List, map, get_or, refl, sym, ap, ◌∙◌, inl, inr, arith, AllPairs, subst}
+use Rattle.std.proofs.Common.{◌≡◌, ◌⊎◌, ◌<◌, ℕ, Bool, false, List, map, refl, sym, ap, ◌∙◌, inl, inr, arith, subst}
 use Rattle.std.specs.List.{Contains, IsDistinct}
 use Rattle.std.specs.List.Sorted.{IsPermutation, IsSorted}
-use Rattle.std.specs.Ordering.{eq_by_cmp, is_eq, is_lt, nat_cmp, ordering_reverse, ordering_then}
+use Rattle.std.specs.Ordering.{eq_by_cmp, is_eq, nat_cmp, ordering_reverse, ordering_then}
 use Rattle.std.specs.Cmp.{IsTotalOrder, back_total, on_total, then_total}
 use Rattle.std.specs.declared.cmp.Ordering.{Ordering}
 use Rattle.std.specs.declared.cmp.Ordering.TheVariants.{Less, Equal, Greater}
 use Rattle.std.proofs.lemmas.Cmp.{by_ranked, nat_cmp_total, ranked}
-use Rattle.std.proofs.lemmas.List.MinMax.{ranks_by}
-use Rattle.std.proofs.lemmas.List.Sorted.{Contains-permutation, IsPermutation-sym, sorted_far}
-use Rattle.std.proofs.lemmas.Map.Keys.{IsDistinct-IsPermutation, IsDistinct-from_apart, apart_from_distinct}
+use Rattle.std.proofs.lemmas.List.Sorted.{Contains-permutation, IsPermutation-sym}
+use Rattle.std.proofs.lemmas.Map.Keys.{IsDistinct-IsPermutation, IsDistinct-from_apart}
 use Rattle.words.specs.Order.{letterwise_cmp}
 use Rattle.words.specs.OrderLaws.{letterwise_total}
 use Rattle.words.proofs.Members.{AllPairs-map, Contains-map, Contains-map_cases}
@@ -20,6 +19,7 @@ use Rattle.ideal_laws.proofs.Search.{same_lists}
 use Rattle.overlaps.specs.declared.obstruction.Obstruction.{Obstruction}
 use Rattle.overlaps.specs.Listed.{AreListed, obstruction_of}
 use Rattle.overlaps.specs.Walk.{all_blocks, found_cmp}
+use Rattle.overlaps.proofs.Strict.{strictly, tied_both}
 use Rattle.overlaps.proofs.Apart.{all_compare, are_obstructions, in_order}
 
 pub found_total : IsTotalOrder found_cmp
@@ -53,27 +53,6 @@ before_precedes o q (inr e) =
 abbrev AreTied : Obstruction → Obstruction → Bool
 AreTied = eq_by_cmp found_cmp
 
-tied_both : (x y : Obstruction) → AreTied x y ≡ AreTied y x
-tied_both x y = ap is_eq (found_total.antisymm x y) ∙ turned (found_cmp y x)
-  where
-    turned : (r : Ordering) → is_eq (ordering_reverse r) ≡ is_eq r
-    turned Less = refl
-    turned Equal = refl
-    turned Greater = refl
-
--- a sorted list without ties
-strictly : (xs : List Obstruction) → IsSorted found_cmp xs → IsDistinct AreTied xs → AllPairs Precedes xs
-strictly xs sorted apart i j e before within =
-    less (found_cmp (get_or xs i e) (get_or xs j e)) (apart_from_distinct AreTied xs i j e apart before within)
-    (ap is_lt (sym (found_total.antisymm (get_or xs j e) (get_or xs i e)))
-    ∙ sorted_far (λ x y. is_lt (found_cmp x y)) (ranks_by found_total (λ (x : Obstruction). x)) xs sorted i j e (omega (arith, before))
-    within)
-  where
-    less : (r : Ordering) → is_eq r ≡ false → is_lt (ordering_reverse r) ≡ false → r ≡ Less
-    less Less f g = refl
-    less Equal f g = cc f
-    less Greater f g = cc g
-
 module _ (b : Elements) (kept : IsKept b) (free : IsFactorFree b.elements) (d : ℕ) where
   abbrev walked : List Overlap
   walked = all_blocks b.weights b.elements d
@@ -83,7 +62,7 @@ module _ (b : Elements) (kept : IsKept b) (free : IsFactorFree b.elements) (d : 
 
   untied : (o q : Overlap) → OverlapsBefore o q ⊎ OverlapsBefore q o → AreTied (obstruction_of o) (obstruction_of q) ≡ false
   untied o q (inl h) = ap is_eq (before_precedes o q h)
-  untied o q (inr h) = tied_both (obstruction_of o) (obstruction_of q) ∙ ap is_eq (before_precedes q o h)
+  untied o q (inr h) = tied_both found_cmp found_total (obstruction_of o) (obstruction_of q) ∙ ap is_eq (before_precedes q o h)
 
   apart : IsDistinct AreTied (map obstruction_of walked)
   apart = IsDistinct-from_apart AreTied (map obstruction_of walked)
@@ -112,8 +91,8 @@ module _ (b : Elements) (kept : IsKept b) (free : IsFactorFree b.elements) (d : 
     overlaps = listed;
     are_obstructions = are_obstructions b kept free d;
     shown =
-        let distinct = IsDistinct-IsPermutation AreTied tied_both found sorted moved (subst (IsDistinct AreTied) (sym is) apart) in
-        same_lists Precedes precedes_itself found_total.trans sorted (map obstruction_of listed) (strictly sorted up distinct)
+        let distinct = IsDistinct-IsPermutation AreTied (tied_both found_cmp found_total) found sorted moved (subst (IsDistinct AreTied) (sym is) apart) in
+        same_lists Precedes precedes_itself found_total.trans sorted (map obstruction_of listed) (strictly found_cmp found_total sorted up distinct)
         (AllPairs-map obstruction_of OverlapsBefore Precedes before_precedes listed (in_order b kept free d).ordered)
         (there found sorted is moved) (back found sorted is moved);
   }

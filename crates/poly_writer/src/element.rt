@@ -2,7 +2,8 @@ ghost use Rattle.std.specs.Prelude.{◌≡◌, ◌<◌, ◌++◌, All, length, I
 ghost use Rattle.words.specs.Words.{IsOver};
 ghost use Rattle.free_poly.specs.Poly.{IsMonic};
 ghost use Rattle.free_poly.specs.Terms.{HasResidues, UsesLetters};
-ghost use Rattle.poly_writer.specs.Texts.{degree_text, element_line, head_line, poly_text, size_text, term_text};
+ghost use Rattle.poly_writer.specs.Texts.{degree_text, element_line, head_line, poly_text, sign_text, size_of, size_text};
+ghost use Rattle.poly_writer.specs.Texts.{term_text};
 
 use crate::piece::{push_number, push_word};
 use field_table::Field;
@@ -133,15 +134,33 @@ pub fn push_term(
     requires residue { term.now.coefficient < field.now }
     ensures { IfOk result (λ _. text.new.items ≡ text.old.items ++ term_text alphabet.now.names field.now term.now) }
 {
-    let modulus = field.modulus();
-    if term.coefficient <= modulus / 2 {
-        text.extend_from_slice(b"+")?;
-        push_size(text, term.coefficient)?;
-    } else {
-        text.extend_from_slice(b"-")?;
-        push_size(text, modulus - term.coefficient)?;
-    }
+    push_sign(text, field, term.coefficient)?;
+    push_size(text, balanced_size(field, term.coefficient))?;
     push_word(text, alphabet, term.word.letters())
+}
+
+/// Adds the sign of the balanced residue to the text.
+fn push_sign(text: &mut Vec<u8>, field: &Field, residue: u32) -> Result<(), NoMemory>
+    ensures { IfOk result (λ _. text.new.items ≡ text.old.items ++ sign_text field.now residue) }
+{
+    if residue <= field.modulus() / 2 {
+        text.extend_from_slice(b"+")
+    } else {
+        text.extend_from_slice(b"-")
+    }
+}
+
+/// The size of the balanced residue.
+pub fn balanced_size(field: &Field, residue: u32) -> u32
+    requires { residue < field.now }
+    ensures { result ≡ size_of field.now residue }
+{
+    let modulus = field.modulus();
+    if residue <= modulus / 2 {
+        residue
+    } else {
+        modulus - residue
+    }
 }
 
 /// Adds the size of a coefficient and a star to the text, and nothing where it is 1.

@@ -9,7 +9,9 @@ mod series;
 mod tests;
 mod trace;
 
-pub use element::{degree_text, element_line, head_line, poly_text, push_size, push_term};
+pub use element::{
+    balanced_size, degree_text, element_line, head_line, poly_text, push_size, push_term,
+};
 pub use piece::{push_number, push_word};
 pub use series::series_text;
 pub use trace::trace_text;

@@ -228,6 +228,19 @@ one-byte c text s e h =
     let z : get_or text s 0 ∷ span text (s + 1) e ≡ c ∷ [] = sym (span-cons text s e b.within b.more) ∙ q in
     record { within = b.within; more = b.more; here = eqb-true (get_or text s 0) c b.here; tail = cc }
 
+-- a mark of one byte
+spells-byte : (mark : Mark) (text : List ℕ) (s e : ℕ) → bytes_eq (span text s e) (kind mark ∷ []) ≡ true → byte_kind (kind mark) ≡ kind mark →
+    value_of mark ≡ value_at (kind mark) (span text s e) → kind mark ≢ 9 → Spells mark text s e
+spells-byte mark text s e h own value known = let b = one-byte (kind mark) text s e h in
+    record {
+      within = b.within;
+      more = b.more;
+      kind_is = ap byte_kind b.here ∙ own;
+      tail = ap (are_all (goes (kind mark))) b.tail;
+      value_is = value;
+      known = known;
+    }
+
 spells : (mark : Mark) (text : List ℕ) (s e : ℕ) → is_text mark (span text s e) ≡ true → Spells mark text s e
 spells marks.Name text s e h =
     let x = span text s e in
@@ -255,69 +268,13 @@ spells (marks.Number value) text s e h =
           sym (eqb-true (with_digits 0 x) value (and_second (begins is_digit x && are_all is_digit x) (with_digits 0 x == value) h));
       known = λ f. omega arith;
     }
-spells marks.Plus text s e h = let b = one-byte 43 text s e h in
-    record {
-      within = b.within;
-      more = b.more;
-      kind_is = ap byte_kind b.here;
-      tail = ap (are_all (goes 43)) b.tail;
-      value_is = refl;
-      known = λ f. omega arith;
-    }
-spells marks.Minus text s e h = let b = one-byte 45 text s e h in
-    record {
-      within = b.within;
-      more = b.more;
-      kind_is = ap byte_kind b.here;
-      tail = ap (are_all (goes 45)) b.tail;
-      value_is = refl;
-      known = λ f. omega arith;
-    }
-spells marks.Star text s e h = let b = one-byte 42 text s e h in
-    record {
-      within = b.within;
-      more = b.more;
-      kind_is = ap byte_kind b.here;
-      tail = ap (are_all (goes 42)) b.tail;
-      value_is = refl;
-      known = λ f. omega arith;
-    }
-spells marks.Caret text s e h = let b = one-byte 94 text s e h in
-    record {
-      within = b.within;
-      more = b.more;
-      kind_is = ap byte_kind b.here;
-      tail = ap (are_all (goes 94)) b.tail;
-      value_is = refl;
-      known = λ f. omega arith;
-    }
-spells marks.Comma text s e h = let b = one-byte 44 text s e h in
-    record {
-      within = b.within;
-      more = b.more;
-      kind_is = ap byte_kind b.here;
-      tail = ap (are_all (goes 44)) b.tail;
-      value_is = refl;
-      known = λ f. omega arith;
-    }
-spells marks.Semicolon text s e h = let b = one-byte 59 text s e h in
-    record {
-      within = b.within;
-      more = b.more;
-      kind_is = ap byte_kind b.here;
-      tail = ap (are_all (goes 59)) b.tail;
-      value_is = refl;
-      known = λ f. omega arith;
-    }
-spells marks.Colon text s e h = let b = one-byte 58 text s e h in
-    record {
-      within = b.within;
-      more = b.more;
-      kind_is = ap byte_kind b.here;
-      tail = ap (are_all (goes 58)) b.tail;
-      value_is = refl;
-      known = λ f. omega arith;
-    }
+spells marks.Plus text s e h = spells-byte marks.Plus text s e h refl refl (λ f. omega arith)
+spells marks.Minus text s e h = spells-byte marks.Minus text s e h refl refl (λ f. omega arith)
+spells marks.Star text s e h = spells-byte marks.Star text s e h refl refl (λ f. omega arith)
+spells marks.Caret text s e h = spells-byte marks.Caret text s e h refl refl (λ f. omega arith)
+spells marks.Comma text s e h = spells-byte marks.Comma text s e h refl refl (λ f. omega arith)
+spells marks.Semicolon text s e h = spells-byte marks.Semicolon text s e h refl refl (λ f. omega arith)
+spells marks.Colon text s e h = spells-byte marks.Colon text s e h refl refl (λ f. omega arith)
 spells marks.End text s e h = absurd (let f : false ≡ true = h in cc)
 
 nothing-goes : (rest : List ℕ) → begins (λ b. false) rest ≡ false

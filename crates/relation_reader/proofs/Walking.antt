@@ -145,11 +145,6 @@ none-first : (next : Option Place) (fault : InputFault) (others : List (Option I
 none-first None fault others found e none = absurd (let f : true ≡ false = sym (ap is_some e) ∙ none in cc)
 none-first (Some place) fault others found e none = refl
 
--- a token without a fault may come
-pub none-comes : (before : List Placed) (t : Placed) (after : List Placed) (found : Option InputFault) →
-    found ≡ first_of (faults_here before t after) → is_some found ≡ false → is_some (next_place t.place t.lexeme) ≡ true
-none-comes before t after found e none = none-first (next_place t.place t.lexeme) (refusal t.place t.lexeme t.at) _ found e none
-
 is_none-some : (found : Option InputFault) → is_some found ≡ false → found ≡ None
 is_none-some None none = refl
 is_none-some (Some fault) none = absurd (let f : true ≡ false = none in cc)
@@ -163,9 +158,15 @@ when-false : (b : Bool) (fault : InputFault) (others : List (Option InputFault))
 when-false true fault others none = absurd (let f : Some fault ≡ None = none in cc)
 when-false false fault others none = refl
 
--- a token without a fault is no exponent above 256
-pub none-small : (before : List Placed) (t : Placed) (after : List Placed) (found : Option InputFault) →
-    found ≡ first_of (faults_here before t after) → is_some found ≡ false → is_exponent (nat_lt 256) t.place t.lexeme ≡ false
-none-small before t after found e none =
-    when-false (is_exponent (nat_lt 256) t.place t.lexeme) (faults.ExponentTooLarge t.at) _
-    (first_of-drop 7 (faults_here before t after) (sym e ∙ is_none-some found none))
+module _ {text : List ℕ} {tokens : List Token} {stop : Option InputFault} {at : ℕ} {place : Place} {t : Token} {before : List Placed}
+    {found : Option InputFault} (finds : Finds text tokens stop at place t before found) (none : is_some found ≡ false) where
+  -- a token without a fault may come
+  pub none-comes : is_some (next_place place (lexeme_of t.mark (span text t.start t.end))) ≡ true
+  none-comes = none-first (next_place place (lexeme_of t.mark (span text t.start t.end))) (refusal place _ t.start) _ found finds.here none
+
+  -- and is no exponent above 256
+  pub none-small : is_exponent (nat_lt 256) place (lexeme_of t.mark (span text t.start t.end)) ≡ false
+  none-small =
+      let after = behind text stop place t (drop (at + 1) tokens) in
+      when-false (is_exponent (nat_lt 256) place (lexeme_of t.mark (span text t.start t.end))) (faults.ExponentTooLarge t.start) _
+      (first_of-drop 7 (faults_here before (placed_in text place t) after) (sym finds.here ∙ is_none-some found none))

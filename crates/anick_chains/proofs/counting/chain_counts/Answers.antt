@@ -1,13 +1,12 @@
-use Rattle.std.proofs.Common.{◌≡◌, ◌+◌, ◌-◌, ℕ, Err, [], List, length, arith, inl, inr, subst, sym, ap, ◌∙◌}
+use Rattle.std.proofs.Common.{◌≡◌, ◌+◌, ◌-◌, ℕ, Err, [], List, length, arith, subst, sym, ap, ◌∙◌}
 use Rattle.std.specs.List.{Contains}
-use Rattle.std.proofs.lemmas.Bool.{cases_lt}
 use Rattle.std.proofs.lemmas.Result.{err_from_is_err_and}
 use Rattle.overlaps.proofs.Sums.{one_fault}
 use Rattle.anick_chains.specs.declared.tally.ChainCount.{ChainCount}
 use Rattle.anick_chains.specs.declared.tally.Tally.{Tally}
 use Rattle.anick_chains.specs.BasisTips.{leads_of}
-use Rattle.anick_chains.specs.Listing.{IsNumber}
 use Rattle.anick_chains.specs.Tallies.{AreCounts, AreTallied, count_total}
+use Rattle.anick_chains.proofs.FirstMany.{few_more, first_many}
 use Rattle.anick_chains.proofs.MinimalChains.{listed_minimal}
 use Rattle.anick_chains.proofs.Tallied.{none_tallied, tallied_counts, tallied_number, tallied_total}
 use Rattle.anick_chains.proofs.counting.chain_counts.Goals as goal
@@ -23,12 +22,8 @@ loop-degree-init c =
           subst (λ (ts : List Tally). AreTallied T (length b.weights) b.weights 0 0 ts c.new-counts.result.items) (sym c.new-tallies.ensures.items)
           (subst (λ (ks : List ChainCount). AreTallied T (length b.weights) b.weights 0 0 [] ks) (sym c.new-counts.ensures.items) none);
       within = omega arith;
-      before = λ e lt.
-          let zero : 0 ≡ e = omega (arith, lt) in (
-            0,
-            subst (λ (n : ℕ). IsNumber T (length b.weights) b.weights n 0) zero (tallied_number b kept c.requires.factor_free 0 0 [] [] none),
-            omega arith,
-          );
+      before = few_more T (length b.weights) b.weights c.args.most 0 0 (λ e lt. absurd (omega (arith, lt)))
+          (tallied_number b kept c.requires.factor_free 0 0 [] [] none) (omega arith);
     }
 
 pub loop-degree-preserved : goal.loop-degree-preserved
@@ -44,16 +39,9 @@ loop-degree-preserved c =
     record {
       tallied = subst (λ (n : ℕ). AreTallied T (length b.weights) b.weights n total tallies counts) same c.in_ok-count_degree.ensures.tallied;
       within = c.in_ok-count_degree.ensures.within;
-      before = λ e lt. elim (cases_lt e d) [
-        | inl lower ↦ c.loop-degree.invariant.before e lower
-        | inr le ↦
-            let is : d ≡ e = omega (arith, lt, le) in (
-              total,
-              subst (λ (n : ℕ). IsNumber T (length b.weights) b.weights n total) is
-                  (tallied_number b kept c.requires.factor_free d total tallies counts c.in_ok-count_degree.ensures.tallied),
-              c.in_ok-count_degree.ensures.within,
-            )
-      ];
+      before = few_more T (length b.weights) b.weights c.args.most d total c.loop-degree.invariant.before
+          (tallied_number b kept c.requires.factor_free d total tallies counts c.in_ok-count_degree.ensures.tallied)
+          c.in_ok-count_degree.ensures.within;
     }
 
 pub returns-in_err-count_degree-clause-many : goal.returns-in_err-count_degree-clause-many
@@ -61,13 +49,8 @@ returns-in_err-count_degree-clause-many c = λ degree e.
     let p = err_from_is_err_and c.from_residual-in_err-count_degree.result c.from_residual-in_err-count_degree.ensures.1 in
     let m = c.in_err-count_degree.ensures.many degree (ap Err (sym p.2 ∙ one_fault c.from_residual-in_err-count_degree.result _ _ p.1 e)) in
     let b = c.args.basis.now in
-    record {
-      upto = omega (arith, m.0, c.loop-degree-test.true);
-      number = m.1;
-      is_number = subst (λ (n : ℕ). IsNumber (Contains (leads_of b.elements)) (length b.weights) b.weights n m.1) (sym m.0) m.2;
-      many = m.3;
-      before = λ k lt. c.loop-degree.invariant.before k (omega (arith, lt, m.0));
-    }
+    first_many (Contains (leads_of b.elements)) (length b.weights) b.weights c.args.most c.args.bound c.loop-degree.degree degree
+    c.loop-degree.invariant.before (omega (arith, c.loop-degree-test.true)) m.0 m.1 m.2 m.3
 
 pub returns-clause-counted : goal.returns-clause-counted
 returns-clause-counted c =
@@ -93,13 +76,7 @@ returns-clause-within c =
 pub returns-clause-minimal : goal.returns-clause-minimal
 returns-clause-minimal c = λ p relations st upto.
     let b = c.args.basis.now in
-    let T = Contains (leads_of b.elements) in
-    let last : c.loop-degree.degree - 1 ≡ c.args.bound = omega (arith, c.loop-degree-test.false, c.loop-degree.auto.degree-end (omega arith)) in
-    let own : AreCounts T (length b.weights) b.weights c.args.bound c.from_vec.result =
-    subst (AreCounts T (length b.weights) b.weights c.args.bound) (sym c.from_vec.ensures)
-    (subst (λ (n : ℕ). AreCounts T (length b.weights) b.weights n c.loop-degree.counts.items) last
-    (tallied_counts b c.done-done.ensures.kept c.requires.factor_free (c.loop-degree.degree - 1) c.loop-degree.total c.loop-degree.tallies.items
-    c.loop-degree.counts.items c.loop-degree.invariant.tallied)) in
+    let own = returns-clause-counted c in
     record {
       chains = own.chains;
       listed = listed_minimal b c.done-done.ensures.kept p relations st upto c.args.bound c.requires.done own.chains own.listed;

@@ -1,13 +1,11 @@
-use Rattle.std.proofs.Common.{◌≡◌, ◌+◌, ◌-◌, ◌<◌, ◌≤◌, ℕ, All, Err, [], List, length, arith, inl, inr, subst, sym, ap, ◌∙◌}
+use Rattle.std.proofs.Common.{◌≡◌, ◌+◌, ◌-◌, ℕ, All, Err, [], length, arith, subst, sym, ap, ◌∙◌}
 use Rattle.std.specs.List.{Contains}
-use Rattle.std.proofs.lemmas.Bool.{cases_lt}
 use Rattle.std.proofs.lemmas.Result.{err_from_is_err_and}
 use Rattle.overlaps.proofs.Sums.{one_fault}
-use Rattle.anick_chains.specs.declared.chain.Chain.{Chain}
 use Rattle.anick_chains.specs.BasisTips.{leads_of}
 use Rattle.anick_chains.specs.Listed.{AreListed}
-use Rattle.anick_chains.specs.Listing.{IsNumber}
 use Rattle.words.specs.Words.{IsOver}
+use Rattle.anick_chains.proofs.FirstMany.{few_more, first_many}
 use Rattle.anick_chains.proofs.Onward.{listed_over}
 use Rattle.anick_chains.proofs.MinimalChains.{listed_minimal}
 use Rattle.anick_chains.proofs.Steps.{none_listed, number_listed}
@@ -21,13 +19,8 @@ loop-degree-init c =
     record {
       listed = subst (AreListed (Contains (leads_of b.elements)) (length b.weights) b.weights 0) (sym c.new-found.ensures.items) none;
       within = omega (arith, ap length c.new-found.ensures.items);
-      before = λ e lt.
-          let zero : 0 ≡ e = omega (arith, lt) in (
-            0,
-            subst (λ (n : ℕ). IsNumber (Contains (leads_of b.elements)) (length b.weights) b.weights n 0) zero
-                (number_listed b kept c.requires.factor_free 0 [] none),
-            omega arith,
-          );
+      before = few_more (Contains (leads_of b.elements)) (length b.weights) b.weights c.args.most 0 0 (λ e lt. absurd (omega (arith, lt)))
+          (number_listed b kept c.requires.factor_free 0 [] none) (omega arith);
     }
 
 pub loop-degree-preserved : goal.loop-degree-preserved
@@ -40,16 +33,9 @@ loop-degree-preserved c =
     record {
       listed = subst (λ (n : ℕ). AreListed (Contains (leads_of b.elements)) (length b.weights) b.weights n found) same c.in_ok-push_degree.ensures.listed;
       within = c.in_ok-push_degree.ensures.within;
-      before = λ e lt. elim (cases_lt e d) [
-        | inl lower ↦ c.loop-degree.invariant.before e lower
-        | inr le ↦
-            let is : d ≡ e = omega (arith, lt, le) in (
-              length found,
-              subst (λ (n : ℕ). IsNumber (Contains (leads_of b.elements)) (length b.weights) b.weights n (length found)) is
-                  (number_listed b c.done-done.ensures.kept c.requires.factor_free d found c.in_ok-push_degree.ensures.listed),
-              c.in_ok-push_degree.ensures.within,
-            )
-      ];
+      before = few_more (Contains (leads_of b.elements)) (length b.weights) b.weights c.args.most d (length found) c.loop-degree.invariant.before
+          (number_listed b c.done-done.ensures.kept c.requires.factor_free d found c.in_ok-push_degree.ensures.listed)
+          c.in_ok-push_degree.ensures.within;
     }
 
 pub returns-in_err-push_degree-clause-many : goal.returns-in_err-push_degree-clause-many
@@ -57,13 +43,8 @@ returns-in_err-push_degree-clause-many c = λ degree e.
     let p = err_from_is_err_and c.from_residual-in_err-push_degree.result c.from_residual-in_err-push_degree.ensures.1 in
     let m = c.in_err-push_degree.ensures.many degree (ap Err (sym p.2 ∙ one_fault c.from_residual-in_err-push_degree.result _ _ p.1 e)) in
     let b = c.args.basis.now in
-    record {
-      upto = omega (arith, m.0, c.loop-degree-test.true);
-      number = m.1;
-      is_number = subst (λ (n : ℕ). IsNumber (Contains (leads_of b.elements)) (length b.weights) b.weights n m.1) (sym m.0) m.2;
-      many = m.3;
-      before = λ k lt. c.loop-degree.invariant.before k (omega (arith, lt, m.0));
-    }
+    first_many (Contains (leads_of b.elements)) (length b.weights) b.weights c.args.most c.args.bound c.loop-degree.degree degree
+    c.loop-degree.invariant.before (omega (arith, c.loop-degree-test.true)) m.0 m.1 m.2 m.3
 
 pub returns-clause-listed : goal.returns-clause-listed
 returns-clause-listed c =
@@ -74,12 +55,8 @@ returns-clause-listed c =
 
 pub returns-clause-minimal : goal.returns-clause-minimal
 returns-clause-minimal c = λ p relations st upto.
-    let b = c.args.basis.now in
-    let last : c.loop-degree.degree - 1 ≡ c.args.bound = omega (arith, c.loop-degree-test.false, c.loop-degree.auto.degree-end (omega arith)) in
-    listed_minimal b c.done-done.ensures.kept p relations st upto c.args.bound c.requires.done c.from_vec.result
-    (subst (AreListed (Contains (leads_of b.elements)) (length b.weights) b.weights c.args.bound) (sym c.from_vec.ensures)
-    (subst (λ (n : ℕ). AreListed (Contains (leads_of b.elements)) (length b.weights) b.weights n c.loop-degree.found.items) last
-    c.loop-degree.invariant.listed))
+    listed_minimal c.args.basis.now c.done-done.ensures.kept p relations st upto c.args.bound c.requires.done c.from_vec.result
+    (returns-clause-listed c)
 
 pub returns-clause-letters : goal.returns-clause-letters
 returns-clause-letters c =

@@ -1,4 +1,4 @@
-use Rattle.std.proofs.Common.{◌≡◌, ◌++◌, take}
+use Rattle.std.proofs.Common.{◌≡◌, ◌++◌}
 use Rattle.anick_chains.specs.Listed.{with_degree}
 use Rattle.anick_chains.specs.Walk.{continued}
 use Rattle.anick_chains.proofs.longer.push_each.Given as goal

@@ -1,4 +1,4 @@
-use Rattle.std.proofs.Common.{◌≡◌, ◌++◌, ◌<◌, ℕ, Err, List, length, take, arith, sym, ap, ◌∙◌}
+use Rattle.std.proofs.Common.{◌++◌, ℕ, Err, List, sym, ap, ◌∙◌}
 use Rattle.std.proofs.lemmas.Result.{err_from_is_err_and}
 use Rattle.overlaps.proofs.Sums.{one_fault}
 use Rattle.anick_chains.specs.Listed.{with_degree}

@@ -1,4 +1,4 @@
-use Rattle.std.proofs.Common.{◌≡◌, ◌++◌, ◌-◌, ◌+◌, ◌≤◌, ℕ, List, arith, length, length-take, take, sym, ap, ◌∙◌}
+use Rattle.std.proofs.Common.{◌≡◌, ◌++◌, ◌-◌, ℕ, List, arith, length, length-take, take, sym, ap, ◌∙◌}
 use Rattle.words.specs.Words.{degree_of}
 use Rattle.words.proofs.Weights.{degree_of-more, degree_of-take, length-le-degree_of}
 use Rattle.anick_chains.specs.Walk.{ends_of}

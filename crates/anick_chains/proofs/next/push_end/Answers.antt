@@ -1,4 +1,4 @@
-use Rattle.std.proofs.Common.{◌≡◌, ◌++◌, ◌-◌, ◌∷◌, [], Bool, List, ℕ, OnOk, cond, length, subst, sym, take, true, false, rules, ap, ◌∙◌, append-nil}
+use Rattle.std.proofs.Common.{◌≡◌, ◌++◌, ◌-◌, ◌∷◌, [], Bool, OnOk, cond, length, subst, sym, take, true, false, rules, ap, ◌∙◌, append-nil}
 use Rattle.anick_chains.specs.BasisTips.{leads_of}
 use Rattle.anick_chains.specs.Walk.{stands}
 use Rattle.anick_chains.proofs.Indexed.{stands-index, stands-starts}

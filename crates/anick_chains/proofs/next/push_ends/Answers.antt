@@ -1,6 +1,5 @@
-use Rattle.std.proofs.Common.{◌≡◌, ◌++◌, ◌-◌, ◌<◌, ◌≤◌, [], ℕ, List, arith, length, take, drop, subst, false, true, sym, ap, ◌∙◌, rules, append-nil}
-use Rattle.std.proofs.Common.{append_assoc, length-append, length-drop, length-take}
-use Rattle.words.specs.Words.{OccursAt}
+use Rattle.std.proofs.Common.{◌≡◌, ◌++◌, ◌-◌, ◌≤◌, ℕ, List, arith, length, take, drop, subst, false, true, sym, ap, ◌∙◌, append-nil}
+use Rattle.std.proofs.Common.{append_assoc, length-drop}
 use Rattle.words.proofs.Weights.{length-le-degree_of}
 use Rattle.overlaps.specs.Walk.{IsAbove, lead_word}
 use Rattle.overlaps.proofs.Fronts.{begins_as, occurs_as, rest-all}

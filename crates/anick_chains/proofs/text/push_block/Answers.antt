@@ -1,10 +1,10 @@
-use Rattle.std.proofs.Common.{◌≡◌, ◌++◌, Bool, List, ℕ, OnOk, if◌then◌else◌, length, rules, subst, sym, ap, ◌∙◌, [], append_assoc}
+use Rattle.std.proofs.Common.{◌≡◌, ◌++◌, Bool, List, ℕ, OnOk, if◌then◌else◌, length, subst, sym, ap, ◌∙◌, [], append_assoc}
 use Rattle.std.specs.List.{flat_map}
 use Rattle.std.proofs.lemmas.List.{length-map}
 use Rattle.std.proofs.lemmas.List.Folds.{flat_map-map}
 use Rattle.anick_chains.specs.declared.chain.Chain.{Chain}
 use Rattle.anick_chains.specs.Listed.{pieces_of}
-use Rattle.anick_chains.specs.Texts.{block_text, chain_line, count_line}
+use Rattle.anick_chains.specs.Texts.{chain_line, count_line}
 use Rattle.anick_chains.proofs.text.push_block.Goals as goal
 
 pub returns : goal.returns

@@ -1,4 +1,4 @@
-use Rattle.std.proofs.Common.{◌≡◌, ℕ, List, [], ◌∷◌, arith, length, rules, subst, sym}
+use Rattle.std.proofs.Common.{◌≡◌, List, [], ◌∷◌, arith, length, rules, subst, sym}
 use Rattle.std.proofs.lemmas.List.{nil_from_length}
 use Rattle.normal_words.specs.Normal.{AreNormal, WordsOfDegree, next_of}
 use Rattle.normal_words.proofs.Grown.{start_normal}

@@ -1,7 +1,6 @@
 use Rattle.std.proofs.Common.{◌≡◌, ◌+◌, ◌++◌, ◌∷◌, ◌≤◌, ◌∙◌, ℕ, [], Err, List, ap, arith, length, subst, sym}
 use Rattle.normal_words.specs.Normal.{AreNormal, WordsOfDegree, next_of}
-use Rattle.free_poly.specs.declared.term.Term.{Term}
-use Rattle.hilbert.specs.Series.{AreCounts, AreHeld, IndexesLeads}
+use Rattle.hilbert.specs.Series.{AreCounts, AreHeld}
 use Rattle.hilbert.proofs.Steps.{IsNextHeld, counts-more, first_large, held-more, no_counts, none_next, normal_words_of}
 use Rattle.hilbert.proofs.numbers.numbers_upto.Goals as goal
 

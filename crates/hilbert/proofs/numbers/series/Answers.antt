@@ -1,5 +1,4 @@
 use Rattle.std.proofs.Common.{◌+◌, ℕ, List, sym, subst, arith}
-use Rattle.free_poly.specs.declared.term.Term.{Term}
 use Rattle.hilbert.specs.Series.{AreCounts, IsFirstLarge}
 use Rattle.hilbert.proofs.Coefficients.{count_coefficient}
 use Rattle.hilbert.proofs.Indexed.{indexes_leads}

@@ -1,0 +1,53 @@
+-- A word is normal exactly where it is no leading word.
+use Rattle.std.proofs.Common.{◌≡◌, ◌<◌, ℕ, List, ◌++◌, length, take, drop, sym, ap, ◌∙◌, arith, subst, append_assoc, length-append}
+use Rattle.std.specs.List.{Contains}
+use Rattle.std.proofs.Math.Seq.{drop-append_seam, take-append_seam}
+use Rattle.std.proofs.lemmas.List.{take-append-drop}
+use Rattle.words.specs.Words.{IsFactor, OccursAt, degree_of, words_of_degree}
+use Rattle.words.proofs.Degrees.{words_of_degree-says}
+use Rattle.free_poly.specs.declared.term.Term.{Term}
+use Rattle.free_poly.proofs.Products.{degree_of-round}
+use Rattle.ideal_laws.specs.Closure.{IsNormal}
+use Rattle.ideal_laws.specs.Ideal.{IsLeadingWord}
+use Rattle.ideal_laws.specs.Laws.{IsSetting}
+use Rattle.ideal_laws.specs.Overlaps.{AreLower}
+use Rattle.ideal_laws.proofs.Factors.{factor_law}
+use Rattle.ideal_laws.proofs.OneBasis.{minimal_led}
+
+factor_occurs : (v w : List ℕ) (f : IsFactor v w) → OccursAt v w (length f.before)
+factor_occurs v w f =
+    let split : w ≡ f.before ++ (v ++ f.after) = f.joined ∙ append_assoc f.before v f.after in
+    record {
+      within = omega (arith, ap length split, length-append f.before (v ++ f.after), length-append v f.after);
+      same = ap (λ (x : List ℕ). take (length v) (drop (length f.before) x)) split
+          ∙ ap (take (length v)) (drop-append_seam f.before (v ++ f.after)) ∙ take-append_seam v f.after;
+    }
+
+occurs_factor : (v w : List ℕ) (k : ℕ) → OccursAt v w k → IsFactor v w
+occurs_factor v w k o = record {
+  before = take k w;
+  after = drop (length v) (drop k w);
+  joined = sym (append_assoc (take k w) v (drop (length v) (drop k w)) ∙ ap (λ (x : List ℕ). take k w ++ (x ++ drop (length v) (drop k w))) (sym o.same)
+      ∙ ap (λ (x : List ℕ). take k w ++ x) (take-append-drop (length v) (drop k w)) ∙ take-append-drop k w);
+}
+
+module _ (p : ℕ) (weights : List ℕ) (relations : List (List Term)) (st : IsSetting p weights relations) (e : ℕ) (G : List (List Term))
+    (lower : AreLower p weights relations e G) (d : ℕ) (w : List ℕ) where
+  -- a word that leads nothing is normal
+  pub normal_from : Contains (words_of_degree weights d) w → (IsLeadingWord p weights relations d w → ⊥) → IsNormal G w
+  normal_from m not g v k among led o =
+      let s = words_of_degree-says weights st.are_weights d w m in
+      let r = (lower g).0 among in
+      not (subst (λ (n : ℕ). IsLeadingWord p weights relations n w) s.1
+      ((factor_law p weights relations st w s.0).1 (v, occurs_factor v w k o, r.2.minimal v led)))
+
+  -- and a normal one leads nothing
+  pub normal_no_lead : d < e → Contains (words_of_degree weights d) w → IsNormal G w → IsLeadingWord p weights relations d w → ⊥
+  normal_no_lead below m normal l =
+      let s = words_of_degree-says weights st.are_weights d w m in
+      let own = subst (λ (n : ℕ). IsLeadingWord p weights relations n w) (sym s.1) l in
+      let f = (factor_law p weights relations st w s.0).0 own in
+      let g = minimal_led p weights relations st f.0 f.2 in
+      let within : degree_of weights f.0 < e = omega
+      (arith, below, s.1, ap (degree_of weights) f.1.joined, degree_of-round weights f.1.before f.0 f.1.after) in
+      normal g.0 f.0 (length f.1.before) ((lower g.0).1 (degree_of weights f.0, within, g.1)) g.2 (factor_occurs f.0 w f.1)
