@@ -1,7 +1,7 @@
 -- Operations on lanes as lists.
 use Rattle.std.proofs.Common.{◌≡◌, ◌+◌, ◌-◌, ◌*◌, ◌/◌, ◌%◌, ◌<◌, ◌≤◌, ◌^◌, ℕ, zero, suc, Bool, true, false, cond, ltb, List, [], ◌∷◌, map, length}
 use Rattle.std.proofs.Common.{replicate, refl, sym, ap, ◌∙◌, inl, inr, arith, subst, Fits, w32}
-use Rattle.std.proofs.Math.Nat.{mod-eq_of_lt, mul-add-mod_self_left}
+use Rattle.std.proofs.Math.Nat.{add-mul, mod-eq_of_lt, mul-add-mod_self_left}
 use Rattle.std.proofs.lemmas.Bool.{cases_lt, cond_above, cond_below, le-ltb, lt-ltb}
 use Rattle.std.proofs.lemmas.Nat.{div-add-mod', mul-le}
 use Rattle.lane_kernel.proofs.Shoup.{less_once, near_quotient, near_remainder, IsNear}
@@ -98,3 +98,23 @@ rest_small b p a q (s ∷ xs) wide a_lt is each =
     let near : IsNear p a s (a * b / p * s / b) = near_quotient b p a s (omega (arith, a_lt)) (omega (arith, lt, wide)) in
     let own : a * s - a * b / p * s / b * p < 2 * p = omega (arith, near.below, near.near) in
     (subst (λ (i : ℕ). a * s - i * s / b * p < 2 * p) (sym is) own, rest_small b p a q xs wide a_lt is each.1)
+
+-- the negatives of residues, lane by lane
+pub negative_lanes : (p n : ℕ) (xs : List ℕ) → p < 2 ^ 31 → length xs ≡ n → Each1 (λ s. s < p) xs →
+    map (λ r. cond (ltb r p) r (r - p)) (zip2 (λ a b. (a + (2 ^ 32 - b)) % 2 ^ 32) (replicate n p) xs) ≡ map (λ s. ((p - 1) * s) % p) xs
+negative_lanes p zero [] small l each = refl
+negative_lanes p (suc n) [] small l each = absurd (omega (arith, l))
+negative_lanes p zero (s ∷ xs) small l each = absurd (omega (arith, l))
+negative_lanes p (suc n) (s ∷ xs) small l each =
+    let lt : s < p = each.0 in
+    let split : 2 ^ 32 * 1 + (p - s) ≡ p + (2 ^ 32 - s) = omega (arith, small, lt) in
+    let whole : (p + (2 ^ 32 - s)) % 2 ^ 32 ≡ p - s = ap (λ (n : ℕ). n % 2 ^ 32) (sym split) ∙ mul-add-mod_self_left (2 ^ 32) 1 (p - s)
+    ∙ mod-eq_of_lt (omega (arith, small)) in
+    let one_less : (p - 1 + 1) * s ≡ (p - 1) * s + 1 * s = add-mul (p - 1) 1 s in
+    let all : p - 1 + 1 ≡ p = omega (arith, lt) in
+    let again : p * s + (p - s) ≡ p * 1 + (p - 1) * s = omega (arith, lt, one_less, ap (λ (n : ℕ). n * s) all) in
+    let negative : (p - s) % p ≡ ((p - 1) * s) % p = sym (mul-add-mod_self_left p s (p - s)) ∙ ap (λ (n : ℕ). n % p) again
+    ∙ mul-add-mod_self_left p 1 ((p - 1) * s) in
+    let own : cond (ltb ((p + (2 ^ 32 - s)) % 2 ^ 32) p) ((p + (2 ^ 32 - s)) % 2 ^ 32) ((p + (2 ^ 32 - s)) % 2 ^ 32 - p) ≡ ((p - 1) * s) % p =
+    ap (λ (n : ℕ). cond (ltb n p) n (n - p)) whole ∙ less_once p (p - s) (omega (arith, lt)) ∙ negative in
+    λ i. own i ∷ negative_lanes p n xs small (omega (arith, l)) each.1 i

@@ -6,6 +6,7 @@
 mod kernel;
 mod lanes;
 mod narrow;
+mod negative;
 #[cfg(test)]
 mod tests;
 mod wide;

@@ -18,6 +18,7 @@ pub mod ModuloRows
 pub mod HeldKept
 pub mod ModuloKept
 pub mod Settled
+pub mod LeadingZeros
 pub mod SettledKept
 pub mod CallLists
 pub mod CallsKept

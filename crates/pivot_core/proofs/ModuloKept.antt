@@ -5,7 +5,7 @@ use Rattle.std.proofs.lemmas.List.FromFn.{fill_by_all}
 use Rattle.field_table.specs.Residues.{IsFieldModulus}
 use Rattle.back_reduce.specs.declared.problem.Problem.{Problem}
 use Rattle.back_reduce.specs.Rows.{IsRow}
-use Rattle.back_reduce.proofs.RowLists.{row_residues, row_size}
+use Rattle.back_reduce.proofs.RowLists.{row_is}
 use Rattle.pivot_core.specs.declared.view.Phase.{Phase}
 use Rattle.pivot_core.specs.declared.view.Phase.TheVariants as phase
 use Rattle.pivot_core.specs.declared.sight.Sight.{Sight}
@@ -23,12 +23,6 @@ use Rattle.pivot_core.proofs.Moves.{reads_more, reads_last}
 use Rattle.pivot_core.proofs.PublishedKept.{difference_row, leading}
 use Rattle.pivot_core.proofs.ReadKept.{whole_read}
 use Rattle.pivot_core.proofs.Rows.{row_in_phase, row_of_phase}
-
-pub given_is_row : (problem : Problem) (r : ℕ) → r < problem.n → IsRow problem.modulus problem.m (given_row problem r)
-given_is_row problem r lt = record {
-  size = row_size problem.m problem.n problem.cells.items r problem.shape lt;
-  residues = row_residues problem.modulus problem.m problem.cells.items r problem.residues;
-}
 
 module _ (problem : Problem) (crew : ℕ) (s t : State) (seat : ℕ) (w : Sight) (a : Spot) (x : ℕ) (c : IsChange problem crew s t seat w a x) where
   abbrev v : Sight
@@ -88,7 +82,7 @@ module _ (problem : Problem) (crew : ℕ) (s t : State) (seat : ℕ) (w : Sight)
 
     own_modulo : IsMove problem v old w a x → IsOwnModulo modulus t w
     own_modulo (draws m) = settled_modulo (given_row problem old) old m.settling (λ within.
-        (let entry = leading problem modulus (given_row problem old) (given_is_row problem old m.some) within in
+        (let entry = leading problem modulus (given_row problem old) (row_is problem old m.some) within in
         begins_modulo problem modulus t (given_row problem old) entry.0 entry.1))
     own_modulo (ends m) = λ r has. absurd (row_in_phase w.phase phase.Ended r m.now has)
     own_modulo (looks_free m) = same_row (phase.Looking m.row m.column) (phase.Putting m.row m.column m.column) m.was m.now (λ r has. has) m.same.current

@@ -8,7 +8,7 @@ use Rattle.field_table.specs.Residues.{IsFieldModulus, negative_of, product_of}
 use Rattle.field_table.proofs.Multiples.{plus_multiple-residues}
 use Rattle.back_reduce.specs.declared.problem.Problem.{Problem}
 use Rattle.back_reduce.specs.Rows.{IsRow}
-use Rattle.back_reduce.proofs.RowLists.{row_residues, row_size}
+use Rattle.back_reduce.proofs.RowLists.{row_is}
 use Rattle.back_reduce.proofs.Vectors.{length-plus_multiple}
 use Rattle.pivot_core.specs.declared.view.Phase.{Phase}
 use Rattle.pivot_core.specs.declared.view.Phase.TheVariants as phase
@@ -167,11 +167,7 @@ module _ (problem : Problem) (crew : ℕ) (s t : State) (seat : ℕ) (w : Sight)
       ]
 
       own_published : IsMove problem v old w a x → IsPublished problem t w.phase w.current
-      own_published (draws m) = settled_published problem modulus t w (given_row problem old) old
-          (record {
-            size = row_size problem.m problem.n problem.cells.items old problem.shape m.some;
-            residues = row_residues problem.modulus problem.m problem.cells.items old problem.residues;
-          }) m.settling
+      own_published (draws m) = settled_published problem modulus t w (given_row problem old) old (row_is problem old m.some) m.settling
       own_published (ends m) = now_at phase.Ended m.now m.same.current
           (record {
             residues = λ r has. absurd has;

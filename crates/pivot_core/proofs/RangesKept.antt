@@ -4,7 +4,7 @@ use Rattle.std.proofs.lemmas.Bool.{cases_eq}
 use Rattle.std.proofs.lemmas.List.{length-map, length-set}
 use Rattle.field_table.specs.Residues.{negative_of}
 use Rattle.back_reduce.specs.declared.problem.Problem.{Problem}
-use Rattle.back_reduce.proofs.RowLists.{row_size}
+use Rattle.back_reduce.proofs.RowLists.{row_is}
 use Rattle.back_reduce.proofs.Vectors.{length-plus_multiple}
 use Rattle.pivot_core.specs.declared.view.Phase.{Phase}
 use Rattle.pivot_core.specs.declared.view.Phase.TheVariants as phase
@@ -60,7 +60,7 @@ module _ (problem : Problem) (v : Sight) (old : ℕ) (w : Sight) (a : Spot) (x :
 
   -- the view after a move is in range where a claim word that is met tells a row
   pub sight_after : (old ≢ 0 → (c : ℕ) → a ≡ claim_of c → c < m → row_in old < n) → IsMove problem v old w a x → Now
-  sight_after holder (draws k) = settled_sight (given_row problem old) old k.some (row_size m n problem.cells.items old problem.shape k.some) k.settling
+  sight_after holder (draws k) = settled_sight (given_row problem old) old k.some (row_is problem old k.some).size k.settling
   sight_after holder (ends k) = sight_of_parts m n w phase.Ended _ _ k.now k.same.current k.same.seen tt before.current before.seen
       (idle_at phase.Fresh k.was) (unread_at phase.Fresh k.was)
   sight_after holder (looks_free k) =

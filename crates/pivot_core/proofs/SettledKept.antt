@@ -7,6 +7,7 @@ use Rattle.linear_algebra.proofs.Algebra.{IsInSpan-zero}
 use Rattle.linear_algebra.proofs.Elimination.{same_span}
 use Rattle.back_reduce.specs.declared.problem.Problem.{Problem}
 use Rattle.back_reduce.proofs.Vectors.{vec-zero}
+use Rattle.back_reduce.proofs.RowLists.{row_is}
 use Rattle.pivot_core.specs.declared.view.Phase.{Phase}
 use Rattle.pivot_core.specs.declared.view.Phase.TheVariants as phase
 use Rattle.pivot_core.specs.declared.sight.Sight.{Sight}
@@ -19,7 +20,7 @@ use Rattle.pivot_core.proofs.Changes.{IsChange}
 use Rattle.pivot_core.proofs.Effects.{KeepsHeld, counter_cases, keeps_held}
 use Rattle.pivot_core.proofs.HeldKept.{won_held, won_row}
 use Rattle.pivot_core.proofs.HeldRows.{HeldSpan, Kp, OneHeld, held_in_own_span, spans_grow, vector_of}
-use Rattle.pivot_core.proofs.ModuloKept.{given_is_row, left_is_row, same_sizes, seen_in_span}
+use Rattle.pivot_core.proofs.ModuloKept.{left_is_row, same_sizes, seen_in_span}
 use Rattle.pivot_core.proofs.ModuloRows.{modulo_grows, modulo_inside, nothing_left, zero_row}
 use Rattle.pivot_core.proofs.Moves.{IsDraw, IsEnd, IsLastRead, IsMove, IsSettling, IsWonClaim, given_up, goes_on, draws, ends, looks_free, looks_held}
 use Rattle.pivot_core.proofs.Moves.{puts, wins, loses, reads_more, reads_last}
@@ -59,7 +60,7 @@ module _ (problem : Problem) (crew : ℕ) (s t : State) (seat : ℕ) (w : Sight)
         let k : Field = Kp problem modulus in
         same_span k ℕ (OneHeld problem modulus t) (λ d. k.zero) (vector_of problem modulus (given_row problem r))
         (λ d. sym (vec-zero problem.modulus modulus (given_row problem r) d
-        (zero_row problem.m (given_row problem r) (given_is_row problem r lt).size past d)))
+        (zero_row problem.m (given_row problem r) (row_is problem r lt).size past d)))
         (IsInSpan-zero k ℕ (OneHeld problem modulus t))
 
     -- a move by which a row stays current

@@ -38,7 +38,7 @@ fresh m seat = record {
 
 -- row r of the problem
 abbrev pub given_row : Problem → ℕ → List ℕ
-given_row problem r = row_of problem.m problem.cells.items r
+given_row problem r = row_of problem.rows.items r
 
 -- the first column at which a row is not 0, and the number of its columns where there is none
 abbrev pub lead_at : List ℕ → ℕ

@@ -21,32 +21,41 @@ pub(crate) fn lead(row: &[u32]) -> Option<usize>
     None
 }
 
-/// Writes a multiple of a row over another.
-pub(crate) fn scale(field: &Field, a: u32, row: &[u32], multiple: &mut [u32])
+/// Writes a multiple of a row that is 0 before a place over another.
+pub(crate) fn scale(field: &Field, a: u32, from: usize, row: &[u32], multiple: &mut [u32])
     requires factor { a < field.now }
     requires residues { All (λ r. r < field.now) row.now }
+    requires before { from ≤ lead_at row.now }
+    requires within { from ≤ length row.now }
     requires length { length multiple.old ≡ length row.now }
     ensures { multiple.new ≡ map (λ r. product_of field.now a r) row.now }
 {
     clear(multiple);
-    axpy_lanes(field, multiple, a, row);
+    axpy_lanes(field, &mut multiple[from..], a, &row[from..]);
 }
 
 /// Writes a row of the problem over another.
 pub(crate) fn copy_row(problem: &Problem, r: u32, row: &mut [u32])
     requires row { r < problem.now.n }
     requires length { length row.old ≡ problem.now.m }
-    ensures { row.new ≡ row_of problem.now.m problem.now.cells.items r }
+    ensures { row.new ≡ row_of problem.now.rows.items r }
 {
-    let m = problem.m as usize;
-    let from = r as usize * m;
-    row.copy_from_slice(&problem.cells[from..from + m]);
+    problem.rows[r as usize].write(row);
 }
 
 pub(crate) fn clear(row: &mut [u32])
     ensures { row.new ≡ zeros (length row.old) }
 {
     row.fill(0);
+}
+
+/// Makes a row that is 0 before a place zeros.
+pub(crate) fn clear_from(from: usize, row: &mut [u32])
+    requires before { from ≤ lead_at row.old }
+    requires within { from ≤ length row.old }
+    ensures { row.new ≡ zeros (length row.old) }
+{
+    clear(&mut row[from..]);
 }
 
 /// The stamp in a claim word.

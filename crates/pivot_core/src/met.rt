@@ -7,7 +7,7 @@ ghost use Rattle.pivot_core.specs.Views as views;
 ghost use Rattle.pivot_core.specs.Views.{sight_of};
 
 use crate::event::Reply;
-use crate::lists::{clear, copy_row, later, lead, row_told, scale, stamp_told};
+use crate::lists::{clear, clear_from, copy_row, later, lead, row_told, scale, stamp_told};
 use crate::view::{Phase, View};
 use back_reduce::Problem;
 use field_table::Field;
@@ -16,7 +16,8 @@ use lane_kernel::axpy_lanes;
 use std::mem;
 
 impl View {
-    /// Goes on with the row that stands in `current`, made monic, or gives it up where it is 0.
+    /// Goes on with the row that stands in `current`, made monic, or gives it up where it is 0. Before its leading
+    /// column it is 0 and stays so.
     fn settle(&mut self, field: &Field, problem: &Problem, row: u32)
         requires field { field.now ≡ problem.now.modulus }
         requires residues { All (λ a. a < problem.now.modulus) self.old.current.items }
@@ -29,9 +30,15 @@ impl View {
         match lead(self.current.as_slice()) {
             Some(column) => {
                 let a = field.inv(self.current[column]);
-                scale(field, a, self.current.as_slice(), self.seen.as_mut_slice());
+                scale(
+                    field,
+                    a,
+                    column,
+                    self.current.as_slice(),
+                    self.seen.as_mut_slice(),
+                );
                 mem::swap(&mut self.current, &mut self.seen);
-                clear(self.seen.as_mut_slice());
+                clear_from(column, self.seen.as_mut_slice());
                 self.phase = Phase::Looking {
                     row,
                     column: column as u32,
@@ -44,12 +51,12 @@ impl View {
         }
     }
 
+    /// Begins to read the holder's row. Nothing is seen so far.
     fn begin(&mut self, row: u32, column: u32, holder: u32)
         ensures begun { sight_of self.new ≡ record (sight_of self.old)
-            { phase = phase.Reading row column holder column; seen = views.zeros (length self.old.seen.items) } }
+            { phase = phase.Reading row column holder column } }
         ensures capacity { vec_capacity self.new.calls ≡ vec_capacity self.old.calls }
     {
-        clear(self.seen.as_mut_slice());
         self.phase = Phase::Reading {
             row,
             column,

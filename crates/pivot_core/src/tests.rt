@@ -14,13 +14,7 @@ use std::test::Fail;
 fn sample_problem(alloc: Global) -> Result<Problem, NoMemory>
     ensures { IfOk result (λ problem. problem.modulus ≡ 101) }
 {
-    Ok(Problem {
-        degree: 4,
-        modulus: 101,
-        m: 2,
-        n: 2,
-        cells: Vec::from_slice(alloc, &[1, 100, 1, 100])?,
-    })
+    Problem::from_cells(alloc, 4, 101, 2, 2, &[1, 100, 1, 100])
 }
 
 fn sample_core(alloc: Global) -> Result<Core, NoMemory>

@@ -1,11 +1,12 @@
 -- What the seats of the table hold.
-use Rattle.std.specs.Prelude.{ℕ, ◌<◌, ◌==◌, cond, List, [], ◌∷◌, ◌++◌, map, slice_index, slice_set}
+use Rattle.std.specs.Prelude.{ℕ, ◌==◌, cond, List, [], ◌∷◌, ◌++◌, map, slice_index, slice_set}
 use Rattle.std.specs.List.{range_with_len, sum_by}
 use lib.Dec.{lit<, lit≤}
 use mathlib.Core.Path.{refl}
 use Rattle.std.proofs.lemmas.List.Elements.{All-nil}
 use denote.RawPtr.{null_ptr}
 use Rattle.back_reduce.specs.declared.problem.Problem.{Problem}
+use Rattle.back_reduce.specs.Rows.{IsRow}
 use Rattle.pivot_core.specs.declared.view.Phase.{Phase}
 use Rattle.pivot_core.specs.declared.view.Phase.TheVariants as phase
 use Rattle.pivot_core.specs.declared.sight.Sight.{Sight}
@@ -63,7 +64,7 @@ no_problem = record {
   modulus = 0;
   m = 0;
   n = 0;
-  cells = record {
+  rows = record {
     ptr = null_ptr;
     len = 0;
     cap = 0;
@@ -72,8 +73,8 @@ no_problem = record {
     ok = (refl, lit≤ tt);
     small = lit< tt;
   };
-  shape = refl;
-  residues = All-nil (λ a. a < 0);
+  count = refl;
+  each = All-nil (IsRow 0 0);
   few = lit≤ tt;
 }
 

@@ -40,13 +40,7 @@ fn race_of(
     ensures columns { IfOk result (λ r. r.0.problem.m ≡ m) }
 {
     let field = sample_field(alloc)?;
-    let problem = Problem {
-        degree: 4,
-        modulus: 101,
-        m,
-        n,
-        cells: Vec::from_slice(alloc, cells)?,
-    };
+    let problem = Problem::from_cells(alloc, 4, 101, m, n, cells)?;
     let (race, workers) = Race::new(alloc, &field, problem, crew)?;
     Ok((race, workers))
 }

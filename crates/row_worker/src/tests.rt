@@ -1,7 +1,7 @@
 ghost use Rattle.std.specs.Prelude.{◌≡◌, IfOk};
 
 use crate::raced::raced_pivots;
-use back_reduce::{Problem, reduced};
+use back_reduce::{Problem, Row, reduced};
 use bg_io::{Gate, OpenGate, Spot};
 use field_table::{Field, listed_moduli_law};
 use pivot_table::NoMemory;
@@ -16,26 +16,34 @@ fn field_of_seven(alloc: Global) -> Result<Field, NoMemory>
     Field::new(alloc, 7)
 }
 
+fn residues_of(alloc: Global, row: &Row) -> Result<Vec<u32>, NoMemory> {
+    let mut residues = vec![in alloc; 0; row.len()]?;
+    row.write(residues.as_mut_slice());
+    Ok(residues)
+}
+
 #[test]
 fn crews_of_any_size_leave_one_form(rt: HostRuntime) -> Result<(), Fail> {
     let alloc = rt.alloc();
     let field = field_of_seven(alloc)?;
     for crew in [1, 2, 64] {
         assert!(rt; 0 < crew && crew <= 64);
-        let problem = Problem {
-            degree: 4,
-            modulus: 7,
-            m: 3,
-            n: 2,
-            cells: Vec::from_slice(alloc, &[1, 2, 3, 0, 1, 4])?,
-        };
+        let problem = Problem::from_cells(alloc, 4, 7, 3, 2, &[1, 2, 3, 0, 1, 4])?;
         let finish = raced_pivots(&rt, alloc, &field, problem, crew, &OpenGate)?;
         let echelon = reduced(&rt, alloc, &field, &finish)?;
         let [first, second] = echelon.as_slice() else {
             return Err(Fail::new("another form"));
         };
-        assert_eq!(rt; first.as_slice(), [1, 0, 2].as_slice(), "crew {crew}");
-        assert_eq!(rt; second.as_slice(), [0, 1, 4].as_slice(), "crew {crew}");
+        assert_eq!(rt;
+            residues_of(alloc, first)?.as_slice(),
+            [1, 0, 2].as_slice(),
+            "crew {crew}"
+        );
+        assert_eq!(rt;
+            residues_of(alloc, second)?.as_slice(),
+            [0, 1, 4].as_slice(),
+            "crew {crew}"
+        );
     }
     Ok(())
 }
@@ -62,13 +70,7 @@ impl Gate for Passes {
 fn each_claim_passes_the_gate_twice(rt: HostRuntime) -> Result<(), Fail> {
     let alloc = rt.alloc();
     let field = field_of_seven(alloc)?;
-    let problem = Problem {
-        degree: 4,
-        modulus: 7,
-        m: 3,
-        n: 3,
-        cells: Vec::from_slice(alloc, &[1, 2, 3, 1, 2, 3, 2, 4, 0])?,
-    };
+    let problem = Problem::from_cells(alloc, 4, 7, 3, 3, &[1, 2, 3, 1, 2, 3, 2, 4, 0])?;
     let gate = Passes {
         before: AtomicU64::new(0),
         after: AtomicU64::new(0),

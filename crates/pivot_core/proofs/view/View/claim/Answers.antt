@@ -3,8 +3,10 @@ use Rattle.std.proofs.lemmas.List.{with_items_is}
 use Rattle.ideal_laws.specs.declared.account.Answer.TheVariants as answer
 use Rattle.pivot_core.specs.declared.event.Reply.{Reply}
 use Rattle.pivot_core.specs.declared.event.Reply.TheVariants as reply
+use Rattle.pivot_core.specs.declared.view.Phase.{Phase}
 use Rattle.pivot_core.specs.declared.view.Phase.TheVariants as phase
 use Rattle.pivot_core.specs.declared.sight.Sight.{Sight}
+use Rattle.pivot_core.specs.Phases.{IsUnread}
 use Rattle.pivot_core.specs.Steps.{IsMet}
 use Rattle.pivot_core.specs.Views.{sight_of, zeros}
 use Rattle.pivot_core.specs.Words.{row_in, stamp_in}
@@ -28,7 +30,9 @@ returns-clause-met c =
     let v : Sight = sight_of c.args.self.now in
     let old : ℕ = c.args.old in
     let clock : c.later.result + 1 ≡ max v.clock (stamp_in old) + 1 = ap (λ (k : ℕ). k + 1) (c.later.ensures ∙ ap (max v.clock) c.stamp_told-2.ensures) in
-    let seen = ap (λ (w : Sight). zeros (length w.seen)) c.keep_call-2.ensures.kept ∙ ap zeros c.requires.may.sight.seen in
+    let unread : IsUnread problem.m (phase.Claiming c.args.row c.args.column) v.seen = subst (λ (f : Phase). IsUnread problem.m f v.seen)
+    c.requires.phase c.requires.may.sight.unread in
+    let seen = ap (λ (w : Sight). w.seen) c.keep_call-2.ensures.kept ∙ unread in
     let now : sight_of c.begin.new.self ≡ after_lost problem v old c.args.row c.args.column =
     c.begin.ensures.begun
     ∙ (λ i. record (c.keep_call-2.ensures.kept i) { phase = phase.Reading c.args.row c.args.column (c.row_told-2.ensures i) c.args.column; seen = seen i })

@@ -1,10 +1,12 @@
-use Rattle.std.proofs.Common.{◌≡◌, ◌+◌, ℕ, max, length, sym, ap, ap₂, ◌∙◌, subst}
+use Rattle.std.proofs.Common.{◌≡◌, ◌+◌, ℕ, max, sym, ap, ap₂, ◌∙◌, subst}
 use Rattle.pivot_core.specs.declared.event.Reply.{Reply}
 use Rattle.pivot_core.specs.declared.event.Reply.TheVariants as reply
+use Rattle.pivot_core.specs.declared.view.Phase.{Phase}
 use Rattle.pivot_core.specs.declared.view.Phase.TheVariants as phase
 use Rattle.pivot_core.specs.declared.sight.Sight.{Sight}
+use Rattle.pivot_core.specs.Phases.{IsUnread}
 use Rattle.pivot_core.specs.Steps.{IsMet}
-use Rattle.pivot_core.specs.Views.{begin, sight_of, zeros}
+use Rattle.pivot_core.specs.Views.{begin, sight_of}
 use Rattle.pivot_core.specs.Words.{row_in, stamp_in}
 use Rattle.pivot_core.proofs.MetRows.{meets_held}
 use Rattle.pivot_core.proofs.view.View.look.Goals as goal
@@ -15,11 +17,12 @@ returns-clause-met c =
     let v : Sight = sight_of c.args.self.now in
     let old : ℕ = c.args.old in
     let clock : c.later-self.result ≡ max v.clock (stamp_in old) = c.later-self.ensures ∙ ap (max v.clock) c.stamp_told-stamp.ensures in
+    let unread : IsUnread problem.m (phase.Looking c.args.row c.args.column) v.seen = subst (λ (f : Phase). IsUnread problem.m f v.seen)
+    c.requires.phase c.requires.may.sight.unread in
     let same : record v {
       steps = v.steps + 1;
       clock = c.later-self.result;
       phase = phase.Reading c.args.row c.args.column c.row_told-holder.result c.args.column;
-      seen = zeros (length v.seen);
     }
     ≡ begin problem (record v { steps = v.steps + 1; clock = max v.clock (stamp_in old) }) c.args.row c.args.column (row_in old) =
     λ i. record v {
@@ -27,7 +30,7 @@ returns-clause-met c =
       clock = clock i;
       phase = phase.Reading c.args.row c.args.column (c.row_told-holder.ensures i)
           c.args.column;
-      seen = zeros (c.requires.may.sight.seen i);
+      seen = unread i;
     } in
     let now : sight_of c.begin.new.self ≡ begin problem (record v { steps = v.steps + 1; clock = max v.clock (stamp_in old) }) c.args.row
     c.args.column (row_in old) = c.begin.ensures.begun ∙ same in

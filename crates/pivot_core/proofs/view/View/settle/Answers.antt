@@ -21,6 +21,15 @@ inv-a-requires-clause-other c =
 pub overflow_cast-self : goal.overflow_cast-self
 overflow_cast-self c = omega (arith, c.in-Some.ensures.1, ap length c.as_slice.ensures.value, c.requires.current)
 
+pub scale-requires-clause-before : goal.scale-requires-clause-before
+scale-requires-clause-before c =
+    omega (arith, c.in-Some.ensures.0, ap lead_at c.as_slice.ensures.value, ap lead_at c.as_slice-in-Some.ensures.value)
+
+pub clear_from-requires-clause-before : goal.clear_from-requires-clause-before
+clear_from-requires-clause-before c =
+    let same : c.as_mut_slice-in-Some.result.now ≡ c.args.self.now.current.items = c.as_mut_slice-in-Some.ensures.value ∙ ap items_of c.swap.ensures.y_after in
+    omega (arith, c.in-Some.ensures.0, ap lead_at c.as_slice.ensures.value, ap lead_at same)
+
 pub returns-in-Some-clause-settled : goal.returns-in-Some-clause-settled
 returns-in-Some-clause-settled c =
     let p : ℕ = c.args.problem.now.modulus in
@@ -39,7 +48,7 @@ returns-in-Some-clause-settled c =
     looking-is c.args.problem.now (sight_of c.args.self.now) y c.args.row c.in-Some.column _ _ (omega (arith, at, within, c.requires.current)) at
     (ap items_of c.swap.ensures.x_after ∙ with_items_is c.args.self.now.seen c.scale.new.multiple
     (omega (arith, c.scale.auto.multiple, c.as_mut_slice.ensures.len)) ∙ scaled)
-    (with_items_is c.swap.new.y c.clear.new.row (omega (arith, c.clear.auto.row, c.as_mut_slice-in-Some.ensures.len)) ∙ c.clear.ensures
+    (with_items_is c.swap.new.y c.clear_from.new.row (omega (arith, c.clear_from.auto.row, c.as_mut_slice-in-Some.ensures.len)) ∙ c.clear_from.ensures
     ∙ ap zeros (ap length (c.as_mut_slice-in-Some.ensures.value ∙ ap items_of c.swap.ensures.y_after) ∙ c.requires.current))
 
 pub returns-in-None-clause-settled : goal.returns-in-None-clause-settled
@@ -47,6 +56,6 @@ returns-in-None-clause-settled c =
     let y : List ℕ = c.args.self.now.current.items in
     let past : length y ≤ lead_at y = subst (λ (ys : List ℕ). length ys ≤ lead_at ys) c.as_slice.ensures.value c.in-None.ensures in
     fresh-is c.args.problem.now (sight_of c.args.self.now) y c.args.row _ (omega (arith, past, c.requires.current)) c.requires.current
-    (with_items_is c.args.self.now.seen c.clear-in-None.new.row (omega
-    (arith, c.clear-in-None.auto.row, c.as_mut_slice-in-None.ensures.len)) ∙ c.clear-in-None.ensures
+    (with_items_is c.args.self.now.seen c.clear.new.row (omega
+    (arith, c.clear.auto.row, c.as_mut_slice-in-None.ensures.len)) ∙ c.clear.ensures
     ∙ ap zeros (ap length c.as_mut_slice-in-None.ensures.value ∙ c.requires.seen))
