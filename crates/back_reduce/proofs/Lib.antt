@@ -1,5 +1,6 @@
 pub mod EntryRows
 pub mod ListedRows
+pub mod RowEntries
 pub mod Vectors
 pub mod Sums
 pub mod Tables

@@ -1,5 +1,6 @@
 pub mod Entries
 pub mod Forms
+pub mod Listings
 pub mod Rows
 pub mod Rref
 pub mod Problems

@@ -6,6 +6,7 @@
 
 mod echelon;
 mod elimination;
+mod entry;
 mod form;
 mod laws;
 mod listed;
@@ -19,6 +20,7 @@ mod tests;
 
 pub use echelon::reduced;
 pub use elimination::{SeqPivots, eliminate};
+pub use entry::Entry;
 pub use laws::echelon_law;
 pub use pivots::PivotRows;
 pub use problem::Problem;

@@ -3,8 +3,10 @@ ghost use Rattle.std.specs.Prelude.{slice_index, slice_index_or};
 ghost use Rattle.field_table.specs.Residues.{plus_multiple, product_of};
 ghost use Rattle.back_reduce.specs.Entries.{IsLead};
 ghost use Rattle.back_reduce.specs.Forms.{listed_row};
+ghost use Rattle.back_reduce.specs.Listings.{entries_of};
 
 use crate::NoMemory;
+use crate::entry::Entry;
 use crate::form::Listed;
 use crate::scale::scale;
 use field_table::Field;
@@ -66,6 +68,20 @@ impl Listed {
             }
         }
         true
+    }
+
+    pub(crate) fn entries(&self, alloc: Global) -> Result<Vec<Entry>, NoMemory>
+        ensures { IfOk result (λ entries. entries.items ≡ entries_of (listed_row self.now)) }
+    {
+        let mut entries = Vec::with_capacity(alloc, self.columns.len())?;
+        for place in 0..self.columns.len() {
+            let column = self.columns[place] as usize;
+            let residue = self.residues[place];
+            if residue != 0 {
+                entries.push(Entry { column, residue })?;
+            }
+        }
+        Ok(entries)
     }
 
     /// The row times a residue.

@@ -2,8 +2,10 @@ ghost use Rattle.std.specs.Prelude.{◌≡◌, ◌<◌, ◌≤◌, false, true, 
 ghost use Rattle.std.specs.Prelude.{replicate, slice_index, slice_index_or};
 ghost use Rattle.field_table.specs.Residues.{plus_multiple, product_of};
 ghost use Rattle.back_reduce.specs.Entries.{entries_row, IsLead};
+ghost use Rattle.back_reduce.specs.Listings.{entries_of};
 
 use crate::NoMemory;
+use crate::entry::Entry;
 use crate::form::{Form, Listed};
 use crate::scale::scale;
 use field_table::Field;
@@ -112,6 +114,16 @@ impl Row {
         }
     }
 
+    /// The residues that are not 0, with their columns, rising.
+    pub fn entries(&self, alloc: Global) -> Result<Vec<Entry>, NoMemory>
+        ensures { IfOk result (λ entries. entries.items ≡ entries_of self.now) }
+    {
+        match &self.form {
+            Form::Full(residues) => entries_in(alloc, residues.as_slice()),
+            Form::Listed(listed) => listed.entries(alloc),
+        }
+    }
+
     pub fn copy(&self, alloc: Global) -> Result<Row, NoMemory>
         ensures { IfOk result (λ row. row ≡ self.now) }
     {
@@ -178,6 +190,20 @@ fn lead_of(row: &[u32]) -> Option<usize>
         }
     }
     None
+}
+
+/// The residues that are not 0, with their columns.
+fn entries_in(alloc: Global, row: &[u32]) -> Result<Vec<Entry>, NoMemory>
+    ensures { IfOk result (λ entries. entries.items ≡ entries_of row.now) }
+{
+    let mut entries = Vec::new(alloc);
+    for column in 0..row.len() {
+        let residue = row[column];
+        if residue != 0 {
+            entries.push(Entry { column, residue })?;
+        }
+    }
+    Ok(entries)
 }
 
 /// Whether the row is 0 at each marked column behind this one.

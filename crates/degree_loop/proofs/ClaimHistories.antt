@@ -1,10 +1,9 @@
 -- What the account of an ended run tells.
 use Rattle.std.proofs.Common.{◌≡◌, ◌≢◌, ◌<◌, ℕ, All, AllPairs, Contains, List, [], Some, get_or, length, map, refl, sym, ap, ◌∙◌, arith, inl, inr, subst}
-use Rattle.std.specs.List.{range_with_len, sum_by}
+use Rattle.std.specs.List.{sum_by}
 use Rattle.std.proofs.lemmas.Bool.{cases_lt}
 use Rattle.std.proofs.lemmas.List.Elements.{All-contains, All-weaker, Contains-get_or}
-use Rattle.words.proofs.Degrees.{range-bounds}
-use Rattle.words.proofs.Members.{All-from_members, AllPairs-nil, Contains-map, Contains-map_cases}
+use Rattle.words.proofs.Members.{AllPairs-nil, Contains-map, Contains-map_cases}
 use Rattle.field_table.specs.Residues.{IsFieldModulus}
 use Rattle.free_poly.specs.declared.term.Term.{Term}
 use Rattle.free_poly.specs.Poly.{element_on, lead_of}
@@ -19,10 +18,8 @@ use Rattle.ideal_laws.proofs.OneBasis.{some_same}
 use Rattle.symbolic_prep.specs.Closed.{ClosedColumns}
 use Rattle.back_reduce.specs.declared.problem.Problem.{Problem}
 use Rattle.back_reduce.specs.Pivots.{ArePivots}
-use Rattle.back_reduce.specs.Problems.{row_of, rows_of}
-use Rattle.back_reduce.specs.Rows.{IsRow}
+use Rattle.back_reduce.specs.Problems.{rows_of}
 use Rattle.back_reduce.specs.Rref.{HaveOneRref, IsRref}
-use Rattle.back_reduce.proofs.RowLists.{row_residues, row_size}
 use Rattle.row_laws.specs.Laws.{RowsGiveBasis}
 use Rattle.row_laws.proofs.OnColumns.{element_on-first}
 use Rattle.pivot_core.specs.declared.sight.Sight.{Sight}
@@ -108,21 +105,11 @@ module _ (p : ℕ) (weights : List ℕ) (relations : List (List Term)) (st : IsS
   modulus : IsFieldModulus problem.modulus
   modulus = subst IsFieldModulus (sym matrix.modulus) st.modulus
 
-  problem_rows : All (IsRow problem.modulus problem.m) (rows_of problem)
-  problem_rows = All-from_members (IsRow problem.modulus problem.m) (rows_of problem) (λ r there. (
-      let q = Contains-map_cases (row_of problem.m problem.cells.items) (range_with_len 0 problem.n) r there in
-      let lt : q.0 < problem.n = omega (arith, (range-bounds 0 problem.n q.0 q.1).1) in
-      subst (IsRow problem.modulus problem.m) q.2
-      (record {
-        size = row_size problem.m problem.n problem.cells.items q.0 problem.shape lt;
-        residues = row_residues problem.modulus problem.m problem.cells.items q.0 problem.residues;
-      })))
-
   abbrev echelon : List (List ℕ)
-  echelon = (form_law problem.modulus problem.m (rows_of problem) modulus problem_rows).echelon
+  echelon = (form_law problem.modulus problem.m (rows_of problem) modulus problem.each).echelon
 
   form : IsRref problem.modulus problem.m (rows_of problem) echelon
-  form = (form_law problem.modulus problem.m (rows_of problem) modulus problem_rows).form
+  form = (form_law problem.modulus problem.m (rows_of problem) modulus problem.each).form
 
   own_basis : IsReducedBasis p weights relations d (map (element_on contested) echelon)
   own_basis = basis_law p weights relations st d G lower matrix.rows closed.columns closed.reducers matrix.are_closed (rows_of problem)

@@ -1,11 +1,9 @@
 -- The elements of a degree, from the echelon form of its matrix.
 use Rattle.std.proofs.Common.{◌≡◌, Err, Result, ◌+◌, ◌-◌, ◌^◌, ◌<◌, ◌≤◌, ℕ, List, [], ◌∷◌, All, AllPairs, inl, inr, length, map, min, sym, ap, ◌∙◌}
 use Rattle.std.proofs.Common.{arith, subst, refl}
-use Rattle.std.specs.List.{Contains, range_with_len}
-use Rattle.std.proofs.lemmas.List.{length-map}
-use Rattle.std.proofs.lemmas.List.FromFn.{length-range_with_len}
+use Rattle.std.specs.List.{Contains}
 use Rattle.std.proofs.lemmas.Slice.Zip.{AllZip-long}
-use Rattle.std.proofs.lemmas.List.Elements.{All-cons, All-contains, All-head, All-nil, All-tail}
+use Rattle.std.proofs.lemmas.List.Elements.{All-contains}
 use Rattle.words.proofs.Members.{All-from_members, AllPairs-first, AllPairs-rest, Contains-cases, Contains-none}
 use Rattle.free_poly.specs.declared.term.Term.{Term}
 use Rattle.free_poly.specs.Poly.{IsMonic, element_on}
@@ -19,20 +17,12 @@ use Rattle.ideal_laws.specs.Engine.{Elements}
 use Rattle.ideal_laws.specs.Quantities.{IsFirstPassing, IsQuantity, NonePasses, terms_in, contested_words}
 use Rattle.ideal_laws.specs.Overlaps.{AreLower}
 use Rattle.back_reduce.specs.declared.problem.Problem.{Problem}
-use Rattle.back_reduce.specs.Problems.{row_of, rows_of}
+use Rattle.back_reduce.specs.Problems.{rows_of}
 use Rattle.back_reduce.specs.Rref.{IsRref}
 use Rattle.row_laws.specs.Contested.{IsContestedRow}
 use Rattle.row_laws.specs.Laws.{RowsGiveBasis}
 use Rattle.symbolic_prep.specs.Closed.{ClosedColumns}
 use Rattle.degree_loop.specs.Matrix.{IsMatrix}
-
-pub all_under : {X Y : Type 0} (P : Y → Type 0) (f : X → Y) (xs : List X) → All P (map f xs) → All (λ x. P (f x)) xs
-all_under P f [] h = All-nil (λ x. P (f x))
-all_under P f (x ∷ xs) h = All-cons (λ x. P (f x)) x xs (All-head P (f x) (map f xs) h) (all_under P f xs (All-tail P (f x) (map f xs) h))
-
-map_twice : {X Y Z : Type 0} (f : X → Y) (g : Y → Z) (xs : List X) → map g (map f xs) ≡ map (λ x. g (f x)) xs
-map_twice f g [] = refl
-map_twice f g (x ∷ xs) = ap (λ (zs : List _). g (f x) ∷ zs) (map_twice f g xs)
 
 module _ (p : ℕ) (weights : List ℕ) (relations G : List (List Term)) (d : ℕ) (closed : ClosedColumns) (problem : Problem)
     (h : IsMatrix p weights relations G d closed problem) where
@@ -43,22 +33,19 @@ module _ (p : ℕ) (weights : List ℕ) (relations G : List (List Term)) (d : �
   form_of echelon f = subst (λ (n : ℕ). IsRref p n (rows_of problem) echelon) h.width
       (subst (λ (n : ℕ). IsRref n problem.m (rows_of problem) echelon) h.modulus f)
 
-  pub basis_of : {X : Type 0} (items : X → List ℕ) (law : RowsGiveBasis) (st : IsSetting p weights relations)
-      (lower : AreLower p weights relations d G) (echelon : List X)
-      → IsRref problem.modulus problem.m (rows_of problem) (map items echelon) → (columns : List (List ℕ)) → columns ≡ contested
-      → (elements : List (List Term)) → elements ≡ map (λ row. element_on columns (items row)) echelon → IsReducedBasis p weights relations d elements
-  basis_of items law st lower echelon f columns are elements is =
+  pub basis_of : (law : RowsGiveBasis) (st : IsSetting p weights relations) (lower : AreLower p weights relations d G) (echelon : List (List ℕ))
+      → IsRref problem.modulus problem.m (rows_of problem) echelon → (columns : List (List ℕ)) → columns ≡ contested
+      → (elements : List (List Term)) → elements ≡ map (element_on columns) echelon → IsReducedBasis p weights relations d elements
+  basis_of law st lower echelon f columns are elements is =
       let own = law p weights relations st d G lower h.rows closed.columns closed.reducers h.are_closed (rows_of problem) h.contested
-      (map items echelon) (form_of (map items echelon) f) in
-      subst (IsReducedBasis p weights relations d)
-      (sym (is ∙ ap (λ (ws : List (List ℕ)). map (λ row. element_on ws (items row)) echelon) are ∙ sym (map_twice items (element_on contested) echelon))) own
+      echelon (form_of echelon f) in
+      subst (IsReducedBasis p weights relations d) (sym (is ∙ ap (λ (ws : List (List ℕ)). map (element_on ws) echelon) are)) own
 
 -- the problem has as many rows as the degree
 pub count_rows : (p : ℕ) (weights : List ℕ) (relations G : List (List Term)) (d : ℕ) (closed : ClosedColumns) (problem : Problem) →
     (h : IsMatrix p weights relations G d closed problem) → problem.n ≡ length h.rows
 count_rows p weights relations G d closed problem h =
-    sym (length-range_with_len 0 problem.n) ∙ sym (length-map (range_with_len 0 problem.n) (row_of problem.m problem.cells.items))
-    ∙ AllZip-long (IsContestedRow p closed.columns closed.reducers) h.rows (rows_of problem) h.contested
+    sym problem.count ∙ AllZip-long (IsContestedRow p closed.columns closed.reducers) h.rows (rows_of problem) h.contested
 
 -- the elements of a reduced basis are monic
 pub basis_monic : (p : ℕ) (weights : List ℕ) (relations : List (List Term)) (d : ℕ) (basis : List (List Term)) →

@@ -1,15 +1,15 @@
 -- Relations of a degree, terms and elements, item after item.
-use Rattle.std.proofs.Common.{◌≡◌, ◌≢◌, ◌+◌, ◌<◌, ◌≤◌, ◌==◌, ℕ, suc, Bool, true, false, cond, List, [], ◌∷◌, ◌++◌, All, append-nil, drop, get_or}
-use Rattle.std.proofs.Common.{length, length-append, take, refl, sym, ap, ap₂, ◌∙◌, arith, Some, None, subst}
+use Rattle.std.proofs.Common.{◌≡◌, ◌≢◌, ◌+◌, ◌<◌, ◌≤◌, ◌==◌, ℕ, suc, Bool, true, false, cond, List, [], ◌∷◌, ◌++◌, All, append-nil, get_or}
+use Rattle.std.proofs.Common.{length, length-append, take, refl, sym, ap, ◌∙◌, arith, Some, None, subst}
 use Rattle.std.specs.List.{flat_map}
 use Rattle.std.proofs.lemmas.Bool.{eqb-true, false_from_ne_true}
-use Rattle.std.proofs.lemmas.List.{append_assoc, drop_more, take_more}
+use Rattle.std.proofs.lemmas.List.{take_more}
 use Rattle.std.proofs.lemmas.List.Concat.{flat_map-append}
 use Rattle.std.proofs.lemmas.List.Elements.{All-head, All-tail}
 use Rattle.words.specs.Words.{IsOver, degree_of}
 use Rattle.free_poly.specs.declared.term.Term.{Term}
 use Rattle.free_poly.specs.Terms.{UsesLetters, term_at}
-use Rattle.free_poly.specs.Poly.{IsMonic, lead_of, element_on}
+use Rattle.free_poly.specs.Poly.{IsMonic, lead_of}
 use Rattle.ideal_laws.specs.Engine.{of_degree}
 use Rattle.ideal_laws.specs.Quantities.{terms_in}
 use Rattle.ideal_laws.proofs.Grown.{of_degree-append}
@@ -70,17 +70,6 @@ pub lead_over : (names : ℕ) (f : List Term) (w : List ℕ) → Some w ≡ lead
 lead_over names [] w e h = cc e
 lead_over names (t ∷ f) w e h = let is : t.word ≡ w = cc e in subst (IsOver names) is (All-head (λ s. IsOver names s.word) t f h)
 
--- one more column
-pub element_on-more : (xs : List (List ℕ)) (row : List ℕ) (k : ℕ) (terms : List Term) → length row ≡ length xs → k < length row
-    → (terms ++ term_at (get_or xs k []) (get_or row k 0)) ++ element_on (drop (k + 1) xs) (drop (k + 1) row) ≡ terms ++ element_on (drop k xs) (drop k row)
-element_on-more xs row k terms l within =
-    append_assoc terms (term_at (get_or xs k []) (get_or row k 0)) (element_on (drop (k + 1) xs) (drop (k + 1) row))
-    ∙ ap (λ (f : List Term). terms ++ f) (sym (ap₂ element_on (drop_more xs k [] (omega (arith, within, l))) (drop_more row k 0 within)))
-
+-- a term with a coefficient other than 0
 pub some_term : (w : List ℕ) (a : ℕ) → a ≢ 0 → term_at w a ≡ record { word = w; coefficient = a } ∷ []
 some_term w a ne = ap (λ (b : Bool). cond b [] (record { word = w; coefficient = a } ∷ [])) (false_from_ne_true (a == 0) (λ e. ne (eqb-true a 0 e)))
-
-pub pushed_term : (terms next : List Term) (word own : List ℕ) (a : ℕ) → a ≢ 0 →
-    next ≡ terms ++ record { word = word; coefficient = a } ∷ [] → word ≡ own → next ≡ terms ++ term_at own a
-pushed_term terms next word own a ne e is = e ∙ ap (λ (w : List ℕ). terms ++ record { word = w; coefficient = a } ∷ []) is
-    ∙ ap (λ (f : List Term). terms ++ f) (sym (some_term own a ne))

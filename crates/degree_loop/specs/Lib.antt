@@ -2,4 +2,5 @@ pub mod Accounts
 pub mod ClaimHistory
 pub mod Limits
 pub mod Matrix
+pub mod Elements
 pub mod Schedule

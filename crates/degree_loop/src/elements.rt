@@ -9,10 +9,11 @@ ghost use Rattle.ideal_laws.specs.Engine.{IsReducedUpto};
 ghost use Rattle.ideal_laws.specs.Quantities.{IsFirstPassing, IsQuantity, NonePasses};
 ghost use Rattle.back_reduce.specs.Rows.{IsRow};
 ghost use Rattle.free_poly.specs.Poly.{element_on};
+ghost use Rattle.degree_loop.specs.Elements.{term_in};
 ghost use Rattle.degree_loop.specs.Matrix.{AreColumnWords, IsMatrix};
 
 use crate::terms::{terms_below, terms_of};
-use back_reduce::{PivotRows, reduced};
+use back_reduce::{Entry, PivotRows, Row, reduced};
 use field_table::Field;
 use free_poly::{Poly, PolyFault, Term};
 use ideal_laws::{Basis, EngineFault, LimitKind, Presentation, lower_law, setting_law};
@@ -83,15 +84,15 @@ fn elements_on(
     alphabet: &Alphabet,
     field: &Field,
     columns: &[Word],
-    rows: &[Vec<u32>],
+    rows: &[Row],
 ) -> Result<Vec<Poly>, NoMemory>
     requires columns { AreColumnWords alphabet.now.weights columns.now }
-    requires rows { All (λ row. IsRow field.now (length columns.now) row.items) rows.now }
-    ensures { IfOk result (λ elements. elements.items ≡ map (λ row. element_on columns.now row.items) rows.now) }
+    requires rows { All (IsRow field.now (length columns.now)) rows.now }
+    ensures { IfOk result (λ elements. elements.items ≡ map (element_on columns.now) rows.now) }
 {
     let mut elements = Vec::with_capacity(alloc, rows.len())?;
     for row in rows {
-        let element = element_of(alloc, alphabet, field, columns, row.as_slice())?;
+        let element = element_of(alloc, alphabet, field, columns, row)?;
         elements.push(element)?;
     }
     Ok(elements)
@@ -103,7 +104,7 @@ fn element_of(
     alphabet: &Alphabet,
     field: &Field,
     columns: &[Word],
-    row: &[u32],
+    row: &Row,
 ) -> Result<Poly, NoMemory>
     requires columns { AreColumnWords alphabet.now.weights columns.now }
     requires row { IsRow field.now (length columns.now) row.now }
@@ -117,20 +118,31 @@ fn element_of(
     }
 }
 
-/// The words of the columns with their residues, where these are not 0.
-fn terms_on(alloc: Global, columns: &[Word], row: &[u32]) -> Result<Vec<Term>, NoMemory>
+/// The words of the columns with the residues of a row, where these are not 0.
+fn terms_on(alloc: Global, columns: &[Word], row: &Row) -> Result<Vec<Term>, NoMemory>
     requires { length row.now ≡ length columns.now }
     ensures { IfOk result (λ terms. terms.items ≡ element_on columns.now row.now) }
 {
-    let mut terms = Vec::new(alloc);
-    for (at, coefficient) in row.iter().enumerate() {
-        if *coefficient != 0 {
-            let word = columns[at].copy(alloc)?;
-            terms.push(Term {
-                word,
-                coefficient: *coefficient,
-            })?;
-        }
+    let entries = row.entries(alloc)?;
+    terms_of_entries(alloc, columns, entries.as_slice())
+}
+
+/// The word of the column of each entry, with its residue.
+fn terms_of_entries(
+    alloc: Global,
+    columns: &[Word],
+    entries: &[Entry],
+) -> Result<Vec<Term>, NoMemory>
+    requires { All (λ entry. entry.column < length columns.now) entries.now }
+    ensures { IfOk result (λ terms. terms.items ≡ map (term_in columns.now) entries.now) }
+{
+    let mut terms = Vec::with_capacity(alloc, entries.len())?;
+    for entry in entries {
+        let word = columns[entry.column].copy(alloc)?;
+        terms.push(Term {
+            word,
+            coefficient: entry.residue,
+        })?;
     }
     Ok(terms)
 }

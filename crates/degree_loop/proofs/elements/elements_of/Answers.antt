@@ -1,4 +1,4 @@
-use Rattle.std.proofs.Common.{◌≡◌, ◌+◌, ◌-◌, ◌^◌, ◌≤◌, ℕ, List, All, Global, Vec, length, map, min, refl, subst, sym, ap, ◌∙◌, arith}
+use Rattle.std.proofs.Common.{◌≡◌, ◌+◌, ◌-◌, ◌^◌, ◌≤◌, ℕ, List, All, length, map, min, refl, subst, sym, ap, ◌∙◌, arith}
 use Rattle.free_poly.specs.declared.term.Term.{Term}
 use Rattle.ideal_laws.specs.Quantities.{terms_in, contested_words}
 use Rattle.ideal_laws.specs.Basis.{IsReducedBasis}
@@ -6,7 +6,7 @@ use Rattle.back_reduce.specs.Rows.{IsRow}
 use Rattle.free_poly.specs.Poly.{element_on}
 use Rattle.degree_loop.specs.Matrix.{AreColumnWords}
 use Rattle.degree_loop.proofs.DegreeClosure.{column_words}
-use Rattle.degree_loop.proofs.Finished.{all_under, basis_monic, basis_of, elements_few, form_of, terms_pass, terms_within}
+use Rattle.degree_loop.proofs.Finished.{basis_monic, basis_of, elements_few, form_of, terms_pass, terms_within}
 use Rattle.degree_loop.proofs.Listing.{few_elements}
 use Rattle.degree_loop.proofs.elements.elements_of.Goals as goal
 
@@ -34,15 +34,13 @@ elements_on-requires-clause-rows g c =
     let p = c.args.field.now in
     let closed = c.args.closed.now in
     let problem = g.P.PivotRows.given c.args.pivots.now in
-    let items = λ (v : Vec ℕ Global). v.items in
     let echelon = c.in_ok-echelon.echelon.items in
     let form = form_of p c.args.presentation.now.alphabet.weights c.args.presentation.now.relations c.args.below.now.elements c.args.d
-    closed problem c.requires.matrix (map items echelon) c.in_ok-echelon.ensures in
+    closed problem c.requires.matrix echelon c.in_ok-echelon.ensures in
     let columns : c.contested.result.now ≡ contested_words closed.columns closed.reducers = c.contested.ensures in
-    let rows : All (λ (v : Vec ℕ Global). IsRow p (length c.contested.result.now) v.items) echelon =
-    subst (λ (ws : List (List ℕ)). All (λ (v : Vec ℕ Global). IsRow p (length ws) v.items) echelon) (sym columns)
-    (all_under (IsRow p (length (contested_words closed.columns closed.reducers))) items echelon form.each) in
-    subst (All (λ (v : Vec ℕ Global). IsRow p (length c.contested.result.now) v.items)) (sym c.as_slice.ensures.value) rows
+    let rows : All (IsRow p (length c.contested.result.now)) echelon =
+    subst (λ (ws : List (List ℕ)). All (IsRow p (length ws)) echelon) (sym columns) form.each in
+    subst (All (IsRow p (length c.contested.result.now))) (sym c.as_slice.ensures.value) rows
 
 pub returns-then-count-from-clause-limit : goal.returns-then-count-from-clause-limit
 returns-then-count-from-clause-limit g c = λ kind degree value e.
@@ -60,11 +58,10 @@ returns-then-count-from-clause-limit g c = λ kind degree value e.
       reduced = c.requires.reduced;
     }) in
     let elements = c.in_ok-elements.elements.items in
-    let items = λ (v : Vec ℕ Global). v.items in
     let columns : c.contested.result.now ≡ contested_words closed.columns closed.reducers = c.contested.ensures in
-    let made : elements ≡ map (λ (v : Vec ℕ Global). element_on c.contested.result.now v.items) c.in_ok-echelon.echelon.items =
-    c.in_ok-elements.ensures ∙ ap (map (λ (v : Vec ℕ Global). element_on c.contested.result.now v.items)) c.as_slice.ensures.value in
-    let basis = basis_of p weights relations below.elements c.args.d closed problem c.requires.matrix items c.rows_law.ensures.basis
+    let made : elements ≡ map (element_on c.contested.result.now) c.in_ok-echelon.echelon.items =
+    c.in_ok-elements.ensures ∙ ap (map (element_on c.contested.result.now)) c.as_slice.ensures.value in
+    let basis = basis_of p weights relations below.elements c.args.d closed problem c.requires.matrix c.rows_law.ensures.basis
     c.setting_law.ensures lower c.in_ok-echelon.echelon.items c.in_ok-echelon.ensures
     c.contested.result.now columns elements made in
     let count : c.saturating_add-count.result ≡ min (min (terms_in below.elements) (2 ^ 64 - 1) + min (terms_in elements) (2 ^ 64 - 1)) (2 ^ 64 - 1) =
@@ -88,12 +85,11 @@ returns-clause-elements g c =
       reduced = c.requires.reduced;
     }) in
     let elements = c.in_ok-elements.elements.items in
-    let items = λ (v : Vec ℕ Global). v.items in
     let columns : c.contested.result.now ≡ contested_words closed.columns closed.reducers = c.contested.ensures in
-    let made : elements ≡ map (λ (v : Vec ℕ Global). element_on c.contested.result.now v.items) c.in_ok-echelon.echelon.items =
-    c.in_ok-elements.ensures ∙ ap (map (λ (v : Vec ℕ Global). element_on c.contested.result.now v.items)) c.as_slice.ensures.value in
+    let made : elements ≡ map (element_on c.contested.result.now) c.in_ok-echelon.echelon.items =
+    c.in_ok-elements.ensures ∙ ap (map (element_on c.contested.result.now)) c.as_slice.ensures.value in
     subst (IsReducedBasis p weights relations c.args.d) (sym c.from_vec.ensures)
-    (basis_of p weights relations below.elements c.args.d closed problem c.requires.matrix items c.rows_law.ensures.basis
+    (basis_of p weights relations below.elements c.args.d closed problem c.requires.matrix c.rows_law.ensures.basis
     c.setting_law.ensures lower c.in_ok-echelon.echelon.items c.in_ok-echelon.ensures
     c.contested.result.now columns elements made)
 

@@ -3,4 +3,4 @@ use Rattle.free_poly.specs.Poly.{element_on}
 use Rattle.degree_loop.proofs.elements.elements_on.Given as goal
 
 abbrev pub invariant-loop-row : goal.invariant-loop-row
-invariant-loop-row l = l.elements.items ≡ map (λ row. element_on l.columns row.items) (take l.row-index l.rows)
+invariant-loop-row l = l.elements.items ≡ map (element_on l.columns) (take l.row-index l.rows)
