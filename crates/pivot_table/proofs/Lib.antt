@@ -9,6 +9,7 @@ pub mod NextKinds
 pub mod WorkerTurns
 pub mod WorkersTold
 pub mod RowReads
+pub mod PairReads
 pub mod Sharing
 pub mod Begin
 pub mod FoundCells

@@ -1,7 +1,8 @@
 -- A worker that reads a row, word after word.
-use Rattle.std.proofs.Common.{◌≡◌, ◌⊎◌, inl, inr, false, ℕ, ◌+◌, ◌-◌, ◌/◌, ◌<◌, List, refl, sym, ap, ◌∙◌, arith, subst}
+use Rattle.std.proofs.Common.{◌≡◌, ◌⊎◌, inl, inr, false, ℕ, ◌+◌, ◌-◌, ◌/◌, ◌<◌, ◌≤◌, List, refl, sym, ap, ◌∙◌, arith, subst}
 use Rattle.std.specs.Vec.{with_item}
 use Rattle.atomic_table.specs.declared.shared.Seat.{Seat}
+use Rattle.atomic_table.specs.Table.{Allows}
 use Rattle.back_reduce.specs.declared.problem.Problem.{Problem}
 use Rattle.pivot_core.specs.declared.view.Phase.{Phase}
 use Rattle.pivot_core.specs.declared.view.Phase.TheVariants as phase
@@ -20,11 +21,11 @@ use Rattle.pivot_table.specs.declared.share.Share.{Share}
 use Rattle.pivot_table.specs.declared.worker.Worker.TheInside as worker
 use Rattle.pivot_table.specs.declared.race.Race.TheInside as race
 use Rattle.pivot_table.specs.Cells.{cell_of, half_at}
-use Rattle.pivot_table.specs.Law.{met_by}
+use Rattle.pivot_table.specs.Law.{IsKept, met_by}
 use Rattle.pivot_table.specs.WorkerFields.{standing_of}
 use Rattle.pivot_table.specs.Workers.{Arena, AreTaken, IsOf, IsReadUpto, IsTaken, Standing, arena_of, begun, gone_on}
 use Rattle.pivot_table.proofs.Turns.{IsLoad}
-use Rattle.pivot_table.proofs.WorkerTurns.{IsTurn, still}
+use Rattle.pivot_table.proofs.WorkerTurns.{IsTurn, load_asks, read_within, still}
 use Rattle.pivot_table.proofs.WorkersTold.{IsTold, crew_kept, load_publishes, problem_kept, taken_after, told_read, worker_after}
 
 -- no step or some
@@ -81,6 +82,38 @@ module _ (race : race.Inside) (before : Standing) (w : worker.Inside) (h : IsRea
             (taken_after race w h.turn word seat.me told_so after (reply.Got word) made (omega arith) w.published loads seat refl));
         seat = h.seat;
       }
+
+-- the worker has come here from before and reads at a place of a row, after a step for each word since it began
+abbrev pub ReadsAt : race.Inside → Standing → worker.Inside → ℕ → ℕ → ℕ → ℕ → ℕ → Type 0
+ReadsAt race before w row column holder at next =
+    IsReading race before (reading_at w (phase.Reading row column holder next) (w.view.steps + (next - at)))
+
+-- what its next load asks, and room for the word
+pub load_here : (race : race.Inside) (before : Standing) (w : worker.Inside) (row column holder at next : ℕ)
+    → ReadsAt race before w row column holder at next → (cell slots : ℕ) → cell ≡ cell_of race.setting.problem.m (row_word holder next)
+    → (w.seat.table_id ≡ race.table.shared.table_id) × (cell < race.table.shared.table_id.words)
+    × Allows (IsKept race.table.shared.key) slots w.seat.id w.seat.me cell (λ n. n) (met_by still w.seat.me)
+load_here race before w row column holder at next h cell slots is =
+    load_asks race (reading_at w (phase.Reading row column holder next) (w.view.steps + (next - at))) h.turn cell slots is tt
+
+pub seen_here : (race : race.Inside) (before : Standing) (w : worker.Inside) (row column holder at next : ℕ)
+    → ReadsAt race before w row column holder at next → next < w.view.seen.len
+seen_here race before w row column holder at next h =
+    let within = read_within race (reading_at w (phase.Reading row column holder next) (w.view.steps + (next - at))) h.turn row column holder next refl in
+    omega (arith, within, w.view.seen.ok.0)
+
+-- so it is from word to word of a row
+pub reads_step : (race : race.Inside) (before : Standing) (w : worker.Inside) (row column holder at next : ℕ)
+    → ReadsAt race before w row column holder at next → at ≤ next
+    → next + 1 < race.setting.problem.m → (cell word : ℕ) (seat : Seat ℕ Share) → seat.table_id ≡ w.seat.table_id
+    → met_by still w.seat.me cell seat.me → word ≡ half_at next cell
+    → ReadsAt race before (record w { view = record w.view { seen = with_item w.view.seen next word }; seat = seat }) row column holder at (next + 1)
+reads_step race before w row column holder at next h from more cell word seat same told half =
+    let here = reading_at w (phase.Reading row column holder next) (w.view.steps + (next - at)) in
+    let count : w.view.steps + (next - at) + 1 ≡ w.view.steps + (next + 1 - at) = omega (arith, from) in
+    subst (λ (n : ℕ). IsReading race before (reading_at (record w { view = record w.view { seen = with_item w.view.seen next word }; seat = seat })
+    (phase.Reading row column holder (next + 1)) n)) count
+    (reads_on race before here h row column holder next refl more cell word seat same told half)
 
 -- before the first read it has come here
 pub reads_begin : (race : race.Inside) (before : Standing) (w : worker.Inside) (row column holder at : ℕ) → IsTurn race w → standing_of w ≡ before

@@ -1,4 +1,4 @@
-ghost use Rattle.std.specs.Prelude.{◌≡◌, ◌⊎◌, ◌+◌, true, false};
+ghost use Rattle.std.specs.Prelude.{◌≡◌, ◌⊎◌, ◌+◌, ◌%◌, ◌≤◌, max, true, false};
 ghost use Rattle.pivot_core.specs.declared.event.Kind.TheVariants as kind;
 ghost use Rattle.pivot_core.specs.Steps.{is_next};
 ghost use Rattle.pivot_table.specs.Workers.{AreTaken, IsOf, IsReadUpto};
@@ -24,7 +24,8 @@ impl Race {
     }
 
     /// Reads the row that holds the column up to its last word. Of the view only the words seen are written at each
-    /// step, and its phase and steps at the end.
+    /// step, and its phase and steps at the end. From an even column on, the two words of a cell are read in turn, so
+    /// that no step has to ask which half it takes.
     fn read_on(&self, worker: &mut Worker)
         requires same { IsOf self.now worker.old }
         requires next { is_next kind.Read worker.old.sight.phase ≡ true }
@@ -43,7 +44,20 @@ impl Race {
         {
             let last = problem.m - 1;
             let first = row_cell(problem, holder, 0);
-            for next in at..last {
+            let even = even_from(at, last);
+            for next in at..even {
+                let cell = first + next as usize / 2;
+                let old = self.table.shared.load::<Meets>(&mut worker.seat, cell);
+                worker.view.seen[next as usize] = half_told(next, old);
+            }
+            for pair in even / 2..last / 2 {
+                let cell = first + pair as usize;
+                let low = self.table.shared.load::<Meets>(&mut worker.seat, cell);
+                worker.view.seen[2 * pair as usize] = half_told(2 * pair, low);
+                let high = self.table.shared.load::<Meets>(&mut worker.seat, cell);
+                worker.view.seen[2 * pair as usize + 1] = half_told(2 * pair + 1, high);
+            }
+            for next in later(even, last / 2 * 2)..last {
                 let cell = first + next as usize / 2;
                 let old = self.table.shared.load::<Meets>(&mut worker.seat, cell);
                 worker.view.seen[next as usize] = half_told(next, old);
@@ -57,4 +71,26 @@ impl Race {
             worker.view.steps += u64::from(last - at);
         }
     }
+}
+
+/// The first even column from here on, but at most the last.
+fn even_from(at: u32, last: u32) -> u32
+    requires { at ≤ last }
+    ensures from { at ≤ result }
+    ensures upto { result ≤ last }
+    ensures even { (result % 2 ≡ 0) ⊎ (result ≡ last) }
+{
+    if at % 2 == 1 && at < last {
+        return at + 1;
+    }
+    at
+}
+
+fn later(first: u32, second: u32) -> u32
+    ensures { result ≡ max first second }
+{
+    if first < second {
+        return second;
+    }
+    first
 }

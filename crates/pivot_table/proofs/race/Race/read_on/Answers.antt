@@ -1,10 +1,11 @@
-use Rattle.std.proofs.Common.{◌≡◌, ℕ, ◌+◌, ◌-◌, ◌/◌, ◌<◌, refl, ap, arith, subst}
+use Rattle.std.proofs.Common.{◌≡◌, ℕ, ◌+◌, ◌-◌, ◌*◌, ◌/◌, ◌<◌, ◌≤◌, max, refl, sym, ap, ◌∙◌, arith, subst}
 use Rattle.std.specs.Vec.{with_item}
 use Rattle.pivot_core.specs.declared.view.Phase.TheVariants as phase
 use Rattle.pivot_core.specs.Phases.{IsPhase}
 use Rattle.pivot_table.specs.Workers.{Arena}
-use Rattle.pivot_table.proofs.WorkerTurns.{IsTurn, load_asks, phase_within, read_within, steps_small, turn_by}
-use Rattle.pivot_table.proofs.RowReads.{IsReading, belongs, cell_on, reading_at, reads_begin, reads_end, reads_on, reads_taken}
+use Rattle.pivot_table.proofs.WorkerTurns.{IsTurn, phase_within, steps_small, turn_by}
+use Rattle.pivot_table.proofs.RowReads.{ReadsAt, belongs, cell_on, load_here, reading_at, reads_end, reads_step, reads_taken, seen_here}
+use Rattle.pivot_table.proofs.PairReads.{pair_begins, pair_cell, pair_cell_again, pair_ends, pairs_from}
 use Rattle.pivot_table.proofs.race.Race.read_on.Goals as goal
 
 pub overflow_sub-last : goal.overflow_sub-last
@@ -29,100 +30,215 @@ row_cell-first-requires-clause-at c =
     (phase_within c.self.inside c.worker.inside turn) in
     omega (arith, numbers.3)
 
-pub loop-next-init : goal.loop-next-init
-loop-next-init c =
+pub even_from-even-requires : goal.even_from-even-requires
+even_from-even-requires c =
     let turn : IsTurn c.self.inside c.worker.inside = turn_by c.self.inside c.worker.inside c.args.self.now c.args.worker.now c.self.invariant
     c.worker.invariant c.self.view_is c.worker.view_is c.requires.same in
     let numbers = subst (IsPhase c.self.inside.setting.problem.m c.self.inside.setting.problem.n) c.in-Reading.is
     (phase_within c.self.inside c.worker.inside turn) in
-    record {
-      was = c.in-Reading.is;
-      from = omega arith;
-      within = numbers.3;
-      reading = reads_begin c.self.inside c.args.worker.now c.worker.inside c.in-Reading.row c.in-Reading.column c.in-Reading.holder c.in-Reading.at turn
-          c.worker.view_is c.in-Reading.is;
-    }
+    omega (arith, numbers.3)
 
 pub load-old-requires : goal.load-old-requires
-load-old-requires c =
-    let h = c.loop-next.invariant in
-    load_asks c.self.inside (reading_at c.loop-next.worker-inside
-    (phase.Reading c.in-Reading.row c.in-Reading.column c.in-Reading.holder c.loop-next.next)
-    (c.loop-next.worker-inside.view.steps + (c.loop-next.next - c.in-Reading.at))) h.reading.turn (c.row_cell-first.result + c.loop-next.next / 2)
-    c.self.inside.table.shared.table_id.slots
-    (cell_on c.self.inside.setting.problem.m c.in-Reading.holder c.loop-next.next c.row_cell-first.result c.row_cell-first.ensures) tt
+load-old-requires c = load_here c.self.inside c.args.worker.now c.loop-next.worker-inside
+    c.in-Reading.row c.in-Reading.column c.in-Reading.holder c.in-Reading.at c.loop-next.next
+    c.loop-next.invariant.reading (c.row_cell-first.result + c.loop-next.next / 2) c.self.inside.table.shared.table_id.slots
+    (cell_on c.self.inside.setting.problem.m c.in-Reading.holder c.loop-next.next c.row_cell-first.result c.row_cell-first.ensures)
 
 pub index_mut-requires : goal.index_mut-requires
-index_mut-requires c =
-    let h = c.loop-next.invariant in
-    let within = read_within c.self.inside (reading_at c.loop-next.worker-inside
-    (phase.Reading c.in-Reading.row c.in-Reading.column c.in-Reading.holder c.loop-next.next)
-    (c.loop-next.worker-inside.view.steps + (c.loop-next.next - c.in-Reading.at))) h.reading.turn
-    c.in-Reading.row c.in-Reading.column c.in-Reading.holder c.loop-next.next refl in
-    omega (arith, within, c.loop-next.worker-inside.view.seen.ok.0)
+index_mut-requires c = seen_here c.self.inside c.args.worker.now c.loop-next.worker-inside
+    c.in-Reading.row c.in-Reading.column c.in-Reading.holder c.in-Reading.at c.loop-next.next
+    c.loop-next.invariant.reading
 
 pub loop-next-preserved : goal.loop-next-preserved
 loop-next-preserved c =
     let h = c.loop-next.invariant in
-    let next : ℕ = c.loop-next.next in
-    let here = reading_at c.loop-next.worker-inside (phase.Reading c.in-Reading.row c.in-Reading.column c.in-Reading.holder next)
-    (c.loop-next.worker-inside.view.steps + (next - c.in-Reading.at)) in
-    let more : next + 1 < c.self.inside.setting.problem.m = omega (arith, c.loop-next-test.true) in
-    let count : c.loop-next.worker-inside.view.steps + (next - c.in-Reading.at) + 1 ≡ c.loop-next.worker-inside.view.steps + (next + 1 - c.in-Reading.at) =
-    omega (arith, h.from) in
-    let on = reads_on c.self.inside c.args.worker.now here h.reading c.in-Reading.row c.in-Reading.column c.in-Reading.holder next refl more
-    c.load-old.result c.half_told.result c.load-old.new.seat c.load-old.ensures.0 c.load-old.ensures.2 c.half_told.ensures in
+    record {
+      was = h.was;
+      from = omega (arith, h.from);
+      upto = omega (arith, c.loop-next-test.true);
+      reading = reads_step c.self.inside c.args.worker.now c.loop-next.worker-inside c.in-Reading.row c.in-Reading.column c.in-Reading.holder c.in-Reading.at
+          c.loop-next.next h.reading h.from (omega (arith, c.loop-next-test.true, c.even_from-even.ensures.upto))
+          c.load-old.result c.half_told.result c.load-old.new.seat c.load-old.ensures.0 c.load-old.ensures.2 c.half_told.ensures;
+    }
+
+pub load-low-requires : goal.load-low-requires
+load-low-requires c =
+    let h = c.loop-pair.invariant in
+    let pair : ℕ = c.loop-pair.pair in
+    let here = pair_begins c.self.inside c.args.worker.now c.loop-pair.worker-inside c.in-Reading.row c.in-Reading.column c.in-Reading.holder c.in-Reading.at
+    c.even_from-even.result (c.self.inside.setting.problem.m - 1) pair c.even_from-even.ensures.even h.from c.loop-pair-test.true h.reading in
+    load_here c.self.inside c.args.worker.now c.loop-pair.worker-inside c.in-Reading.row c.in-Reading.column c.in-Reading.holder c.in-Reading.at (2 * pair) here
+    (c.row_cell-first.result + pair) c.self.inside.table.shared.table_id.slots
+    (pair_cell c.self.inside.setting.problem.m c.in-Reading.holder pair c.row_cell-first.result c.row_cell-first.ensures)
+
+pub index_mut-requires-in-loop-pair : goal.index_mut-requires-in-loop-pair
+index_mut-requires-in-loop-pair c =
+    let h = c.loop-pair.invariant in
+    let pair : ℕ = c.loop-pair.pair in
+    let here = pair_begins c.self.inside c.args.worker.now c.loop-pair.worker-inside c.in-Reading.row c.in-Reading.column c.in-Reading.holder c.in-Reading.at
+    c.even_from-even.result (c.self.inside.setting.problem.m - 1) pair c.even_from-even.ensures.even h.from c.loop-pair-test.true h.reading in
+    seen_here c.self.inside c.args.worker.now c.loop-pair.worker-inside c.in-Reading.row c.in-Reading.column c.in-Reading.holder c.in-Reading.at (2 * pair) here
+
+pub load-high-requires : goal.load-high-requires
+load-high-requires c =
+    let h = c.loop-pair.invariant in
+    let pair : ℕ = c.loop-pair.pair in
+    let here = pair_begins c.self.inside c.args.worker.now c.loop-pair.worker-inside c.in-Reading.row c.in-Reading.column c.in-Reading.holder c.in-Reading.at
+    c.even_from-even.result (c.self.inside.setting.problem.m - 1) pair c.even_from-even.ensures.even h.from c.loop-pair-test.true h.reading in
+    let from : c.in-Reading.at ≤ 2 * pair = omega (
+      arith,
+      c.even_from-even.ensures.from,
+      pairs_from c.even_from-even.result (c.self.inside.setting.problem.m - 1) pair c.even_from-even.ensures.even h.from c.loop-pair-test.true,
+    ) in
+    let between = reads_step c.self.inside c.args.worker.now c.loop-pair.worker-inside
+    c.in-Reading.row c.in-Reading.column c.in-Reading.holder c.in-Reading.at (2 * pair) here from
+    (omega (arith, c.loop-pair-test.true)) c.load-low.result c.half_told-in-loop-pair.result c.load-low.new.seat c.load-low.ensures.0 c.load-low.ensures.2
+    c.half_told-in-loop-pair.ensures in
+    let w = record c.loop-pair.worker-inside {
+      view = record c.loop-pair.worker-inside.view { seen = with_item c.loop-pair.worker-inside.view.seen (2 * pair) c.half_told-in-loop-pair.result };
+      seat = c.load-low.new.seat;
+    } in
+    load_here c.self.inside c.args.worker.now w c.in-Reading.row c.in-Reading.column c.in-Reading.holder c.in-Reading.at (2 * pair + 1) between
+    (c.row_cell-first.result + pair) c.self.inside.table.shared.table_id.slots
+    (pair_cell_again c.self.inside.setting.problem.m c.in-Reading.holder pair c.row_cell-first.result c.row_cell-first.ensures)
+
+pub index_mut-requires-in-loop-pair-2 : goal.index_mut-requires-in-loop-pair-2
+index_mut-requires-in-loop-pair-2 c =
+    let h = c.loop-pair.invariant in
+    let pair : ℕ = c.loop-pair.pair in
+    let here = pair_begins c.self.inside c.args.worker.now c.loop-pair.worker-inside c.in-Reading.row c.in-Reading.column c.in-Reading.holder c.in-Reading.at
+    c.even_from-even.result (c.self.inside.setting.problem.m - 1) pair c.even_from-even.ensures.even h.from c.loop-pair-test.true h.reading in
+    let from : c.in-Reading.at ≤ 2 * pair = omega (
+      arith,
+      c.even_from-even.ensures.from,
+      pairs_from c.even_from-even.result (c.self.inside.setting.problem.m - 1) pair c.even_from-even.ensures.even h.from c.loop-pair-test.true,
+    ) in
+    let between = reads_step c.self.inside c.args.worker.now c.loop-pair.worker-inside
+    c.in-Reading.row c.in-Reading.column c.in-Reading.holder c.in-Reading.at (2 * pair) here from
+    (omega (arith, c.loop-pair-test.true)) c.load-low.result c.half_told-in-loop-pair.result c.load-low.new.seat c.load-low.ensures.0 c.load-low.ensures.2
+    c.half_told-in-loop-pair.ensures in
+    let w = record c.loop-pair.worker-inside {
+      view = record c.loop-pair.worker-inside.view { seen = with_item c.loop-pair.worker-inside.view.seen (2 * pair) c.half_told-in-loop-pair.result };
+      seat = c.load-low.new.seat;
+    } in
+    seen_here c.self.inside c.args.worker.now w c.in-Reading.row c.in-Reading.column c.in-Reading.holder c.in-Reading.at (2 * pair + 1) between
+
+pub loop-pair-preserved : goal.loop-pair-preserved
+loop-pair-preserved c =
+    let h = c.loop-pair.invariant in
+    let pair : ℕ = c.loop-pair.pair in
+    let here = pair_begins c.self.inside c.args.worker.now c.loop-pair.worker-inside c.in-Reading.row c.in-Reading.column c.in-Reading.holder c.in-Reading.at
+    c.even_from-even.result (c.self.inside.setting.problem.m - 1) pair c.even_from-even.ensures.even h.from c.loop-pair-test.true h.reading in
+    let from : c.in-Reading.at ≤ 2 * pair = omega (
+      arith,
+      c.even_from-even.ensures.from,
+      pairs_from c.even_from-even.result (c.self.inside.setting.problem.m - 1) pair c.even_from-even.ensures.even h.from c.loop-pair-test.true,
+    ) in
+    let between = reads_step c.self.inside c.args.worker.now c.loop-pair.worker-inside
+    c.in-Reading.row c.in-Reading.column c.in-Reading.holder c.in-Reading.at (2 * pair) here from
+    (omega (arith, c.loop-pair-test.true)) c.load-low.result c.half_told-in-loop-pair.result c.load-low.new.seat c.load-low.ensures.0 c.load-low.ensures.2
+    c.half_told-in-loop-pair.ensures in
+    let w = record c.loop-pair.worker-inside {
+      view = record c.loop-pair.worker-inside.view { seen = with_item c.loop-pair.worker-inside.view.seen (2 * pair) c.half_told-in-loop-pair.result };
+      seat = c.load-low.new.seat;
+    } in
+    record {
+      was = h.was;
+      from = omega (arith, h.from);
+      upto = omega (arith, c.loop-pair-test.true);
+      reading = pair_ends c.self.inside c.args.worker.now
+          (record w { view = record w.view { seen = with_item w.view.seen (2 * pair + 1) c.half_told-in-loop-pair-2.result }; seat = c.load-high.new.seat })
+          c.in-Reading.row c.in-Reading.column c.in-Reading.holder c.in-Reading.at
+          c.even_from-even.result (c.self.inside.setting.problem.m - 1) pair c.even_from-even.ensures.even h.from c.loop-pair-test.true
+          (reads_step c.self.inside c.args.worker.now w
+          c.in-Reading.row c.in-Reading.column c.in-Reading.holder c.in-Reading.at (2 * pair + 1) between (omega (arith, from))
+          (omega (arith, c.loop-pair-test.true)) c.load-high.result c.half_told-in-loop-pair-2.result c.load-high.new.seat c.load-high.ensures.0
+          c.load-high.ensures.2 c.half_told-in-loop-pair-2.ensures);
+    }
+
+pub loop-next-2-init : goal.loop-next-2-init
+loop-next-2-init c =
+    let turn : IsTurn c.self.inside c.worker.inside = turn_by c.self.inside c.worker.inside c.args.self.now c.args.worker.now c.self.invariant
+    c.worker.invariant c.self.view_is c.worker.view_is c.requires.same in
+    let numbers = subst (IsPhase c.self.inside.setting.problem.m c.self.inside.setting.problem.n) c.in-Reading.is
+    (phase_within c.self.inside c.worker.inside turn) in
+    let h = c.loop-pair.invariant in
+    let all : c.loop-pair.pair ≡ (c.self.inside.setting.problem.m - 1) / 2 = omega (arith, h.upto, c.loop-pair-test.false) in
+    let half : 2 * c.loop-pair.pair ≡ (c.self.inside.setting.problem.m - 1) / 2 * 2 = omega (arith, all) in
+    let is : max c.even_from-even.result (2 * c.loop-pair.pair) ≡ c.later-next.result = ap (max c.even_from-even.result) half ∙ sym c.later-next.ensures in
+    record {
+      was = h.was;
+      from = omega (arith, c.even_from-even.ensures.from, c.later-next.ensures);
+      within = omega (arith, c.even_from-even.ensures.upto, c.later-next.ensures, numbers.3);
+      reading = subst (ReadsAt c.self.inside c.args.worker.now c.loop-pair.worker-inside
+          c.in-Reading.row c.in-Reading.column c.in-Reading.holder c.in-Reading.at) is h.reading;
+    }
+
+pub load-old-requires-in-loop-next-2 : goal.load-old-requires-in-loop-next-2
+load-old-requires-in-loop-next-2 c = load_here c.self.inside c.args.worker.now c.loop-next-2.worker-inside
+    c.in-Reading.row c.in-Reading.column c.in-Reading.holder c.in-Reading.at
+    c.loop-next-2.next c.loop-next-2.invariant.reading (c.row_cell-first.result + c.loop-next-2.next / 2) c.self.inside.table.shared.table_id.slots
+    (cell_on c.self.inside.setting.problem.m c.in-Reading.holder c.loop-next-2.next c.row_cell-first.result c.row_cell-first.ensures)
+
+pub index_mut-requires-in-loop-next-2 : goal.index_mut-requires-in-loop-next-2
+index_mut-requires-in-loop-next-2 c = seen_here c.self.inside c.args.worker.now c.loop-next-2.worker-inside
+    c.in-Reading.row c.in-Reading.column c.in-Reading.holder c.in-Reading.at
+    c.loop-next-2.next c.loop-next-2.invariant.reading
+
+pub loop-next-2-preserved : goal.loop-next-2-preserved
+loop-next-2-preserved c =
+    let h = c.loop-next-2.invariant in
+    let more : c.loop-next-2.next + 1 < c.self.inside.setting.problem.m = omega (arith, c.loop-next-2-test.true) in
     record {
       was = h.was;
       from = omega (arith, h.from);
       within = more;
-      reading = subst (λ (n : ℕ). IsReading c.self.inside c.args.worker.now (reading_at
-          (record c.loop-next.worker-inside {
-            view = record c.loop-next.worker-inside.view { seen = with_item c.loop-next.worker-inside.view.seen next c.half_told.result };
-            seat = c.load-old.new.seat;
-          }) (phase.Reading c.in-Reading.row c.in-Reading.column c.in-Reading.holder (next + 1)) n)) count on;
+      reading = reads_step c.self.inside c.args.worker.now c.loop-next-2.worker-inside c.in-Reading.row c.in-Reading.column c.in-Reading.holder c.in-Reading.at
+          c.loop-next-2.next h.reading h.from more c.load-old-in-loop-next-2.result c.half_told-in-loop-next-2.result c.load-old-in-loop-next-2.new.seat
+          c.load-old-in-loop-next-2.ensures.0 c.load-old-in-loop-next-2.ensures.2 c.half_told-in-loop-next-2.ensures;
     }
 
 pub overflow_sub-last-in-Reading : goal.overflow_sub-last-in-Reading
-overflow_sub-last-in-Reading c = omega (arith, c.loop-next.invariant.from, c.loop-next.invariant.within)
+overflow_sub-last-in-Reading c = omega (arith, c.loop-next-2.invariant.from, c.loop-next-2.invariant.within)
 
 pub overflow_add-worker : goal.overflow_add-worker
 overflow_add-worker c =
-    let h = c.loop-next.invariant in
-    let small = steps_small c.self.inside (reading_at c.loop-next.worker-inside
-    (phase.Reading c.in-Reading.row c.in-Reading.column c.in-Reading.holder c.loop-next.next)
-    (c.loop-next.worker-inside.view.steps + (c.loop-next.next - c.in-Reading.at))) h.reading.turn (λ e. cc e) in
-    omega (arith, small, c.from.ensures, h.within, c.loop-next-test.false)
+    let h = c.loop-next-2.invariant in
+    let small = steps_small c.self.inside (reading_at c.loop-next-2.worker-inside
+    (phase.Reading c.in-Reading.row c.in-Reading.column c.in-Reading.holder c.loop-next-2.next)
+    (c.loop-next-2.worker-inside.view.steps + (c.loop-next-2.next - c.in-Reading.at))) h.reading.turn (λ e. cc e) in
+    omega (arith, small, c.from.ensures, h.within, c.loop-next-2-test.false)
 
 pub invariant_of-worker : goal.invariant_of-worker
 invariant_of-worker c =
-    let h = c.loop-next.invariant in
-    (reads_end c.self.inside c.args.worker.now c.loop-next.worker-inside c.in-Reading.row c.in-Reading.column c.in-Reading.holder c.in-Reading.at
-    c.loop-next.next (c.self.inside.setting.problem.m - 1) c.from.result h.reading (omega (arith, h.within, c.loop-next-test.false)) c.from.ensures).turn.own
+    let h = c.loop-next-2.invariant in
+    let end = reads_end c.self.inside c.args.worker.now c.loop-next-2.worker-inside c.in-Reading.row c.in-Reading.column c.in-Reading.holder c.in-Reading.at
+    c.loop-next-2.next (c.self.inside.setting.problem.m - 1) c.from.result h.reading (omega (arith, h.within, c.loop-next-2-test.false)) c.from.ensures in
+    end.turn.own
 
-pub returns-after-loop-next-clause-same : goal.returns-after-loop-next-clause-same
-returns-after-loop-next-clause-same c =
-    let h = c.loop-next.invariant in
-    let end = reads_end c.self.inside c.args.worker.now c.loop-next.worker-inside c.in-Reading.row c.in-Reading.column c.in-Reading.holder c.in-Reading.at
-    c.loop-next.next (c.self.inside.setting.problem.m - 1) c.from.result h.reading (omega (arith, h.within, c.loop-next-test.false)) c.from.ensures in
+pub returns-after-loop-next-2-clause-same : goal.returns-after-loop-next-2-clause-same
+returns-after-loop-next-2-clause-same c =
+    let h = c.loop-next-2.invariant in
+    let end = reads_end c.self.inside c.args.worker.now c.loop-next-2.worker-inside c.in-Reading.row c.in-Reading.column c.in-Reading.holder c.in-Reading.at
+    c.loop-next-2.next (c.self.inside.setting.problem.m - 1) c.from.result h.reading (omega (arith, h.within, c.loop-next-2-test.false)) c.from.ensures in
     belongs c.self.inside _ c.args.self.now c.self.view_is end.turn
 
-pub returns-after-loop-next-clause-seat : goal.returns-after-loop-next-clause-seat
-returns-after-loop-next-clause-seat c = c.loop-next.invariant.reading.seat
+pub returns-after-loop-next-2-clause-seat : goal.returns-after-loop-next-2-clause-seat
+returns-after-loop-next-2-clause-seat c = c.loop-next-2.invariant.reading.seat
 
-pub returns-after-loop-next-clause-taken : goal.returns-after-loop-next-clause-taken
-returns-after-loop-next-clause-taken c =
-    let h = c.loop-next.invariant in
-    let end = reads_end c.self.inside c.args.worker.now c.loop-next.worker-inside c.in-Reading.row c.in-Reading.column c.in-Reading.holder c.in-Reading.at
-    c.loop-next.next (c.self.inside.setting.problem.m - 1) c.from.result h.reading (omega (arith, h.within, c.loop-next-test.false)) c.from.ensures in
+pub returns-after-loop-next-2-clause-taken : goal.returns-after-loop-next-2-clause-taken
+returns-after-loop-next-2-clause-taken c =
+    let h = c.loop-next-2.invariant in
+    let end = reads_end c.self.inside c.args.worker.now c.loop-next-2.worker-inside c.in-Reading.row c.in-Reading.column c.in-Reading.holder c.in-Reading.at
+    c.loop-next-2.next (c.self.inside.setting.problem.m - 1) c.from.result h.reading (omega (arith, h.within, c.loop-next-2-test.false)) c.from.ensures in
     reads_taken c.self.inside c.args.worker.now _ c.args.self.now c.self.view_is end
 
-pub returns-after-loop-next-clause-last : goal.returns-after-loop-next-clause-last
-returns-after-loop-next-clause-last c = record {
+pub returns-after-loop-next-2-clause-last : goal.returns-after-loop-next-2-clause-last
+returns-after-loop-next-2-clause-last c = record {
   row = c.in-Reading.row;
   column = c.in-Reading.column;
   holder = c.in-Reading.holder;
   at = c.self.inside.setting.problem.m - 1;
   is = refl;
-  last = omega (arith, c.loop-next.invariant.within, ap (λ (a : Arena). a.problem.m) c.self.view_is);
+  last = omega (arith, c.loop-next-2.invariant.within, ap (λ (a : Arena). a.problem.m) c.self.view_is);
 }
