@@ -12,7 +12,7 @@ use Rattle.command_words.specs.declared.job.Job.{Job}
 use Rattle.job_steps.specs.Reaches.{BoundsElements, IsPosed}
 use Rattle.job_steps.proofs.OneOutcome.{has_one_outcome}
 use Rattle.bergman_cli.specs.Engines.{limits_of}
-use Rattle.bergman_cli.specs.Gb.{HasOneAnswer, gb_task}
+use Rattle.bergman_cli.specs.Gb.{HasOneGbOutcome, gb_task}
 
 bounding : (engine : EngineKind) → (limit : LimitKind × ℕ) × Contains (limits_of engine) limit × BoundsElements limit.0 limit.1
 bounding Race = ((Terms, 16777216), (4, omega arith, refl), omega arith)
@@ -34,6 +34,6 @@ gb_posed job letters relations degrees alphabet st =
       bounds = b.2;
     }
 
-pub has_one_answer : HasOneAnswer
-has_one_answer job letters relations sound alphabet st =
+pub has_one_gb_outcome : HasOneGbOutcome
+has_one_gb_outcome job letters relations sound alphabet st =
     has_one_outcome (gb_task job letters relations) (gb_posed job letters relations sound.few_degrees alphabet st)

@@ -1,4 +1,4 @@
--- What the command gb asks of letters and relations, and that it has one answer.
+-- What the command gb asks of letters and relations, and that it has one outcome.
 use Rattle.std.specs.Prelude.{ℕ, Bool, true, false, List}
 use Rattle.words.specs.Names.{IsAlphabet, Letters}
 use Rattle.free_poly.specs.declared.term.Term.{Term}
@@ -37,7 +37,7 @@ gb_task job letters relations = record {
 }
 
 -- a job on letters and relations has exactly one status with its text
-abbrev pub HasOneAnswer : Type 0
-HasOneAnswer = (job : Job) (letters : Letters) (relations : List (List Term)) → IsSound job → IsAlphabet letters →
+abbrev pub HasOneGbOutcome : Type 0
+HasOneGbOutcome = (job : Job) (letters : Letters) (relations : List (List Term)) → IsSound job → IsAlphabet letters →
     IsSetting job.modulus letters.weights relations
     → IsOne (λ (o : Status × List ℕ). IsTaskOutcome (gb_task job letters relations) o.0 o.1)

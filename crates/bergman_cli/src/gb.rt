@@ -3,7 +3,7 @@ ghost use Rattle.free_poly.specs.Terms.{HasResidues};
 ghost use Rattle.job_steps.specs.Statuses.{IsTaskEnd};
 ghost use Rattle.job_steps.specs.Traces.{IsTaskTrace, Tells};
 ghost use Rattle.bergman_cli.specs.Engines.{IsEngineOf, accounts_of, traces_of};
-ghost use Rattle.bergman_cli.specs.Gb.{HasOneAnswer, gb_task, shows_basis, shows_series};
+ghost use Rattle.bergman_cli.specs.Gb.{HasOneGbOutcome, gb_task, shows_basis, shows_series};
 ghost use Rattle.bergman_cli.specs.Jobs.{IsSound};
 
 use bg_io::Sink;
@@ -61,7 +61,7 @@ pub fn run_gb<R: Threads + Sync, E: DegreeEngine, K: Sink, T: Sink>(
 
 /// Each job on letters and relations has exactly one status with its text: what is printed is a function of these.
 pub fn gb_law()
-    ensures { HasOneAnswer }
+    ensures { HasOneGbOutcome }
 {}
 
 /// What the job shows.

@@ -1,4 +1,4 @@
--- A task has one status with its text, and what is gained on the way begins this text.
+-- A task has one reach, one text and one status, and what is gained on the way begins this text.
 use Rattle.std.proofs.Common.{ℕ, List, refl}
 use Rattle.std.specs.declared.option.Option.{Option}
 use Rattle.ideal_laws.specs.declared.limits.LimitKind.TheVariants.{NormalWords}
@@ -6,11 +6,23 @@ use Rattle.job_steps.specs.declared.status.Status.{Status}
 use Rattle.job_steps.specs.declared.status.Status.TheVariants.{Done, Usage, Input, Limit, Chains, Products, ReadFault, WriteFault, NoMemory}
 use Rattle.job_steps.specs.Gains.{HasPrintedPart, HasPrintedSome}
 use Rattle.job_steps.specs.Progress.{IsReach, IsTaskText, IsText, Reach, Task, whole, refused, crowded}
-use Rattle.job_steps.specs.Reaches.{HasOneOutcome, IsPosed}
+use Rattle.job_steps.specs.Reaches.{HasOneOutcome, HasOneReach, HasOneText, IsPosed}
 use Rattle.job_steps.specs.Statuses.{HasGainedPart, HasGainedSome, IsTaskOutcome}
 use Rattle.job_steps.proofs.Gaining.{beginning_trans, cut_of_beginning, no_room_for}
 use Rattle.job_steps.proofs.Statuses.{one_task_status, task_outcome_status}
-use Rattle.job_steps.proofs.Values.{has_one_text}
+use Rattle.job_steps.proofs.FewElements.{few_elements}
+use Rattle.job_steps.proofs.OneReach.{one_reach, one_task_text}
+use Rattle.job_steps.proofs.Reached.{some_reach}
+use Rattle.job_steps.proofs.Values.{some_quantity}
+
+pub has_one_reach : HasOneReach
+has_one_reach t h =
+    let some = some_reach t h.setting h.some h.letters h.degrees (some_quantity t.modulus t.letters.weights t.relations h.setting)
+    (λ d below basis is none. few_elements t.modulus t.letters.weights t.relations h.setting d below basis is t.limits h.limit h.among h.bounds none) in
+    record { value = some.0; holds = some.1; only = λ reach is. one_reach t h.setting reach some.0 is some.1 }
+
+pub has_one_text : HasOneText
+has_one_text t h = let one = has_one_reach t h in one_task_text t h.setting one.value one.holds
 
 module _ (t : Task) where
   -- the text of a task goes with a status

@@ -1,4 +1,4 @@
--- A task comes exactly as far as one reach says, and each reach has one text.
+-- A task has at most one reach, and a reach has one text.
 use Rattle.std.proofs.Common.{◌≡◌, ◌+◌, ◌-◌, ◌<◌, ℕ, zero, suc, Bool, true, false, List, [], ◌∷◌, ◌++◌, length, get_or, refl, arith, subst, zero-add}
 use Rattle.ideal_laws.specs.declared.limits.LimitKind.TheVariants.{NormalWords}
 use Rattle.ideal_laws.specs.Basis.{IsReducedBasis}

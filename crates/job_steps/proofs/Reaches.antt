@@ -70,7 +70,8 @@ module _ (p : ℕ) (weights : List ℕ) (relations : List (List Term)) (st : IsS
   one_coefficient : (d h k : ℕ) → IsHilbertCoefficient p weights relations d h → IsHilbertCoefficient p weights relations d k → h ≡ k
   one_coefficient d h k a b = let dim = has_one_dimension p weights relations st d in (dim.coefficient h).0 a ∙ sym ((dim.coefficient k).0 b)
 
-  pub small_and_large : (limit d e value : ℕ) → AreSmallBelow p weights relations limit e → IsFirstLargeCoefficient p weights relations limit d value → d < e → ⊥
+  pub small_and_large : (limit d e value : ℕ) → AreSmallBelow p weights relations limit e → IsFirstLargeCoefficient p weights relations limit d value →
+      d < e → ⊥
   small_and_large limit d e value small large within =
       let s = small d within in
       omega (arith, s.2, large.large, one_coefficient d s.0 large.coefficient s.1 large.is_coefficient)

@@ -1,4 +1,4 @@
--- Each quantity of a degree has a value over the basis below, so each task has a reach.
+-- Each quantity of a degree has a value over the basis below.
 use Rattle.std.proofs.Common.{◌≢◌, ◌+◌, ◌*◌, ◌%◌, ◌<◌, ℕ, List, [], ◌∷◌, ◌++◌, length, refl, sym, ap, ◌∙◌, inl, inr, arith, subst}
 use Rattle.std.proofs.Common.{All, AllPairs, Option}
 use Rattle.std.specs.List.{AllZip, Contains, flat_map}
@@ -24,12 +24,8 @@ use Rattle.ideal_laws.proofs.Lower.{lists_factor_free}
 use Rattle.ideal_laws.proofs.OneBasis.{has_one_basis}
 use Rattle.ideal_laws.proofs.Search.{AllPairs-kept, in_kept, kept, kept-says}
 use Rattle.job_steps.proofs.Closures.{some_columns, some_reducers, words_in}
-use Rattle.job_steps.specs.Reaches.{HasOneReach, HasOneText}
-use Rattle.job_steps.proofs.FewElements.{few_elements}
 use Rattle.job_steps.proofs.InDegree.{IsInDegree, all_words, overlap_in, reducer_in, reducer_less, relation_in, row_in}
 use Rattle.job_steps.proofs.Obstructions.{some_obstructions}
-use Rattle.job_steps.proofs.OneReach.{one_reach, one_task_text}
-use Rattle.job_steps.proofs.Reached.{some_reach}
 use Rattle.job_steps.proofs.Reducers.{is_normal}
 
 module _ (p : ℕ) (weights : List ℕ) (relations : List (List Term)) (st : IsSetting p weights relations) (d : ℕ) (below : Elements)
@@ -156,12 +152,3 @@ module _ (p : ℕ) (weights : List ℕ) (relations : List (List Term)) (st : IsS
           refl,
         ),
       )
-
-pub has_one_reach : HasOneReach
-has_one_reach t h =
-    let some = some_reach t h.setting h.some h.letters h.degrees (some_quantity t.modulus t.letters.weights t.relations h.setting)
-    (λ d below basis is none. few_elements t.modulus t.letters.weights t.relations h.setting d below basis is t.limits h.limit h.among h.bounds none) in
-    record { value = some.0; holds = some.1; only = λ reach is. one_reach t h.setting reach some.0 is some.1 }
-
-pub has_one_text : HasOneText
-has_one_text t h = let one = has_one_reach t h in one_task_text t h.setting one.value one.holds

@@ -4,8 +4,8 @@ use Rattle.std.specs.Io.KnownBytes.{Appends}
 use Rattle.bg_io.specs.Ends.{CountsGained, HasRoom, IsCutShort, RoomFalls, Rose}
 use Rattle.job_steps.specs.declared.print.PrintFault.{PrintFault}
 use Rattle.job_steps.specs.declared.print.PrintFault.TheVariants.{Limit, WriteFault, NoMemory}
-use Rattle.job_steps.specs.Progress.{HasLinesBelow, IsBeginning, IsDue, IsReach, IsStoppedBy, IsTaskText, IsText, Reach, Task}
-use Rattle.job_steps.specs.Progress.{last_degree}
+use Rattle.job_steps.specs.Progress.{HasLinesBelow, IsBeginning, IsDue, IsReach, IsStoppedBy, IsTaskText, IsText}
+use Rattle.job_steps.specs.Progress.{Reach, Task, last_degree}
 
 -- In the following, held and more are what the sink tells of its bytes before and after, room and left the room that
 -- it tells, before and now its count of faults.

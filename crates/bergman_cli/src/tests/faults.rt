@@ -5,7 +5,7 @@ use crate::tests::{
     COMMUTING, COMMUTING_ANSWER, Failing, NONE, SQUARE, SQUARE_ANSWER, SQUARE_TRACE, expect_run,
     words_of,
 };
-use bg_io::{FixedSink, PlannedGate, SteadySource};
+use bg_io::{FixedSink, MemorySink, PlannedGate, SteadySource};
 use job_steps::{InputProblem, Status};
 use relation_reader::InputFault;
 use std::test::Fail;
@@ -140,6 +140,41 @@ fn a_told_room_is_enough_or_not(rt: HostRuntime) -> Result<(), Fail> {
         );
         assert_eq!(rt; answer, status, "room {room}");
         assert_eq!(rt; Some(out.held()), COMMUTING_ANSWER.as_bytes().get(..room));
+    }
+    Ok(())
+}
+
+/// What is offered is taken whole here, so where a write fails the lines before it stand. The series is one text.
+#[test]
+fn a_line_is_offered_whole(rt: HostRuntime) -> Result<(), Fail> {
+    let alloc = rt.alloc();
+    let words = words_of(alloc, "gb mod=101 deg=3")?;
+    for (failing, status, output) in [
+        (1, Status::WriteFault, ""),
+        (2, Status::WriteFault, "% 2\n"),
+        (3, Status::WriteFault, "% 2\nx^2-y*x\n"),
+        (4, Status::WriteFault, "% 2\nx^2-y*x\n% 3\n"),
+        (5, Status::WriteFault, "% 2\nx^2-y*x\n% 3\nx*y*x-y^2*x\n"),
+        (
+            6,
+            Status::Done,
+            "% 2\nx^2-y*x\n% 3\nx*y*x-y^2*x\n% series\n0 1\n1 2\n2 3\n3 4\n",
+        ),
+    ] {
+        let mut source = SteadySource::new(Vec::from_slice(alloc, SQUARE.as_bytes())?);
+        let mut out = MemorySink::new(alloc, 4096, Vec::from_slice(alloc, &[failing])?);
+        let mut err = FixedSink::new(alloc, 96)?;
+        let answer = bergman(
+            &rt,
+            alloc,
+            words.as_slice(),
+            &mut source,
+            &mut out,
+            &mut err,
+            &PlannedGate::open(alloc),
+        );
+        assert_eq!(rt; answer, status, "write {failing} fails");
+        assert_eq!(rt; out.held(), output.as_bytes(), "write {failing} fails");
     }
     Ok(())
 }

@@ -1,5 +1,4 @@
-use Rattle.job_steps.proofs.OneOutcome.{has_one_outcome}
-use Rattle.job_steps.proofs.Values.{has_one_reach, has_one_text}
+use Rattle.job_steps.proofs.OneOutcome.{has_one_outcome, has_one_reach, has_one_text}
 use Rattle.job_steps.proofs.laws.reach_law.Goals as goal
 
 pub returns-clause-reach : goal.returns-clause-reach
