@@ -16,7 +16,7 @@ use Rattle.words.proofs.Weights.{length-le-degree_of, weight_of-bounds}
 use Rattle.lead_index.specs.declared.lead.Lead.{Lead}
 use Rattle.lead_index.specs.Leads.{IsFree}
 use Rattle.normal_words.specs.Normal.{AreBefore, AreNormal, WordsOfDegree, next_of}
-use Rattle.normal_words.specs.Block.{begins, block, block_at, words_at}
+use Rattle.normal_words.specs.Block.{block, block_at, words_at}
 use Rattle.normal_words.proofs.Blocks.{IsFree-cons, IsFree-tail, IsInBlock, begins_free, block-falling, block-says, free_of_begins, in_block}
 
 -- the blocks of the first n letters

@@ -1,4 +1,4 @@
-use Rattle.std.proofs.Common.{◌≡◌, ◌∷◌, ℕ, List, Err, Result, sym, ap, ◌∙◌, arith}
+use Rattle.std.proofs.Common.{◌∷◌, ℕ, List, Err, sym, ap, ◌∙◌, arith}
 use Rattle.std.proofs.lemmas.Result.{err_from_is_err_and}
 use Rattle.normal_words.proofs.Blocks.{block-longer, block-step, one_fault}
 use Rattle.normal_words.proofs.next.push_block.Goals as goal
