@@ -125,8 +125,8 @@ fn in_order(
     ensures listed { IfOk result (λ c. (G : List (List Term)) (given : List (List ℕ)) (from : ℕ)
         → IsNumberWalk G given numbered.table.words (length numbered.table.words) from limit numbered.spans.items
         numbered.numbers.items numbered.entries → residues ≡ map residues_of G
-        → IsListedClosure G given from limit (words_in c.columns) c.lists.spans.items c.lists.numbers.items c.lists.residues
-        c.entries) }
+        → IsListedClosure G given from limit (words_in c.columns) c.lists.spans.items c.lists.numbers.items
+        c.lists.residues c.entries) }
     ensures within { IfOk result (λ c. length (words_in c.columns) ≡ length numbered.table.words) }
 {
     let (words, order) = numbered.table.in_order(alloc)?;

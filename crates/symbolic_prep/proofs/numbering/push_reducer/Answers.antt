@@ -1,5 +1,5 @@
-use Rattle.std.proofs.Common.{◌≡◌, ◌+◌, ◌≤◌, ◌++◌, ◌∷◌, [], min, ℕ, List, All, Err, None, Some, arith, ap, drop, inl, inr, length, length-drop, map, rules, subst}
-use Rattle.std.proofs.Common.{sym, take, ◌∙◌}
+use Rattle.std.proofs.Common.{◌≡◌, ◌+◌, ◌≤◌, ◌++◌, ◌∷◌, [], min, ℕ, List, All, Err, None, Some, arith, ap, drop, inl, inr, length, length-drop, map}
+use Rattle.std.proofs.Common.{rules, subst, sym, take, ◌∙◌}
 use Rattle.std.specs.List.{Contains}
 use Rattle.std.proofs.lemmas.Bool.{le-leb}
 use Rattle.std.proofs.lemmas.List.{length-take-le}
