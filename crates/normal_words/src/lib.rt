@@ -8,5 +8,5 @@ mod normal;
 #[cfg(test)]
 mod tests;
 
-pub use next::{NormalFault, next_degree};
+pub use next::{NormalFault, next_degree, push_within};
 pub use normal::NormalWords;

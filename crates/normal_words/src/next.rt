@@ -135,14 +135,28 @@ fn push_word(
 {
     match index.starts(letters, 0) {
         Some(_) => Ok(()),
-        None => {
-            if words.len() >= most as usize {
-                return Err(NormalFault::TooMany);
-            }
-            keep(alloc, letters, words)?;
-            Ok(())
-        }
+        None => push_within(alloc, letters, most, words),
     }
+}
+
+/// Appends a word to at most `most` words, or refuses the one that is too many.
+pub fn push_within(
+    alloc: Global,
+    letters: &[u8],
+    most: u32,
+    words: &mut Vec<Word>,
+) -> Result<(), NormalFault>
+    requires few { length words.old.items ≤ most }
+
+    ensures word { OnOk result (words.new.items ≡ words.old.items ++ letters.now ∷ []) }
+    ensures within { OnOk result (length words.new.items ≤ most) }
+    ensures many { IsErrOf result NormalFault.TooMany → length words.old.items ≡ most }
+{
+    if words.len() >= most as usize {
+        return Err(NormalFault::TooMany);
+    }
+    keep(alloc, letters, words)?;
+    Ok(())
 }
 
 fn keep(alloc: Global, letters: &[u8], words: &mut Vec<Word>) -> Result<(), NoMemory>

@@ -3,7 +3,7 @@ ghost use Rattle.std.specs.Prelude.{slice_index_or};
 ghost use Rattle.right_modules.specs.Extended.{AreHeld, AreNormal, ending, extended, unless_stands};
 
 use lead_index::LeadIndex;
-use normal_words::NormalFault;
+use normal_words::{NormalFault, push_within};
 use std::alloc::Global;
 use words::{Alphabet, Items, NoMemory, Word};
 
@@ -143,20 +143,6 @@ fn push_word(
 {
     match index.first_reducer(letters) {
         Some(_) => Ok(()),
-        None => {
-            if words.len() >= most as usize {
-                return Err(NormalFault::TooMany);
-            }
-            keep(alloc, letters, words)?;
-            Ok(())
-        }
+        None => push_within(alloc, letters, most, words),
     }
-}
-
-fn keep(alloc: Global, letters: &[u8], words: &mut Vec<Word>) -> Result<(), NoMemory>
-    ensures { OnOk result (words.new.items ≡ words.old.items ++ letters.now ∷ []) }
-{
-    let word = Word::from_letters(alloc, letters)?;
-    words.push(word)?;
-    Ok(())
 }

@@ -1,15 +1,8 @@
-use Rattle.std.proofs.Common.{◌≡◌, ◌++◌, ℕ, List, length, sym, ap, ◌∙◌, arith, rules, length-append}
+use Rattle.std.proofs.Common.{◌≡◌, ◌++◌, ℕ, List, length, sym, ap, ◌∙◌, arith, length-append, OnOk, subst}
 use Rattle.std.proofs.lemmas.List.{append-nil}
 use Rattle.normal_words.specs.Block.{unless_begins}
 use Rattle.normal_words.proofs.Blocks.{unless-free, unless-started}
 use Rattle.normal_words.proofs.next.push_word.Goals as goal
-
-pub returns-then-len-most-clause-many : goal.returns-then-len-most-clause-many
-returns-then-len-most-clause-many c = λ _.
-    let words = c.args.words.now.items in
-    let size : c.len.result ≡ length words = search rules in
-    let one = ap length (unless-free c.args.index.now c.args.letters.now c.in-None.ensures.element) in
-    omega (arith, c.if-len-most.true, size, one, length-append words (unless_begins c.args.index.now c.args.letters.now))
 
 pub returns-in-Some-clause-word : goal.returns-in-Some-clause-word
 returns-in-Some-clause-word c =
@@ -17,7 +10,17 @@ returns-in-Some-clause-word c =
     sym (ap (λ (us : List (List ℕ)). words ++ us) (unless-started c.args.index.now c.args.letters.now c.in-Some.field-0
     c.in-Some.ensures.element) ∙ append-nil words)
 
-pub returns-in_ok-keep-in-None-clause-word : goal.returns-in_ok-keep-in-None-clause-word
-returns-in_ok-keep-in-None-clause-word c =
+pub returns-in-None : goal.returns-in-None
+returns-in-None c =
     let words = c.args.words.now.items in
-    c.in_ok-keep-in-None.ensures ∙ ap (λ (us : List (List ℕ)). words ++ us) (sym (unless-free c.args.index.now c.args.letters.now c.in-None.ensures.element))
+    let free = unless-free c.args.index.now c.args.letters.now c.in-None.ensures.element in
+    record {
+      word = subst (λ (us : List (List ℕ)). OnOk c.push_within.result (c.push_within.new.words.items ≡ words ++ us)) (sym free) c.push_within.ensures.word;
+      within = c.push_within.ensures.within;
+      many = λ e. omega (
+        arith,
+        c.push_within.ensures.many e,
+        ap length free,
+        length-append words (unless_begins c.args.index.now c.args.letters.now),
+      );
+    }
