@@ -100,9 +100,6 @@ module _ (weights : List ℕ) (aw : AreWeights weights) (d : ℕ) where
       let s = degree_says i e a.0 q a.2 in
       record { none = s.0; number = s.1; left_over = s.2.0; right_over = s.2.1; degree = omega (arith, below_says (d + 1 - e) a.0 a.1, s.3.0, s.3.1) }
 
-  greater_degree : (u v : List ℕ) → degree_of weights v < degree_of weights u → IsGreater weights u v
-  greater_degree u v lt = inl lt
-
   with_degree-ordered : (i e a : ℕ) → AllPairs (StandsBefore weights) (with_degree i e a)
   with_degree-ordered i e a = AllPairs-flat_map (with_left i e a) (IsGreater weights) (StandsBefore weights)
       (λ u. AllPairs-map (triple i u) (IsGreater weights) (StandsBefore weights) (λ v w g. inr (refl, inr (refl, g)))

@@ -74,16 +74,6 @@ pub unfolds_at : (weights : List ℕ) → AreWeights weights → (k : ℕ) → 0
 unfolds_at weights aw zero some = absurd (omega (arith, some))
 unfolds_at weights aw (suc d) some = words_of_degree-unfolds weights aw d
 
-pub counts_first : (weights counts : List ℕ) → length counts ≡ 65 → AreCounts weights (set counts 0 1) 1
-counts_first weights counts l = record {
-  size = length-set counts 0 1 ∙ l;
-  counted = λ k lt. subst (λ (n : ℕ). get_or (set counts 0 1) n 0 ≡ min (length (words_of_degree weights n)) (2 ^ 64 - 1)) (sym (none k lt))
-      (get_or-set_same counts 0 1 0 (omega (arith, l)));
-}
-  where
-    none : (k : ℕ) → k < 1 → k ≡ 0
-    none k lt = omega (arith, lt)
-
 pub counts_more : (weights counts : List ℕ) (k v : ℕ) → k < 65 → v ≡ min (length (words_of_degree weights k)) (2 ^ 64 - 1) →
     AreCounts weights counts k → AreCounts weights (set counts k v) (k + 1)
 counts_more weights counts k v lt e h = record {
@@ -94,9 +84,6 @@ counts_more weights counts k v lt e h = record {
     | inr other ↦ get_or-set_other counts k j v 0 other ∙ h.counted j (omega (arith, below, other))
   ];
 }
-
-pub lists_none : (weights : List ℕ) (d : ℕ) → AreLists weights d [] 0
-lists_none weights d = record { size = refl; listed = λ k lt. absurd (omega (arith, lt)); unused = λ k lt. absurd (omega (arith, lt)) }
 
 pub lists_more : (weights : List ℕ) (d k : ℕ) (lists : List (List (List ℕ))) (new : List (List ℕ)) → AreLists weights d lists k
     → (words_of_degree weights (d - k) ≢ [] → new ≡ words_of_degree weights k) → (words_of_degree weights (d - k) ≡ [] → new ≡ []) →

@@ -1,5 +1,5 @@
 -- One more degree: its number, and the degrees that are held.
-use Rattle.std.proofs.Common.{◌≡◌, ◌⊎◌, ◌+◌, ◌-◌, ◌<◌, ◌≤◌, ℕ, suc, min, List, [], ◌∷◌, ◌++◌, Result, Ok, Err, IfOk, length, drop, get_or}
+use Rattle.std.proofs.Common.{◌≡◌, ◌⊎◌, ◌+◌, ◌-◌, ◌<◌, ◌≤◌, ℕ, suc, List, [], ◌∷◌, ◌++◌, Result, Ok, Err, IfOk, length, drop, get_or}
 use Rattle.std.proofs.Common.{refl, sym, ap, ◌∙◌, inl, inr, arith, All, subst, length-append}
 use Rattle.std.proofs.lemmas.Bool.{cases_lt}
 use Rattle.std.proofs.lemmas.List.{get_or_append_left, get_or_push}
@@ -7,7 +7,7 @@ use Rattle.std.proofs.lemmas.List.Elements.{All-append, All-cons, All-nil, All-t
 use Rattle.free_poly.specs.declared.term.Term.{Term}
 use Rattle.ideal_laws.specs.Quantities.{AreNormalWords}
 use Rattle.lead_index.specs.declared.lead.Lead.{Lead}
-use Rattle.normal_words.specs.Normal.{AreBefore, AreNormal, WordsOfDegree, next_of}
+use Rattle.normal_words.specs.Normal.{AreNormal, WordsOfDegree, next_of}
 use Rattle.hilbert.specs.Series.{AreCounts, AreHeld, IndexesLeads, IsCount, IsFirstLarge}
 
 pub if_ok : {T E : Type 0} (P Q : T → Type 0) (r : Result T E) → IfOk r P → ((v : T) → P v → Q v) → IfOk r Q
@@ -139,14 +139,3 @@ module _ (weights : List ℕ) (leads : List Lead) where
             let one : 1 ≡ length held + 1 - 8 = omega (arith, le, h.few) in
             subst (λ (k : ℕ). IsNextHeld (d + 1) (drop k (held ++ n ∷ []))) one (full held n (d + 1) le h.few row)
       ]
-
-  -- some degree is held, and all that a letter can leave
-  pub before_of : (held : List WordsOfDegree) → AreHeld weights leads held → 0 < length held → AreBefore weights leads held
-  before_of held h some = record { some = some; consecutive = h.consecutive; each = h.each }
-
-  pub enough_held : (held : List WordsOfDegree) → AreHeld weights leads held → min 8 (next_of held) ≤ length held
-  enough_held held h = by_cases h.enough
-    where
-      by_cases : (next_of held ≡ length held) ⊎ (8 ≤ length held) → min 8 (next_of held) ≤ length held
-      by_cases (inl e) = omega (arith, e)
-      by_cases (inr le) = omega (arith, le)

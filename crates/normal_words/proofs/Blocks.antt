@@ -1,5 +1,5 @@
 -- The words that one letter begins, and where words of an index stand in them.
-use Rattle.std.proofs.Common.{◌≡◌, ◌+◌, ◌<◌, ◌≤◌, ℕ, zero, suc, Bool, true, false, cond, List, [], ◌∷◌, ◌++◌, Err, Result, length, take, get_or, refl}
+use Rattle.std.proofs.Common.{◌≡◌, ◌+◌, ◌<◌, ℕ, zero, suc, Bool, true, false, cond, List, [], ◌∷◌, ◌++◌, Err, Result, length, take, get_or, refl}
 use Rattle.std.proofs.Common.{sym, ap, ◌∙◌, inl, inr, arith, AllPairs, subst, bytes_eq, append_assoc, length-append}
 use Rattle.std.specs.List.{Contains}
 use Rattle.std.proofs.lemmas.Bool.{cases_Bool, cases_lt}
@@ -146,6 +146,3 @@ module _ (leads : List Lead) (x : ℕ) where
         one,
         more,
       )
-
-  pub block-all : (tails : List (List ℕ)) (i : ℕ) → length tails ≤ i → block leads x (take i tails) ≡ block leads x tails
-  block-all tails i le = ap (block leads x) (take_all i tails le)

@@ -3,13 +3,12 @@ use Rattle.std.proofs.Common.{◌≡◌, ◌<◌, ◌≤◌, ℕ, zero, suc, Lis
 use Rattle.std.specs.List.{count_by}
 use Rattle.std.specs.Prelude.{ltb}
 use Rattle.std.proofs.lemmas.Bool.{cases_lt, lt-ltb}
-use Rattle.std.proofs.lemmas.List.Elements.{All-cons, All-head, All-nil}
+use Rattle.std.proofs.lemmas.List.Elements.{All-cons, All-nil}
 use Rattle.words.specs.Order.{IsLetterwiseGreater}
-use Rattle.words.specs.Words.{IsOver, degree_of}
+use Rattle.words.specs.Words.{degree_of}
 use Rattle.words.proofs.Members.{AllPairs-first, AllPairs-rest}
 use Rattle.words.proofs.Weights.{length-le-degree_of}
 use Rattle.free_poly.specs.declared.term.Term.{Term}
-use Rattle.free_poly.specs.Terms.{UsesLetters}
 use Rattle.free_poly.specs.Poly.{IsMonic, lead_of, lead_or_none}
 use Rattle.ideal_laws.specs.Basis.{HasGreaterLead}
 use Rattle.ideal_laws.specs.Engine.{Elements}
@@ -69,10 +68,6 @@ pub monic-lead : (f : List Term) → IsMonic f → lead_of f ≡ Some (lead_or_n
 monic-lead [] m = absurd m
 monic-lead (t ∷ f) m = refl
 
-lead-over : (names : ℕ) (f : List Term) → UsesLetters names f → IsOver names (lead_or_none f)
-lead-over names [] h = All-nil (λ x. x < names)
-lead-over names (t ∷ f) h = All-head (λ (s : Term). IsOver names s.word) t f h
-
 module _ (b : Elements) (kept : IsKept b) where
   abbrev G : List (List Term)
   G = b.elements
@@ -86,9 +81,6 @@ module _ (b : Elements) (kept : IsKept b) where
       let h = element_kept i lt in
       let e = lead_degree-is b.weights (get_or G i []) in
       (omega (arith, e, h.from), omega (arith, e, h.upto, kept.degrees))
-
-  pub lead_word-over : (i : ℕ) → i < length G → IsOver (length b.weights) (lead_word G i)
-  lead_word-over i lt = lead-over (length b.weights) (get_or G i []) (element_kept i lt).letters
 
   pub lead_word-small : (i : ℕ) → i < length G → length (lead_word G i) ≤ 64
   lead_word-small i lt = omega (arith, length-le-degree_of b.weights kept.weights (lead_word G i), (lead_word-bounds i lt).1)

@@ -4,7 +4,7 @@ use Rattle.std.proofs.Common.{ap, subst, ◌∙◌, inl, inr, add-one, append_as
 use Rattle.std.specs.List.{flat_map, join_by}
 use Rattle.std.proofs.Math.Seq.{drop-cons, drop-length}
 use Rattle.std.proofs.lemmas.Bool.{cases_Bool, ne_eqb}
-use Rattle.std.proofs.lemmas.List.{append-nil, replicate-append-replicate}
+use Rattle.std.proofs.lemmas.List.{append-nil}
 use Rattle.poly_writer.specs.Texts.{Run, run_text, runs_of, with_first, word_text}
 
 -- no letter, or another one, stands in front
@@ -46,14 +46,6 @@ pub record IsRun (w : List ℕ) (at end : ℕ) : Type 0 where
   pub within : end ≤ length w
   pub equal : drop at w ≡ replicate (end - at) (get_or w at 0) ++ drop end w
   pub longest : end < length w → get_or w end 0 ≢ get_or w at 0
-
--- a run goes on by one more equal letter
-pub longer_run : (w : List ℕ) (at end x : ℕ) → at ≤ end → end < length w → get_or w end 0 ≡ x →
-    drop at w ≡ replicate (end - at) x ++ drop end w → drop at w ≡ replicate (end + 1 - at) x ++ drop (end + 1) w
-longer_run w at end x within below same h =
-    let e : end + 1 - at ≡ (end - at) + 1 = omega arith in
-    h ∙ rw (e, add-one end, ← replicate-append-replicate (end - at) 1 x, append_assoc (replicate (end - at) x) (x ∷ []) (drop (suc end) w))
-    (ap (λ t. replicate (end - at) x ++ t) (drop-cons w end 0 below ∙ ap (λ y. y ∷ drop (suc end) w) same))
 
 runs_of-drop : (w : List ℕ) (at end : ℕ) → IsRun w at end → StartsOtherwise (get_or w at 0) (drop end w) →
     runs_of (drop at w) ≡ run (get_or w at 0) (end - at) ∷ runs_of (drop end w)

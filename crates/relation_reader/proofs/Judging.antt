@@ -150,9 +150,6 @@ some_elements p some (l ∷ ls) =
     let rest = some_elements p some ls in
     record { elements = n.polynomial ∷ rest.elements; are = (record { form = n.form; residues = n.residues; sum = n.sum }, rest.are) }
 
-pub AreSound-none : (p : ℕ) (weights : List ℕ) → AreSound p weights [] []
-AreSound-none p weights = record { elements = []; elements_are = tt; no_fault = refl; others = refl }
-
 -- one more sound relation
 pub AreSound-push : (p : ℕ) (weights : List ℕ) (ls found : List (List Term)) (l f : List Term) → AreSound p weights ls found → IsElementOf p l f
     → ((k : ℕ) → first_of (relation_faults weights k (f ∷ [])) ≡ None) → AreSound p weights (ls ++ l ∷ []) (found ++ others_than_zero (f ∷ []))

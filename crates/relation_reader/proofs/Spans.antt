@@ -1,12 +1,12 @@
 -- Spans that grow by one byte, and the tokens that they complete.
 use Rattle.std.proofs.Common.{ℕ, ◌≡◌, ◌+◌, ◌-◌, ◌*◌, ◌<◌, ◌≤◌, Bool, true, false, ◌&&◌, List, [], ◌∷◌, ◌++◌, length, take, drop, get_or, Option, Some}
-use Rattle.std.proofs.Common.{refl, sym, ap, subst, ◌∙◌, append_assoc, length-drop, arith}
+use Rattle.std.proofs.Common.{refl, sym, ap, subst, ◌∙◌, length-drop, arith}
 use Rattle.std.proofs.Math.Seq.{drop-length}
 use Rattle.std.proofs.lemmas.List.{take_more, take_all, get_or-drop, drop_more}
 use Rattle.relation_reader.specs.declared.token.Token.{Token}
 use Rattle.relation_reader.specs.declared.fault.InputFault.{InputFault}
 use Rattle.relation_reader.specs.declared.fault.InputFault.TheVariants as faults
-use Rattle.relation_reader.specs.Tokens.{Gap, IsBadByte, IsGap, IsToken, IsWideNumber, SplitsFrom, StopsAt, after_byte, after_bytes, are_all, begins}
+use Rattle.relation_reader.specs.Tokens.{Gap, IsBadByte, IsGap, IsWideNumber, SplitsFrom, StopsAt, after_byte, after_bytes, are_all, begins}
 use Rattle.relation_reader.specs.Tokens.{span, with_digits}
 use Rattle.relation_reader.specs.Scan.{IsFaultAt}
 
@@ -98,11 +98,6 @@ begins-end test text = ap (begins test) (drop-length text)
 -- whatever splits the rest completes these tokens
 abbrev pub Completes : List ℕ → List Token → ℕ → Type 0
 Completes text tokens at = (ts : List Token) (stop : Option InputFault) → SplitsFrom text at ts stop → SplitsFrom text 0 (tokens ++ ts) stop
-
-pub Completes-next : (text : List ℕ) (tokens : List Token) (at : ℕ) (t : Token) → Completes text tokens at → IsGap text at t.start →
-    IsToken text t → Completes text (tokens ++ t ∷ []) t.end
-Completes-next text tokens at t completes gap token = λ ts stop s.
-    subst (λ us. SplitsFrom text 0 us stop) (sym (append_assoc tokens (t ∷ []) ts)) (completes (t ∷ ts) stop (gap, token, s))
 
 pub StopsAt-fault : (text : List ℕ) (from at : ℕ) (fault : InputFault) → IsGap text from at → IsFaultAt text at fault → StopsAt text from (Some fault)
 StopsAt-fault text from at (faults.BadByte place) gap h = subst (λ n. IsGap text from n × IsBadByte text n) (sym h.0) (gap, h.1)

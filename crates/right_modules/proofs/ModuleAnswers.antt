@@ -29,11 +29,6 @@ pub limit_from_fault : (fault : EngineFault) (kind : LimitKind) (degree value : 
 limit_from_fault (engine.Limit k d v) kind degree value e = cc e
 limit_from_fault engine.NoMemory kind degree value e = cc e
 
--- and no fault of the engine is one of a shape
-pub no_shape_from_fault : (fault : EngineFault) (relation : ℕ) → fault_of fault ≡ own.Shape relation → ⊥
-no_shape_from_fault (engine.Limit k d v) relation e = cc e
-no_shape_from_fault engine.NoMemory relation e = cc e
-
 -- what is asked of the relations is what is told of the presentation
 pub shaped_from : (given : Presentation) (gens free : ℕ) (relations : List (List Term)) → relations ≡ given.relations → free ≡ free_letters given gens
     → All (IsShaped free) relations

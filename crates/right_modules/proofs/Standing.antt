@@ -1,10 +1,8 @@
 -- Whether a word of an index stands in a word, and the words in which none does.
-use Rattle.std.proofs.Common.{◌≡◌, ◌+◌, ◌++◌, ◌<◌, ◌∙◌, ℕ, zero, suc, Bool, true, false, cond, List, [], ◌∷◌, ap, append_assoc, arith, get_or, inl}
+use Rattle.std.proofs.Common.{◌≡◌, ◌++◌, ◌<◌, ◌∙◌, ℕ, zero, suc, Bool, true, false, cond, List, [], ◌∷◌, ap, arith, get_or, inl}
 use Rattle.std.proofs.Common.{inr, length, length-append, refl, subst, sym, take}
 use Rattle.std.specs.List.{Contains}
 use Rattle.std.proofs.lemmas.Bool.{cases_Bool}
-use Rattle.std.proofs.lemmas.Grind.{flat_map-append}
-use Rattle.std.proofs.lemmas.List.{append-nil, take_more}
 use Rattle.std.proofs.lemmas.List.Elements.{All-contains}
 use Rattle.std.proofs.lemmas.List.Folds.{length-flat_map-take}
 use Rattle.words.specs.Words.{OccursAt}
@@ -78,21 +76,6 @@ module _ (leads : List Lead) (x : ℕ) where
   pub extended-has : (fronts : List (List ℕ)) (v : List ℕ) → Contains fronts v → IsFree leads (v ++ x ∷ []) → Contains (extended leads x fronts) (v ++ x ∷ [])
   extended-has fronts v m h =
       Contains-flat_map (λ u. unless_stands leads (u ++ x ∷ [])) fronts v (v ++ x ∷ []) m (unless_stands-has leads (v ++ x ∷ []) h)
-
-  extended-more : (fronts : List (List ℕ)) (i : ℕ) (v : List ℕ) → i < length fronts → v ≡ get_or fronts i v
-      → extended leads x (take (i + 1) fronts) ≡ extended leads x (take i fronts) ++ unless_stands leads (v ++ x ∷ [])
-  extended-more fronts i v lt e =
-      ap (extended leads x) (take_more fronts i v lt ∙ ap (λ (u : List ℕ). take i fronts ++ u ∷ []) (sym e))
-      ∙ flat_map-append (λ u. unless_stands leads (u ++ x ∷ [])) (take i fronts) (v ∷ [])
-      ∙ ap (λ (us : List (List ℕ)). extended leads x (take i fronts) ++ us) (append-nil (unless_stands leads (v ++ x ∷ [])))
-
-  -- the words so far, with what one more word gives
-  pub extended-step : (old words new fronts : List (List ℕ)) (i : ℕ) (v w : List ℕ) → i < length fronts → v ≡ get_or fronts i v → w ≡ v ++ x ∷ []
-      → words ≡ old ++ extended leads x (take i fronts) → new ≡ words ++ unless_stands leads w → new ≡ old ++ extended leads x (take (i + 1) fronts)
-  extended-step old words new fronts i v w lt e is so_far grown =
-      grown ∙ ap (λ (us : List (List ℕ)). us ++ unless_stands leads w) so_far ∙ append_assoc old (extended leads x (take i fronts)) (unless_stands leads w)
-      ∙ ap (λ (us : List (List ℕ)). old ++ us) (ap (λ (u : List ℕ). extended leads x (take i fronts) ++ unless_stands leads u) is
-      ∙ sym (extended-more fronts i v lt e))
 
   -- all extended words are no fewer than those so far with one more
   pub extended-longer : (old words fronts : List (List ℕ)) (i most : ℕ) (v w : List ℕ) → i < length fronts → v ≡ get_or fronts i v → w ≡ v ++ x ∷ []

@@ -12,6 +12,7 @@ use Rattle.cofactors.specs.declared.row.Row.{Row}
 use Rattle.cofactors.specs.ProductList.{relation_at, triple_terms}
 use Rattle.cofactors.specs.Rows.{AreLeaders, IsPlusSpan, IsRow, IsTracked, lead_word}
 use Rattle.cofactors.proofs.Spans.{span-more, span-trans}
+use Rattle.cofactors.proofs.leaders.leaders_of.Goals.{After-index-as_slice-triple}
 use Rattle.cofactors.proofs.leaders.leaders_of.Goals as goal
 
 no_leaders : (p : ℕ) → AreLeaders p []
@@ -32,36 +33,35 @@ loop-place-init c =
       spanned = All-nil (λ (f : List Term). IsPlusSpan p c.new-leaders.result.items f []);
     }
 
+-- the relation of the triple is one of the presentation
+relation : (c : After-index-as_slice-triple) → (c.index-triples-place.result.relation - 1 < length c.args.presentation.now.relations)
+    × (c.index-as_slice-triple.result
+    ≡ get_or c.args.presentation.now.relations (c.index-triples-place.result.relation - 1) c.index-as_slice-triple.result)
+relation c =
+    let q = c.index-triples-place.result in
+    let r = c.index-as_slice-triple.result in
+    let Numbered = λ (x : Product). (0 < x.relation) × (x.relation ≤ length c.args.presentation.now.relations) in
+    let numbered : Numbered q = subst Numbered (sym c.index-triples-place.is) (c.requires.numbers c.loop-place.place q c.loop-place-test.true) in (
+      omega (arith, numbered.0, numbered.1),
+      c.index-as_slice-triple.is ∙ ap (λ (rs : List (List Term)). get_or rs (q.relation - 1) r) c.as_slice.ensures,
+    )
+
 pub times-requires : goal.times-requires
 times-requires c =
     let weights = c.args.presentation.now.alphabet.weights in
-    let relations = c.args.presentation.now.relations in
-    let triples = c.args.triples.now in
-    let q = c.index-triples-place.result in
-    let Numbered = λ (x : Product). (0 < x.relation) × (x.relation ≤ length relations) in
-    let numbered : Numbered q = subst Numbered (sym c.index-triples-place.is) (c.requires.numbers c.loop-place.place q c.loop-place-test.true) in
-    let r = c.index-as_slice-triple.result in
-    let is : r ≡ get_or relations (q.relation - 1) r = c.index-as_slice-triple.is
-    ∙ ap (λ (rs : List (List Term)). get_or rs (q.relation - 1) r) c.as_slice.ensures in
-    let within : q.relation - 1 < length relations = omega (arith, numbered.0, numbered.1) in
-    c.element_laws.ensures.no_prefix weights c.len-letters.ensures.alphabet.weights r
-    (subst (HasOneDegree weights) (sym is) (c.args.presentation.now.one_degree (q.relation - 1) r within))
+    let own = relation (goal.at.times-requires c).After-index-as_slice-triple in
+    c.element_laws.ensures.no_prefix weights c.len-letters.ensures.alphabet.weights c.index-as_slice-triple.result
+    (subst (HasOneDegree weights) (sym own.1) (c.args.presentation.now.one_degree (c.index-triples-place.result.relation - 1) _ own.0))
 
 pub row_of-requires : goal.row_of-requires
 row_of-requires c =
     let p = c.args.field.now in
-    let relations = c.args.presentation.now.relations in
-    let q = c.index-triples-place.result in
-    let Numbered = λ (x : Product). (0 < x.relation) × (x.relation ≤ length relations) in
-    let numbered : Numbered q = subst Numbered (sym c.index-triples-place.is) (c.requires.numbers c.loop-place.place q c.loop-place-test.true) in
     let r = c.index-as_slice-triple.result in
-    let is : r ≡ get_or relations (q.relation - 1) r = c.index-as_slice-triple.is
-    ∙ ap (λ (rs : List (List Term)). get_or rs (q.relation - 1) r) c.as_slice.ensures in
-    let within : q.relation - 1 < length relations = omega (arith, numbered.0, numbered.1) in
+    let own = relation (goal.at.row_of-requires c).After-index-as_slice-triple in
     record {
       residues = subst (HasResidues p) (sym c.in_ok-element.ensures.product)
           (HasResidues-product p c.letters.result.now r c.letters-in-loop-place.result.now
-          (subst (HasResidues p) (sym is) (c.requires.relations (q.relation - 1) r within)));
+          (subst (HasResidues p) (sym own.1) (c.requires.relations (c.index-triples-place.result.relation - 1) r own.0)));
     }
 
 pub loop-place-preserved : goal.loop-place-preserved
@@ -73,13 +73,9 @@ loop-place-preserved c =
     let fs = map f triples in
     let i = c.loop-place.place in
     let q = c.index-triples-place.result in
-    let Numbered = λ (x : Product). (0 < x.relation) × (x.relation ≤ length relations) in
-    let numbered : Numbered q = subst Numbered (sym c.index-triples-place.is) (c.requires.numbers i q c.loop-place-test.true) in
     let r = c.index-as_slice-triple.result in
-    let is : r ≡ get_or relations (q.relation - 1) r = c.index-as_slice-triple.is
-    ∙ ap (λ (rs : List (List Term)). get_or rs (q.relation - 1) r) c.as_slice.ensures in
-    let in_relations : q.relation - 1 < length relations = omega (arith, numbered.0, numbered.1) in
-    let at : r ≡ relation_at relations q.relation = is ∙ get_or_default relations (q.relation - 1) r [] in_relations in
+    let own = relation (goal.at.loop-place-preserved c).After-index-as_slice-triple in
+    let at : r ≡ relation_at relations q.relation = own.1 ∙ get_or_default relations (q.relation - 1) r [] own.0 in
     let element : c.in_ok-element.element ≡ f q = c.in_ok-element.ensures.product
     ∙ (λ j. product (c.letters.ensures j) (at j) (c.letters-in-loop-place.ensures j)) in
     let size : length fs ≡ length triples = length-map triples f in
