@@ -69,7 +69,8 @@ module _ (weights : List ℕ) (aw : AreWeights weights) where
     -- in the order of chains
     pub sorted_stands : IsSorted found_cmp sorted → AllPairs (StandsBefore weights) (pieces_of sorted)
     sorted_stands up =
-        let pairs = strictly found_cmp found_total sorted up (IsDistinct-IsPermutation AreTied (tied_both found_cmp found_total) block sorted moved (subst (IsDistinct AreTied) (sym is)
+        let pairs = strictly found_cmp found_total sorted up
+        (IsDistinct-IsPermutation AreTied (tied_both found_cmp found_total) block sorted moved (subst (IsDistinct AreTied) (sym is)
         (IsDistinct-from_apart AreTied (with_degree d all) (AllPairs-map chain_of (λ a b. a ≢ b) (λ x y. AreTied x y ≡ false)
         (λ a b ne. untied (chain_of a) (chain_of b) ne) all apart)))) in
         AllPairs-map (λ (x : Chain). x.pieces) (λ x y. StandsBefore weights x.pieces y.pieces) (StandsBefore weights) (λ x y s. s) sorted

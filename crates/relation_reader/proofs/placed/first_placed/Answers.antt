@@ -74,5 +74,6 @@ loop-at-preserved c =
     let next = c.in_ok-walk.walk in
     let gives = c.in_ok-walk.ensures in
     Walks-next c.args.text.now c.args.tokens.now c.args.stop c.loop-at.at walk.place (map (λ name. name.items) walk.names.items) walk.begun walk.letters
-    (get_or c.args.tokens.now c.loop-at.at unread) c.fault_at-found.result known (finds (goal.at.loop-at-preserved c).Else-is_some) (sym c.is_some.ensures ∙ c.if-is_some.false)
+    (get_or c.args.tokens.now c.loop-at.at unread) c.fault_at-found.result known
+    (finds (goal.at.loop-at-preserved c).Else-is_some) (sym c.is_some.ensures ∙ c.if-is_some.false)
     next.place (map (λ name. name.items) next.names.items) next.begun next.letters gives.place (gives.passed known.before known.passed) gives.few gives.short
