@@ -1,7 +1,7 @@
 ghost use Rattle.std.specs.Prelude.{◌≡◌, ◌<◌, ◌≤◌, IfOk, IfSome};
 
 use crate::presented::{Algebra, algebra_of, assert_words, residues};
-use back_reduce::{PivotRows, Problem, eliminate, reduced};
+use back_reduce::{PivotRows, Problem, Row, eliminate, reduced};
 use degree_loop::{Matrix, matrix_of};
 use field_table::{Field, NoMemory};
 use ideal_laws::Limits;
@@ -26,13 +26,29 @@ fn problem_of(
     if m > 8 || n > 8 || cells.len() != (n * m) as usize || !cells.iter().all(|a| *a < modulus) {
         return Ok(None);
     }
-    Ok(Some(Problem {
-        degree: 0,
-        modulus,
-        m,
-        n,
-        cells: Vec::from_slice(alloc, cells)?,
-    }))
+    Ok(Some(Problem::from_cells(alloc, 0, modulus, m, n, cells)?))
+}
+
+/// The residues of a row, those that are 0 too.
+fn residues_of(alloc: Global, row: &Row) -> Result<Vec<u32>, NoMemory> {
+    let mut found = vec![in alloc; 0u32; row.len()]?;
+    row.write(found.as_mut_slice());
+    Ok(found)
+}
+
+/// The rows have these residues.
+pub fn assert_rows(
+    rt: &impl Abort,
+    alloc: Global,
+    rows: &[Row],
+    wanted: &[&[u32]],
+) -> Result<(), Fail> {
+    assert_eq!(rt; rows.len(), wanted.len());
+    for (row, residues) in rows.iter().zip(wanted) {
+        let found = residues_of(alloc, row)?;
+        assert_eq!(rt; found.as_slice(), *residues);
+    }
+    Ok(())
 }
 
 /// In degree 4 both rows of x^2-y*x leave x*y^2*x-y^3*x, and the first one holds its column.
@@ -49,7 +65,7 @@ fn equal_rows_have_one_pivot(rt: HostRuntime) -> Result<(), Fail> {
     let Matrix { closed, problem } = matrix;
     assert_words(&rt, closed.contested(), &[&[0, 1, 1, 0], &[1, 1, 1, 0]]);
     assert_eq!(rt; (problem.n, problem.m), (2, 2));
-    assert_eq!(rt; problem.cells.as_slice(), [1, 100, 1, 100].as_slice());
+    assert_rows(&rt, alloc, problem.rows.as_slice(), &[&[1, 100], &[1, 100]])?;
     let pivots = eliminate(alloc, &field, problem)?;
     assert_eq!(rt; [pivots.holder(0), pivots.holder(1)], [Some(0), None]);
     assert_eq!(rt; pivots.value(0, 1), 100);
@@ -65,10 +81,7 @@ fn a_row_is_reduced_by_the_one_below(rt: HostRuntime) -> Result<(), Fail> {
     };
     let pivots = eliminate(alloc, &field, problem)?;
     let echelon = reduced(&rt, alloc, &field, &pivots)?;
-    assert_eq!(rt; echelon.len(), 2);
-    assert_eq!(rt; echelon[0].as_slice(), [1, 0, 2].as_slice());
-    assert_eq!(rt; echelon[1].as_slice(), [0, 1, 4].as_slice());
-    Ok(())
+    assert_rows(&rt, alloc, echelon.as_slice(), &[&[1, 0, 2], &[0, 1, 4]])
 }
 
 /// A list and a multiple of another, where these are residues and both have one length.
@@ -167,7 +180,13 @@ fn assert_one_form<R: Abort + Threads + Sync>(
             let found = reduced(rt, alloc, field, &pivots)?;
             assert_eq!(rt; found.len(), wanted.len(), "{crew} from {begin}");
             for (row, other) in found.iter().zip(wanted.as_slice()) {
-                assert_eq!(rt; row.as_slice(), other.as_slice(), "{crew} from {begin}");
+                let residues = residues_of(alloc, row)?;
+                let others = residues_of(alloc, other)?;
+                assert_eq!(rt;
+                    residues.as_slice(),
+                    others.as_slice(),
+                    "{crew} from {begin}"
+                );
             }
         }
     }

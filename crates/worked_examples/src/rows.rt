@@ -9,6 +9,7 @@ ghost use Rattle.overlaps.specs.Listed.{AreListed, IsOf, IsRowFor};
 ghost use Rattle.symbolic_prep.specs.Closed.{IsClosed};
 
 use crate::presented::{Algebra, algebra_of, assert_elements, assert_words};
+use crate::problems::assert_rows;
 use field_table::Field;
 use free_poly::Poly;
 use ideal_laws::{Basis, EngineFault, LimitKind, Limits, Presentation, lower_law, setting_law};
@@ -137,7 +138,7 @@ fn assert_cells<R: Abort + Threads + Sync>(
             Ok(problem) => {
                 assert_eq!(rt; refused, None);
                 assert_eq!(rt; (problem.n, problem.m), (2, 2));
-                assert_eq!(rt; problem.cells.as_slice(), [1, 100, 1, 100].as_slice());
+                assert_rows(rt, alloc, problem.rows.as_slice(), &[&[1, 100], &[1, 100]])?;
             }
             Err(
                 EngineFault::Limit {

@@ -8,8 +8,8 @@ use Rattle.overlaps.proofs.Rows.{are_rows, each_is}
 use Rattle.degree_loop.proofs.DegreeClosure.{rows_degree, rows_letters}
 use Rattle.worked_examples.proofs.rows.rows_above.Goals as goal
 
-pub rows_of-requires-clause-obstructions : goal.rows_of-requires-clause-obstructions
-rows_of-requires-clause-obstructions c = each_is c.args.basis.now.weights c.args.basis.now.elements c.args.d c.args.found.now c.requires.listed
+pub obstruction_rows-requires-clause-obstructions : goal.obstruction_rows-requires-clause-obstructions
+obstruction_rows-requires-clause-obstructions c = each_is c.args.basis.now.weights c.args.basis.now.elements c.args.d c.args.found.now c.requires.listed
 
 pub returns-clause-rows : goal.returns-clause-rows
 returns-clause-rows c =
