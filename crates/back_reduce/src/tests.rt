@@ -40,7 +40,7 @@ fn rows_have_their_echelon_form(rt: HostRuntime) -> Result<(), Fail> {
     let alloc = rt.alloc();
     let field = Field::new(alloc, 101)?;
     let none: &[u32] = &[];
-    let cases: [(u32, u32, &[u32], &[u32]); 6] = [
+    let cases: [(u32, u32, &[u32], &[u32]); 7] = [
         (3, 3, &[1, 2, 3, 2, 4, 7, 0, 0, 1], &[1, 2, 0, 0, 0, 1]),
         (3, 2, &[0, 3, 6, 5, 10, 20], &[1, 0, 0, 0, 1, 2]),
         (
@@ -51,6 +51,13 @@ fn rows_have_their_echelon_form(rt: HostRuntime) -> Result<(), Fail> {
         ),
         (2, 2, &[50, 1, 100, 2], &[1, 99]),
         (2, 3, &[0, 0, 0, 7, 0, 0], &[0, 1]),
+        // The first row has one residue of seven, and the second one when it is cleared.
+        (
+            7,
+            2,
+            &[0, 0, 3, 0, 0, 0, 0, 0, 0, 6, 0, 0, 5, 0],
+            &[0, 0, 1, 0, 0, 0, 0, 0, 0, 0, 0, 0, 1, 0],
+        ),
         (4, 0, none, none),
     ];
     for (m, n, cells, form) in cases {
