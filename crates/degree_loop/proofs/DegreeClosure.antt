@@ -1,24 +1,24 @@
 -- What the calls on the closure of a degree ask of its rows, columns and reducers.
-use Rattle.std.proofs.Common.{◌≡◌, ◌*◌, ◌≤◌, ℕ, List, [], ◌∷◌, All, Option, None, Some, length, sym, ap, ◌∙◌, arith}
+use Rattle.std.proofs.Common.{◌≡◌, ◌*◌, ◌≤◌, ℕ, List, All, Option, length, sym, ap, ◌∙◌, arith}
 use Rattle.std.specs.List.{AllZip, Contains, flat_map}
 use Rattle.words.specs.Words.{IsOver, degree_of}
 use Rattle.words.proofs.Degrees.{words_of_degree-says}
-use Rattle.words.proofs.Members.{All-from_members, Contains-first, Contains-flat_map, Contains-map, Contains-more}
+use Rattle.words.proofs.Members.{All-from_members, Contains-flat_map, Contains-map}
 use Rattle.free_poly.specs.declared.term.Term.{Term}
 use Rattle.free_poly.specs.Terms.{HasDegree, HasResidues, UsesLetters}
 use Rattle.free_poly.specs.Poly.{IsPolynomial}
 use Rattle.ideal_laws.specs.declared.limits.LimitKind.{LimitKind}
 use Rattle.ideal_laws.specs.declared.limits.LimitKind.TheVariants.{PlainWords, Rows, Columns, Entries, Cells, Terms, NormalWords}
-use Rattle.ideal_laws.specs.Closure.{AreColumns, HasReducer, brought, given}
+use Rattle.ideal_laws.specs.Closure.{AreColumns, HasReducer, given}
 use Rattle.ideal_laws.specs.Engine.{Elements}
 use Rattle.ideal_laws.specs.Laws.{IsSetting}
 use Rattle.ideal_laws.specs.Overlaps.{AreLower}
-use Rattle.ideal_laws.specs.Quantities.{AreRows, IsQuantity, words_of, contested_words}
+use Rattle.ideal_laws.specs.Quantities.{AreRows, IsQuantity, reducers_in, words_of, contested_words}
 use Rattle.symbolic_prep.specs.Closed.{ClosedColumns, IsClosed, IsClosedQuantity}
-use Rattle.row_laws.proofs.ClosedColumns.{closure_word, contested_falling, contested_says}
+use Rattle.row_laws.proofs.ClosedColumns.{closure_word, contested_falling, contested_says, reducer_says}
 use Rattle.row_laws.proofs.DegreeRows.{member_word, row_member}
-use Rattle.row_laws.proofs.Reducers.{reducer_inside, reducer_lead, reducer_monic}
-use Rattle.row_store.specs.Contested.{IsCellQuantity, IsOnColumns, IsReducing, MayReduce}
+use Rattle.row_laws.proofs.Reducers.{reducer_inside}
+use Rattle.row_store.specs.Contested.{IsCellQuantity, IsOnColumns}
 use Rattle.degree_loop.specs.Matrix.{AreColumnWords}
 use Rattle.degree_loop.proofs.Contested.{length-contested}
 
@@ -55,30 +55,6 @@ module _ (p : ℕ) (weights : List ℕ) (relations : List (List Term)) (st : IsS
           (λ t n. (are_columns.exactly t.word).1 (given t.word (Contains-map (λ (s : Term). s.word) (flat_map (λ g. g) rows) t
           (Contains-flat_map (λ g. g) rows f t m n)))))
 
-      may_reduce : (w : List ℕ) (o : Option (List Term)) → Contains columns w → HasReducer G w o → MayReduce p columns w o
-      may_reduce w None m h = tt
-      may_reduce w (Some g) m h =
-          let says = column_says w m in
-          let element = (reducer_inside p weights relations st d G lower w g says.0 says.1 h).element in
-          record {
-            form = element.form;
-            residues = element.residues;
-            lead = reducer_lead p weights relations st d G lower w g h;
-            monic = reducer_monic p weights relations st d G lower w g h;
-            on_columns = All-from_members (λ t. Contains columns t.word) g
-                (λ t n. (are_columns.exactly t.word).1 (brought w t.word g ((are_columns.exactly w).0 m) h (Contains-map (λ (s : Term). s.word) g t n)));
-          }
-
-      all_reduce : (ws : List (List ℕ)) (rs : List (Option (List Term))) → ((w : List ℕ) → Contains ws w → Contains columns w) →
-          AllZip (HasReducer G) ws rs → AllZip (MayReduce p columns) ws rs
-      all_reduce [] [] among z = z
-      all_reduce [] (r ∷ rs) among z = absurd z
-      all_reduce (w ∷ ws) [] among z = absurd z
-      all_reduce (w ∷ ws) (r ∷ rs) among z = (
-        may_reduce w r (among w (Contains-first w ws)) z.0,
-        all_reduce ws rs (λ v m. among v (Contains-more w ws v m)) z.1,
-      )
-
       module _ (reducers : List (Option (List Term))) (have : AllZip (HasReducer G) columns reducers) where
         contested_has : (w : List ℕ) → Contains (contested_words columns reducers) w → IsOver (length weights) w × (degree_of weights w ≡ d)
         contested_has w m = column_says w (contested_says G columns reducers have w m).0
@@ -95,12 +71,11 @@ module _ (p : ℕ) (weights : List ℕ) (relations : List (List Term)) (st : IsS
           falling = contested_falling columns reducers are_columns.falling;
         }
 
-    pub reducing_closed : (closed : ClosedColumns) → IsClosed G (words_of rows) closed → IsReducing p closed
-    reducing_closed closed h = record {
-      falling = h.are_columns.falling;
-      reducers =
-          all_reduce closed.columns h.are_columns closed.columns closed.reducers (λ w m. m) h.are_reducers;
-    }
+    pub reducer_residues : (closed : ClosedColumns) → IsClosed G (words_of rows) closed → All (HasResidues p) (reducers_in closed.reducers)
+    reducer_residues closed h = All-from_members (HasResidues p) (reducers_in closed.reducers)
+        (λ g m. let r = reducer_says G closed.columns closed.reducers h.are_reducers g m in
+        let says = column_says closed.columns h.are_columns r.0 r.1 in
+        (reducer_inside p weights relations st d G lower r.0 g says.0 says.1 r.2).element.residues)
 
 module _ (p : ℕ) (weights : List ℕ) (relations : List (List Term)) (below : Elements) (d : ℕ) (rows : List (List Term))
     (are : AreRows p weights relations below.elements d rows) where

@@ -8,7 +8,7 @@ use Rattle.ideal_laws.specs.Quantities.{IsFirstPassing, NonePasses, words_of}
 use Rattle.symbolic_prep.specs.Closed.{IsClosed, IsClosedQuantity, closing_limits}
 use Rattle.row_store.specs.Contested.{IsCellQuantity, IsContestedProblem, IsOnColumns}
 use Rattle.degree_loop.proofs.Asked.{one_fault}
-use Rattle.degree_loop.proofs.DegreeClosure.{below_forms, below_residues, reducing_closed, rows_degree, rows_letters, rows_on_columns, rows_residues}
+use Rattle.degree_loop.proofs.DegreeClosure.{below_forms, below_residues, reducer_residues, rows_degree, rows_letters, rows_on_columns, rows_residues}
 use Rattle.degree_loop.proofs.MatrixLimits.{cells_pass, close_passes, few_columns, is_matrix, matrix_within}
 use Rattle.degree_loop.proofs.matrix.matrix_of.Goals as goal
 
@@ -130,8 +130,8 @@ contested_rows-requires-clause-columns g c = λ κs lives.
     c.args.limits.now rows c.in_ok-rows.ensures.rows c.in_ok-closed.closed closed within in
     omega (arith, one, c.requires.limits.columns)
 
-pub contested_rows-requires-clause-reducing : goal.contested_rows-requires-clause-reducing
-contested_rows-requires-clause-reducing g c = λ κs lives.
+pub contested_rows-requires-clause-reducers : goal.contested_rows-requires-clause-reducers
+contested_rows-requires-clause-reducers g c = λ κs lives.
     let p = c.args.field.now in
     let weights = c.args.presentation.now.alphabet.weights in
     let relations = c.args.presentation.now.relations in
@@ -145,7 +145,7 @@ contested_rows-requires-clause-reducing g c = λ κs lives.
     }) in
     let closed = subst (λ (fs : List (List Term)). IsClosed below.elements (words_of fs) c.in_ok-closed.closed) c.as_slice.ensures.value
     c.in_ok-closed.ensures.closed in
-    reducing_closed p weights relations c.setting_law.ensures c.args.d below.elements lower c.in_ok-rows.rows.items
+    reducer_residues p weights relations c.setting_law.ensures c.args.d below.elements lower c.in_ok-rows.rows.items
     c.in_ok-rows.ensures.rows c.in_ok-closed.closed closed
 
 pub contested_rows-requires-clause-on_columns : goal.contested_rows-requires-clause-on_columns

@@ -1,16 +1,16 @@
 use Rattle.std.proofs.Common.{◌+◌, ◌≡◌, arith}
-use Rattle.degree_loop.proofs.DegreeClosure.{reducing_closed, rows_on_columns, rows_residues}
+use Rattle.degree_loop.proofs.DegreeClosure.{reducer_residues, rows_on_columns, rows_residues}
 use Rattle.worked_examples.proofs.rows.assert_cells.Goals as goal
 
-pub contested_rows-requires-clause-reducing : goal.contested_rows-requires-clause-reducing
-contested_rows-requires-clause-reducing g c = λ κs lives.
+pub contested_rows-requires-clause-reducers : goal.contested_rows-requires-clause-reducers
+contested_rows-requires-clause-reducers g c = λ κs lives.
     let a = c.args.algebra.now in
     let ws = a.given.alphabet.weights in
     let rs = a.given.relations in
     let next : a.basis.done + 1 ≡ 4 = omega (arith, c.requires.done) in
     let lower = c.lower_law.ensures.lower a.field ws rs c.setting_law.ensures 4 a.basis
     (record { kept = c.done-done.ensures.kept; next = next; same_weights = c.requires.weights; reduced = c.requires.reduced }) in
-    reducing_closed a.field ws rs c.setting_law.ensures 4 a.basis.elements lower c.args.rows.now c.requires.rows c.args.closed.now c.requires.closed
+    reducer_residues a.field ws rs c.setting_law.ensures 4 a.basis.elements lower c.args.rows.now c.requires.rows c.args.closed.now c.requires.closed
 
 pub contested_rows-requires-clause-on_columns : goal.contested_rows-requires-clause-on_columns
 contested_rows-requires-clause-on_columns g c = λ κs lives.
