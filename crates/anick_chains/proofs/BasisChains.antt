@@ -8,7 +8,7 @@ use Rattle.words.proofs.Weights.{degree_of-append}
 use Rattle.free_poly.specs.declared.term.Term.{Term}
 use Rattle.free_poly.specs.Poly.{lead_of, lead_or_none}
 use Rattle.free_poly.proofs.Products.{degree_of-round}
-use Rattle.ideal_laws.specs.Ideal.{IsMinimal}
+use Rattle.ideal_laws.specs.Ideal.{Ideal, IsMinimal}
 use Rattle.ideal_laws.specs.Laws.{IsSetting}
 use Rattle.ideal_laws.specs.Overlaps.{AreLower}
 use Rattle.ideal_laws.proofs.OneBasis.{minimal_led, monic-led}
@@ -67,35 +67,34 @@ pub lead_is : (g : List Term) (w : List ℕ) → lead_of g ≡ Some w → lead_o
 lead_is [] w e = cc e
 lead_is (t ∷ g) w e = cc e
 
-module _ (p : ℕ) (weights : List ℕ) (relations : List (List Term)) (st : IsSetting p weights relations) (e : ℕ) (G : List (List Term))
-    (lower : AreLower p weights relations e G) where
-  lead_minimal : (w : List ℕ) → Contains (leads_of G) w → IsMinimal p weights relations w
+module _ (ideal : Ideal) (st : IsSetting ideal) (e : ℕ) (G : List (List Term)) (lower : AreLower ideal e G) where
+  lead_minimal : (w : List ℕ) → Contains (leads_of G) w → IsMinimal ideal w
   lead_minimal w m =
       let g = Contains-map_cases lead_or_none G w m in
       let r = (lower g.0).0 g.1 in
       let l = monic-led g.0 r.2.monic in
-      subst (IsMinimal p weights relations) (sym (lead_is g.0 l.0 l.1) ∙ g.2) (r.2.minimal l.0 l.1)
+      subst (IsMinimal ideal) (sym (lead_is g.0 l.0 l.1) ∙ g.2) (r.2.minimal l.0 l.1)
 
-  minimal_lead : (w : List ℕ) → degree_of weights w < e → IsMinimal p weights relations w → Contains (leads_of G) w
+  minimal_lead : (w : List ℕ) → degree_of ideal.weights w < e → IsMinimal ideal w → Contains (leads_of G) w
   minimal_lead w lt h =
-      let g = minimal_led p weights relations st w h in
-      subst (Contains (leads_of G)) (lead_is g.0 w g.2) (Contains-map lead_or_none G g.0 ((lower g.0).1 (degree_of weights w, lt, g.1)))
+      let g = minimal_led ideal st w h in
+      subst (Contains (leads_of G)) (lead_is g.0 w g.2) (Contains-map lead_or_none G g.0 ((lower g.0).1 (degree_of ideal.weights w, lt, g.1)))
 
   -- chains over the leading words are chains over the minimal words
-  pub to_minimal : (c : List (List ℕ)) → chain_degree weights c < e → IsChain (Contains (leads_of G)) (length weights) c →
-      IsChain (IsMinimal p weights relations) (length weights) c
-  to_minimal c lt h = chain-agrees weights (length weights) (chain_degree weights c) (Contains (leads_of G)) (IsMinimal p weights relations)
+  pub to_minimal : (c : List (List ℕ)) → chain_degree ideal.weights c < e → IsChain (Contains (leads_of G)) (length ideal.weights) c →
+      IsChain (IsMinimal ideal) (length ideal.weights) c
+  to_minimal c lt h = chain-agrees ideal.weights (length ideal.weights) (chain_degree ideal.weights c) (Contains (leads_of G)) (IsMinimal ideal)
       (λ v le m. lead_minimal v m) (λ v le m. minimal_lead v (omega (arith, le, lt)) m) c (omega arith) h
 
   -- chains over the minimal words are chains over the leading words
-  pub from_minimal : (c : List (List ℕ)) → chain_degree weights c < e → IsChain (IsMinimal p weights relations) (length weights) c →
-      IsChain (Contains (leads_of G)) (length weights) c
-  from_minimal c lt h = chain-agrees weights (length weights) (chain_degree weights c) (IsMinimal p weights relations)
+  pub from_minimal : (c : List (List ℕ)) → chain_degree ideal.weights c < e → IsChain (IsMinimal ideal) (length ideal.weights) c →
+      IsChain (Contains (leads_of G)) (length ideal.weights) c
+  from_minimal c lt h = chain-agrees ideal.weights (length ideal.weights) (chain_degree ideal.weights c) (IsMinimal ideal)
       (Contains (leads_of G)) (λ v le m. minimal_lead v (omega (arith, le, lt)) m) (λ v le m. lead_minimal v m) c (omega arith) h
 
 -- up to the degrees of which the reduced elements are listed both have the same chains
 pub has_minimal_chains : HasMinimalChains
-has_minimal_chains p weights relations st e G lower c lt = (
-  to_minimal p weights relations st e G lower c lt,
-  from_minimal p weights relations st e G lower c lt,
+has_minimal_chains ideal st e G lower c lt = (
+  to_minimal ideal st e G lower c lt,
+  from_minimal ideal st e G lower c lt,
 )

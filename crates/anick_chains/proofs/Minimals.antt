@@ -7,7 +7,7 @@ use Rattle.words.specs.Words.{IsFactor}
 use Rattle.free_poly.specs.declared.term.Term.{Term}
 use Rattle.free_poly.proofs.FromWords.{listed}
 use Rattle.free_poly.proofs.Totals.{here}
-use Rattle.ideal_laws.specs.Ideal.{IsMinimal}
+use Rattle.ideal_laws.specs.Ideal.{Ideal, IsMinimal}
 use Rattle.ideal_laws.specs.Laws.{IsSetting}
 use Rattle.ideal_laws.proofs.Factors.{factor_listed, factors, is_minimal, listed_factor}
 use Rattle.ideal_laws.proofs.Lower.{no_reduced_0}
@@ -38,17 +38,17 @@ module _ (T : List ℕ → Type 0) (tips : AreTips T) where
         (λ a m. let h = mate a ((all a).0 m) in (h.one.value, (all h.one.value).1 h.pair, h.one.holds, h.back, h.one_longer))
         (λ a b c m h k. let r = mate a ((all a).0 m) in r.one.only b h ∙ sym (r.one.only c k))
 
-module _ (p : ℕ) (weights : List ℕ) (relations : List (List Term)) (st : IsSetting p weights relations) where
-  no_empty : IsMinimal p weights relations [] → ⊥
-  no_empty m = let g = minimal_led p weights relations st [] m in no_reduced_0 p weights relations st g.0 g.1
+module _ (ideal : Ideal) (st : IsSetting ideal) where
+  no_empty : IsMinimal ideal [] → ⊥
+  no_empty m = let g = minimal_led ideal st [] m in no_reduced_0 ideal st g.0 g.1
 
   differ : (v w : List ℕ) → bytes_eq v w ≡ false → v ≡ w → ⊥
   differ v w f e = let t : bytes_eq v w ≡ true = here v w e in cc
 
   -- the minimal words are tips
-  pub minimal_tips : AreTips (IsMinimal p weights relations)
+  pub minimal_tips : AreTips (IsMinimal ideal)
   minimal_tips = record {
-    decide = is_minimal p weights relations st;
+    decide = is_minimal ideal st;
     apart = λ v w m n i. elim (cases_Bool (bytes_eq v w)) [
       | inl is ↦ (bytes_eq-Decides v w).0 is
       | inr other ↦ absurd (n.none_inside v (record { inside = i; other = differ v w other }) m.leading)
@@ -63,11 +63,11 @@ listed_tips tips some apart = record { decide = listed tips; apart = apart; some
 
 -- each pair over the minimal words has its mate
 pub has_mates : HasMates
-has_mates p weights relations st d pos a h = mate (IsMinimal p weights relations) (minimal_tips p weights relations st) (length weights) weights d pos a h
+has_mates ideal st d pos a h = mate (IsMinimal ideal) (minimal_tips ideal st) (length ideal.weights) ideal.weights d pos a h
 
 -- the pairing law over the minimal words
 pub is_pairing : IsPairing
-is_pairing p weights relations st d pos = even_odd (IsMinimal p weights relations) (minimal_tips p weights relations st) (length weights) weights d pos
+is_pairing ideal st d pos = even_odd (IsMinimal ideal) (minimal_tips ideal st) (length ideal.weights) ideal.weights d pos
 
 -- the pairing law over a list of tips
 pub has_listed_mates : HasListedMates

@@ -2,7 +2,7 @@
 use Rattle.std.specs.Prelude.{ℕ, ◌<◌, ◌↔◌, List, Contains, length, map}
 use Rattle.free_poly.specs.declared.term.Term.{Term}
 use Rattle.free_poly.specs.Poly.{lead_or_none}
-use Rattle.ideal_laws.specs.Ideal.{IsMinimal}
+use Rattle.ideal_laws.specs.Ideal.{Ideal, IsMinimal}
 use Rattle.ideal_laws.specs.Laws.{IsSetting}
 use Rattle.ideal_laws.specs.Overlaps.{AreLower}
 use Rattle.anick_chains.specs.Chains.{IsChain, chain_degree}
@@ -14,7 +14,6 @@ leads_of G = map lead_or_none G
 -- up to the degrees of which the reduced elements are listed, the chains over their leading words are those over the
 -- minimal words
 abbrev pub HasMinimalChains : Type 0
-HasMinimalChains = (p : ℕ) (weights : List ℕ) (relations : List (List Term)) → IsSetting p weights relations
-    → (e : ℕ) (G : List (List Term)) → AreLower p weights relations e G
-    → (c : List (List ℕ)) → chain_degree weights c < e
-    → IsChain (Contains (leads_of G)) (length weights) c ↔ IsChain (IsMinimal p weights relations) (length weights) c
+HasMinimalChains = (ideal : Ideal) → IsSetting ideal → (e : ℕ) (G : List (List Term)) → AreLower ideal e G
+    → (c : List (List ℕ)) → chain_degree ideal.weights c < e
+    → IsChain (Contains (leads_of G)) (length ideal.weights) c ↔ IsChain (IsMinimal ideal) (length ideal.weights) c

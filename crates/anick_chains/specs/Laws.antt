@@ -3,7 +3,7 @@ use Rattle.std.specs.Prelude.{ℕ, ◌≡◌, ◌≢◌, ◌<◌, ◌⊎◌, ◌
 use Rattle.std.specs.Prelude.{Contains, length, count_by}
 use Rattle.words.specs.Words.{IsFactor, IsOver}
 use Rattle.free_poly.specs.declared.term.Term.{Term}
-use Rattle.ideal_laws.specs.Ideal.{IsMinimal}
+use Rattle.ideal_laws.specs.Ideal.{Ideal, IsMinimal}
 use Rattle.ideal_laws.specs.Laws.{IsOne, IsSetting}
 use Rattle.anick_chains.specs.Chains.{HasTip, IsNext}
 use Rattle.anick_chains.specs.Pairs.{IsMate, IsPair, Pair}
@@ -41,14 +41,14 @@ HasEvenOdd T names weights d = (pairs : List Pair) → ((a : Pair) → Contains 
 
 -- over the minimal words of an ideal each pair has a mate
 abbrev pub HasMates : Type 0
-HasMates = (p : ℕ) (weights : List ℕ) (relations : List (List Term)) → IsSetting p weights relations → (d : ℕ) → 0 < d
-    → (a : Pair) → IsPair (IsMinimal p weights relations) (length weights) weights d a
-    → HasMate (IsMinimal p weights relations) (length weights) weights d a
+HasMates = (ideal : Ideal) → IsSetting ideal → (d : ℕ) → 0 < d
+    → (a : Pair) → IsPair (IsMinimal ideal) (length ideal.weights) ideal.weights d a
+    → HasMate (IsMinimal ideal) (length ideal.weights) ideal.weights d a
 
 -- over the minimal words of an ideal the pairs of even and of odd length are as many
 abbrev pub IsPairing : Type 0
-IsPairing = (p : ℕ) (weights : List ℕ) (relations : List (List Term)) → IsSetting p weights relations → (d : ℕ) → 0 < d
-    → HasEvenOdd (IsMinimal p weights relations) (length weights) weights d
+IsPairing = (ideal : Ideal) → IsSetting ideal → (d : ℕ) → 0 < d
+    → HasEvenOdd (IsMinimal ideal) (length ideal.weights) ideal.weights d
 
 -- the same over a list of words of which none is a factor of another, as the tips up to a degree are
 abbrev pub HasListedMates : Type 0

@@ -3,7 +3,7 @@ ghost use Rattle.std.specs.Prelude.{IfOk, IsErrOf, OnOk, length};
 ghost use Rattle.free_poly.specs.declared.term.Term.{Term};
 ghost use Rattle.ideal_laws.specs.Closure.{IsFactorFree};
 ghost use Rattle.ideal_laws.specs.Engine.{IsReducedUpto};
-ghost use Rattle.ideal_laws.specs.Ideal.{IsMinimal};
+ghost use Rattle.ideal_laws.specs.Ideal.{IsMinimal, ideal_over};
 ghost use Rattle.ideal_laws.specs.Laws.{IsSetting};
 ghost use Rattle.lead_index.specs.Leads.{IsIndexOf};
 ghost use Rattle.anick_chains.specs.BasisTips.{leads_of};
@@ -40,9 +40,10 @@ pub fn chain_counts(
 
     // Where the basis is reduced, the tips are the minimal words.
     ensures minimal { IfOk result (λ counts.
-        (p : ℕ) (relations : List (List Term)) → IsSetting p basis.now.weights relations
+        (p : ℕ) (relations : List (List Term)) → IsSetting (ideal_over p basis.now.weights relations)
         → IsReducedUpto p relations basis.now
-        → AreCounts (IsMinimal p basis.now.weights relations) (length basis.now.weights) basis.now.weights bound
+        → AreCounts (IsMinimal (ideal_over p basis.now.weights relations)) (length basis.now.weights) basis.now.weights
+        bound
         counts) }
 
     ensures many { (degree : ℕ) → IsErrOf result (ChainFault.TooMany degree)

@@ -2,6 +2,7 @@
 use Rattle.std.proofs.Common.{◌≡◌, ◌+◌, ℕ, List, [], ◌∷◌, ◌++◌, suc, length, refl, sym, ap, ◌∙◌, arith, append-nil, append_assoc}
 use Rattle.words.specs.Names.{Letters}
 use Rattle.free_poly.specs.declared.term.Term.{Term}
+use Rattle.ideal_laws.specs.Ideal.{ideal_over}
 use Rattle.ideal_laws.specs.Kept.{lead_degree}
 use Rattle.cofactors.specs.declared.certificate.Certificate.{Certificate}
 use Rattle.cofactors.specs.Certificate.{IsCertificate}
@@ -12,7 +13,7 @@ module _ (p : ℕ) (letters : Letters) (relations : List (List Term)) where
   -- the answer to one more question stands behind those to the others
   pub AreAnswers-append : (k : ℕ) (fs : List (List Term)) (text : List ℕ) (f : List Term) (c : Certificate) (n : ℕ) → n ≡ k + length fs →
       AreAnswers p letters relations k fs text
-      → IsCertificate p letters.weights relations (lead_degree letters.weights f) f c →
+      → IsCertificate (ideal_over p letters.weights relations) (lead_degree letters.weights f) f c →
       AreAnswers p letters relations k (fs ++ f ∷ []) (text ++ answer_text letters.names p n c)
   AreAnswers-append k [] text f c n at h is =
       let same : n ≡ k = omega (arith, at) in (

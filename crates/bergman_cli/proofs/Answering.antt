@@ -7,7 +7,7 @@ use Rattle.std.proofs.lemmas.List.{length-take-le, take_all, take_more}
 use Rattle.words.specs.Names.{Letters}
 use Rattle.free_poly.specs.declared.term.Term.{Term}
 use Rattle.bg_io.specs.Ends.{Rose}
-use Rattle.ideal_laws.specs.Ideal.{IsElement}
+use Rattle.ideal_laws.specs.Ideal.{IsElement, ideal_over}
 use Rattle.ideal_laws.specs.Kept.{lead_degree}
 use Rattle.ideal_laws.specs.Laws.{IsRelation, IsSetting}
 use Rattle.cofactors.specs.declared.certificate.Certificate.{Certificate}
@@ -41,10 +41,10 @@ module _ (p : ℕ) (letters : Letters) (relations : List (List Term)) where
   Answers = AreAnswers p letters relations 1
 
   abbrev Answer : List Term → Type 0
-  Answer f = (c : Certificate) × IsCertificate p letters.weights relations (lead_degree letters.weights f) f c
+  Answer f = (c : Certificate) × IsCertificate (ideal_over p letters.weights relations) (lead_degree letters.weights f) f c
 
   -- a question has an answer
-  has_answer : IsSetting p letters.weights relations → HasNormalForm → HasProductList → (f : List Term) → IsRelation p letters.weights f → Answer f
+  has_answer : IsSetting (ideal_over p letters.weights relations) → HasNormalForm → HasProductList → (f : List Term) → IsRelation p letters.weights f → Answer f
   has_answer st forms lists f is =
       let d = lead_degree letters.weights f in
       let element : IsElement p letters.weights d f = record {
@@ -53,8 +53,8 @@ module _ (p : ℕ) (letters : Letters) (relations : List (List Term)) where
         letters = is.letters;
         degree = one_degree p letters.weights f is;
       } in
-      let normal = forms p letters.weights relations st d f element in
-      let products = lists p letters.weights relations st d f normal.value normal.holds in (
+      let normal = forms (ideal_over p letters.weights relations) st d f element in
+      let products = lists (ideal_over p letters.weights relations) st d f normal.value normal.holds in (
         record { normal = normal.value; products = products.0 },
         record { is_normal = normal.holds; are_products = products.1; sum = products.2 },
       )
@@ -71,7 +71,7 @@ module _ (p : ℕ) (letters : Letters) (relations : List (List Term)) where
 
     -- the answer to one more question
     pub one_more : (place : ℕ) (text : List ℕ) (f : List Term) → f ≡ At place → place < length questions → Answers (take place questions) text →
-        (c : Certificate) → IsCertificate p letters.weights relations (lead_degree letters.weights f) f c
+        (c : Certificate) → IsCertificate (ideal_over p letters.weights relations) (lead_degree letters.weights f) f c
         → Answers (take (place + 1) questions) (text ++ answer_text letters.names p (place + 1) c)
     one_more place text f at within answers c is =
         let number : place + 1 ≡ 1 + length (take place questions) = omega (arith, length-take-le place questions (omega (arith, within))) in
@@ -126,7 +126,8 @@ module _ (p : ℕ) (letters : Letters) (relations : List (List Term)) where
           ]
 
     -- the answers to the first questions are the beginning of an outcome, whatever the others are
-    pub begun : IsSetting p letters.weights relations → HasNormalForm → HasProductList → All (IsRelation p letters.weights) questions → (place : ℕ) →
+    pub begun : IsSetting (ideal_over p letters.weights relations) → HasNormalForm → HasProductList → All (IsRelation p letters.weights) questions
+        → (place : ℕ) →
         place ≤ length questions → (text : List ℕ) → NoneBefore place → Answers (take place questions) text → Begins text
     begun st forms lists are place le text none answers =
         goes_on (λ at within. has_answer st forms lists (At at) (are at [] within)) (length questions - place) place text (omega (arith, le)) none answers

@@ -4,7 +4,7 @@ use Rattle.std.specs.List.{Contains}
 use Rattle.std.proofs.lemmas.Bool.{cases_lt}
 use Rattle.std.proofs.lemmas.List.{length-map}
 use Rattle.free_poly.specs.declared.term.Term.{Term}
-use Rattle.ideal_laws.specs.Ideal.{IsMinimal}
+use Rattle.ideal_laws.specs.Ideal.{Ideal, IsMinimal}
 use Rattle.ideal_laws.specs.Laws.{IsSetting}
 use Rattle.ideal_laws.specs.Overlaps.{AreLower}
 use Rattle.anick_chains.specs.declared.chain.Chain.{Chain}
@@ -52,24 +52,23 @@ module _ (T : List ℕ → Type 0) (names : ℕ) (weights : List ℕ) where
     pub few_not_many : (n d : ℕ) → IsNumber T names weights bound n → n ≤ most → IsFirstMany T names weights bound most d → ⊥
     few_not_many n d is few a = absurd (omega (arith, number_grows d bound a.number n a.upto a.is_number is, few, a.many))
 
-module _ (law : HasMinimalChains) (p : ℕ) (weights : List ℕ) (relations : List (List Term)) (st : IsSetting p weights relations) (e : ℕ)
-    (G : List (List Term)) (lower : AreLower p weights relations e G) where
+module _ (law : HasMinimalChains) (ideal : Ideal) (st : IsSetting ideal) (e : ℕ) (G : List (List Term)) (lower : AreLower ideal e G) where
   -- the chains over the leading words of a basis are as many as those over the minimal words
-  pub number_minimal : (d n : ℕ) → d < e → IsNumber (Contains (leads_of G)) (length weights) weights d n →
-      IsNumber (IsMinimal p weights relations) (length weights) weights d n
+  pub number_minimal : (d n : ℕ) → d < e → IsNumber (Contains (leads_of G)) (length ideal.weights) ideal.weights d n →
+      IsNumber (IsMinimal ideal) (length ideal.weights) ideal.weights d n
   number_minimal d n lt h = record {
     chains = h.chains;
     exactly = λ c. (
-      (λ m. let r = (h.exactly c).0 m in ((law p weights relations st e G lower c (omega (arith, lt, r.1))).0 r.0, r.1)),
-      (λ r. (h.exactly c).1 ((law p weights relations st e G lower c (omega (arith, lt, r.1))).1 r.0, r.1)),
+      (λ m. let r = (h.exactly c).0 m in ((law ideal st e G lower c (omega (arith, lt, r.1))).0 r.0, r.1)),
+      (λ r. (h.exactly c).1 ((law ideal st e G lower c (omega (arith, lt, r.1))).1 r.0, r.1)),
     );
     apart = h.apart;
     count = h.count;
   }
 
   -- and so the first degree with too many is the same
-  pub many_minimal : (bound most d : ℕ) → bound < e → IsFirstMany (Contains (leads_of G)) (length weights) weights bound most d →
-      IsFirstMany (IsMinimal p weights relations) (length weights) weights bound most d
+  pub many_minimal : (bound most d : ℕ) → bound < e → IsFirstMany (Contains (leads_of G)) (length ideal.weights) ideal.weights bound most d →
+      IsFirstMany (IsMinimal ideal) (length ideal.weights) ideal.weights bound most d
   many_minimal bound most d lt h = record {
     upto = h.upto;
     number = h.number;

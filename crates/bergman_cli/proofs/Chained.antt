@@ -5,7 +5,7 @@ use Rattle.words.specs.Names.{Letters}
 use Rattle.free_poly.specs.declared.term.Term.{Term}
 use Rattle.ideal_laws.specs.declared.limits.LimitKind.{LimitKind}
 use Rattle.ideal_laws.specs.Engine.{Elements, IsReducedUpto}
-use Rattle.ideal_laws.specs.Ideal.{IsMinimal}
+use Rattle.ideal_laws.specs.Ideal.{IsMinimal, ideal_over}
 use Rattle.ideal_laws.specs.Kept.{IsKept}
 use Rattle.ideal_laws.specs.Laws.{IsSetting}
 use Rattle.ideal_laws.specs.Overlaps.{ListsLower}
@@ -36,7 +36,7 @@ module _ (job : Job) (letters : Letters) (relations : List (List Term)) where
   Tasked = IsTaskStatus (chains_task job letters relations)
 
   abbrev T : List ℕ → Type 0
-  T = IsMinimal job.modulus letters.weights relations
+  T = IsMinimal (ideal_over job.modulus letters.weights relations)
 
   -- the statuses of the command are its own
   pub chains_own : (status : Status) → Due status → IsOwn status
@@ -75,7 +75,7 @@ module _ (job : Job) (letters : Letters) (relations : List (List Term)) where
   chains_writes WriteFault text due h some = absurd due
   chains_writes NoMemory text due h some = absurd due
 
-  module _ (st : IsSetting job.modulus letters.weights relations) where
+  module _ (st : IsSetting (ideal_over job.modulus letters.weights relations)) where
     few_or_many : HasFewChains job letters relations → (d value : ℕ) → HasManyChains job letters relations d value → ⊥
     few_or_many few d value many = few_not_many T (length letters.weights) letters.weights job.bound most_chains few.number d few.is_number few.few many.first
 
@@ -140,48 +140,50 @@ module _ (job : Job) (letters : Letters) (relations : List (List Term)) where
   module _ (limits : List (LimitKind × ℕ)) (same : limits ≡ limits_of job.engine) (p : ℕ) (field : p ≡ job.modulus) where
     -- a limit of the engine
     pub refused_chains : (answer : Answer) (kind : LimitKind) (d value : ℕ) → answer ≡ record { status = Limit kind d value; text = [] } →
-        IsFirstRefused p letters.weights relations limits job.bound kind d value
+        IsFirstRefused (ideal_over p letters.weights relations) limits job.bound kind d value
         → IsChainsOutcome job letters relations answer.status answer.text
     refused_chains answer kind d value is first =
-        let own = subst (λ (m : ℕ). IsFirstRefused m letters.weights relations (limits_of job.engine) job.bound kind d value) field
-        (subst (λ (l : List (LimitKind × ℕ)). IsFirstRefused p letters.weights relations l job.bound kind d value) same first) in
+        let own = subst (λ (m : ℕ). IsFirstRefused (ideal_over m letters.weights relations) (limits_of job.engine) job.bound kind d value) field
+        (subst (λ (l : List (LimitKind × ℕ)). IsFirstRefused (ideal_over p letters.weights relations) l job.bound kind d value) same first) in
         subst (λ (a : Answer). IsChainsOutcome job letters relations a.status a.text) (sym is) ((refused kind d value, own, (refl, refl, refl)), refl)
 
-    own_whole : NonePassesUpto p letters.weights relations limits job.bound → Tasked Done
+    own_whole : NonePassesUpto (ideal_over p letters.weights relations) limits job.bound → Tasked Done
     own_whole none = (
-      subst (λ (m : ℕ). NonePassesUpto m letters.weights relations (limits_of job.engine) job.bound) field
-          (subst (λ (l : List (LimitKind × ℕ)). NonePassesUpto p letters.weights relations l job.bound) same none),
+      subst (λ (m : ℕ). NonePassesUpto (ideal_over m letters.weights relations) (limits_of job.engine) job.bound) field
+          (subst (λ (l : List (LimitKind × ℕ)). NonePassesUpto (ideal_over p letters.weights relations) l job.bound) same none),
       λ shows. let e : false ≡ true = shows in cc e,
     )
 
-    module _ (st : IsSetting p letters.weights relations) (basis : Elements) (weights : basis.weights ≡ letters.weights)
+    module _ (st : IsSetting (ideal_over p letters.weights relations)) (basis : Elements) (weights : basis.weights ≡ letters.weights)
         (kept : IsKept basis) (reduced : IsReducedUpto p relations basis)
-        (done : basis.done ≡ job.bound) (none : NonePassesUpto p letters.weights relations limits job.bound) where
-      own_setting : IsSetting p basis.weights relations
-      own_setting = subst (λ (ws : List ℕ). IsSetting p ws relations) (sym weights) st
+        (done : basis.done ≡ job.bound) (none : NonePassesUpto (ideal_over p letters.weights relations) limits job.bound) where
+      own_setting : IsSetting (ideal_over p basis.weights relations)
+      own_setting = subst (λ (ws : List ℕ). IsSetting (ideal_over p ws relations)) (sym weights) st
 
       -- too many chains
       pub many_chains : HasMinimalChains → ListsLower → (most d value : ℕ) (text : List ℕ) → most ≡ most_chains → value ≡ most + 1 → text ≡ []
           → IsFirstMany (Contains (leads_of basis.elements)) (length basis.weights) basis.weights job.bound most d →
           IsChainsOutcome job letters relations (Chains d value) text
       many_chains law lower most d value text count plus empty first =
-          let lists = lower p basis.weights relations own_setting (basis.done + 1) basis
+          let lists = lower (ideal_over p basis.weights relations) own_setting (basis.done + 1) basis
           (record { kept = kept; next = refl; same_weights = refl; reduced = reduced }) in
-          let minimal = many_minimal law p basis.weights relations own_setting (basis.done + 1) basis.elements lists job.bound most d
+          let minimal = many_minimal law (ideal_over p basis.weights relations) own_setting (basis.done + 1) basis.elements lists job.bound most d
           (omega (arith, done)) first in
-          let own = subst (λ (m : ℕ). IsFirstMany (IsMinimal m letters.weights relations) (length letters.weights) letters.weights job.bound most d) field
-          (subst (λ (ws : List ℕ). IsFirstMany (IsMinimal p ws relations) (length ws) ws job.bound most d) weights minimal) in
+          let own = subst (λ (m : ℕ). IsFirstMany (IsMinimal (ideal_over m letters.weights relations)) (length letters.weights) letters.weights job.bound most
+          d) field
+          (subst (λ (ws : List ℕ). IsFirstMany (IsMinimal (ideal_over p ws relations)) (length ws) ws job.bound most d) weights minimal) in
           let many = subst (λ (n : ℕ). IsFirstMany T (length letters.weights) letters.weights job.bound n d) count own in
           ((own_whole none, record { first = many; kept = plus ∙ ap (λ (n : ℕ). n + 1) count }), empty)
 
       -- the chain text
-      pub told_chains : (text out : List ℕ) → out ≡ text → (IsSetting p basis.weights relations → IsReducedUpto p relations basis
-          → HasChainText (IsMinimal p basis.weights relations) letters job text) → IsChainsOutcome job letters relations Done out
+      pub told_chains : (text out : List ℕ) → out ≡ text → (IsSetting (ideal_over p basis.weights relations) → IsReducedUpto p relations basis
+          → HasChainText (IsMinimal (ideal_over p basis.weights relations)) letters job text) → IsChainsOutcome job letters relations Done out
       told_chains text out is told =
           let h = told own_setting reduced in
           let own : AreListed T (length letters.weights) letters.weights job.bound h.chains =
-          subst (λ (m : ℕ). AreListed (IsMinimal m letters.weights relations) (length letters.weights) letters.weights job.bound h.chains) field
-          (subst (λ (ws : List ℕ). AreListed (IsMinimal p ws relations) (length letters.weights) letters.weights job.bound h.chains) weights h.listed) in
+          subst (λ (m : ℕ). AreListed (IsMinimal (ideal_over m letters.weights relations)) (length letters.weights) letters.weights job.bound h.chains) field
+          (subst (λ (ws : List ℕ). AreListed (IsMinimal (ideal_over p ws relations)) (length letters.weights) letters.weights job.bound h.chains) weights
+          h.listed) in
           let few : HasFewChains job letters relations = record {
             number = length h.chains;
             is_number = listed_number T (length letters.weights) letters.weights job.bound h.chains own;

@@ -4,6 +4,7 @@ use Rattle.std.specs.declared.option.Option.{Option}
 use Rattle.std.specs.declared.option.Option.TheVariants.{Some}
 use Rattle.words.specs.Names.{Letters}
 use Rattle.free_poly.specs.declared.term.Term.{Term}
+use Rattle.ideal_laws.specs.Ideal.{ideal_over}
 use Rattle.ideal_laws.specs.Laws.{IsSetting}
 use Rattle.relation_reader.specs.declared.fault.InputFault.{InputFault}
 use Rattle.relation_reader.specs.Meaning.{FirstFault, HasOneReading, Reads}
@@ -73,7 +74,7 @@ module _ (job : Job) (law : HasOneReading) (some : 0 < job.modulus) (left now : 
     due_of letters relations same = subst (λ (ls : Letters). IsDue job ls relations own) same.0
         (subst (λ (rs : List (List Term)). IsDue job due.letters rs own) same.1 due.due)
 
-    worked : (status : Status) (letters : Letters) (relations : List (List Term)) → IsSetting job.modulus letters.weights relations →
+    worked : (status : Status) (letters : Letters) (relations : List (List Term)) → IsSetting (ideal_over job.modulus letters.weights relations) →
         IsDue job letters relations own → IsWorkEnd job letters relations held more room before after status → Comes own status
     worked status letters relations st is end = by_status status end
       where

@@ -3,6 +3,7 @@ use Rattle.std.proofs.Common.{◌≡◌, ◌+◌, ℕ, List, [], length, refl, s
 use Rattle.std.specs.Prelude.{slice_index}
 use Rattle.words.specs.Names.{Letters}
 use Rattle.free_poly.specs.declared.term.Term.{Term}
+use Rattle.ideal_laws.specs.Ideal.{ideal_over}
 use Rattle.ideal_laws.specs.declared.limits.LimitKind.{LimitKind}
 use Rattle.ideal_laws.specs.declared.limits.LimitKind.TheVariants.{NormalWords}
 use Rattle.ideal_laws.specs.Dimension.{IsHilbertCoefficient}
@@ -33,22 +34,22 @@ module _ (job : Job) (letters : Letters) (relations : List (List Term)) where
   module _ (limits : List (LimitKind × ℕ)) (same : limits ≡ limits_of job.engine) (p : ℕ) (field : p ≡ job.modulus) where
     -- a limit of the engine
     pub refused_outcome : (answer : Answer) (kind : LimitKind) (d value : ℕ) → answer ≡ record { status = Limit kind d value; text = [] } →
-        IsFirstRefused p letters.weights relations limits job.bound kind d value
+        IsFirstRefused (ideal_over p letters.weights relations) limits job.bound kind d value
         → IsMakeOutcome job letters relations answer.status answer.text
     refused_outcome answer kind d value is first =
-        let own = subst (λ (m : ℕ). IsFirstRefused m letters.weights relations (limits_of job.engine) job.bound kind d value) field
-        (subst (λ (l : List (LimitKind × ℕ)). IsFirstRefused p letters.weights relations l job.bound kind d value) same first) in
+        let own = subst (λ (m : ℕ). IsFirstRefused (ideal_over m letters.weights relations) (limits_of job.engine) job.bound kind d value) field
+        (subst (λ (l : List (LimitKind × ℕ)). IsFirstRefused (ideal_over p letters.weights relations) l job.bound kind d value) same first) in
         made_limit answer kind d value is (refused kind d value, own, (refl, refl, refl))
 
-    own_none : NonePassesUpto p letters.weights relations limits job.bound →
-        NonePassesUpto job.modulus letters.weights relations (limits_of job.engine) job.bound
+    own_none : NonePassesUpto (ideal_over p letters.weights relations) limits job.bound →
+        NonePassesUpto (ideal_over job.modulus letters.weights relations) (limits_of job.engine) job.bound
     own_none none =
-        subst (λ (m : ℕ). NonePassesUpto m letters.weights relations (limits_of job.engine) job.bound) field
-        (subst (λ (l : List (LimitKind × ℕ)). NonePassesUpto p letters.weights relations l job.bound) same none)
+        subst (λ (m : ℕ). NonePassesUpto (ideal_over m letters.weights relations) (limits_of job.engine) job.bound) field
+        (subst (λ (l : List (LimitKind × ℕ)). NonePassesUpto (ideal_over p letters.weights relations) l job.bound) same none)
 
-    module _ (law : CountsCoefficients) (st : IsSetting p letters.weights relations) (basis : Elements)
+    module _ (law : CountsCoefficients) (st : IsSetting (ideal_over p letters.weights relations)) (basis : Elements)
         (weights : basis.weights ≡ letters.weights) (kept : IsKept basis) (reduced : IsReducedUpto p relations basis)
-        (done : basis.done ≡ job.bound) (none : NonePassesUpto p letters.weights relations limits job.bound) where
+        (done : basis.done ≡ job.bound) (none : NonePassesUpto (ideal_over p letters.weights relations) limits job.bound) where
       -- too many normal words
       pub crowded_outcome : (answer : Answer) (d value : ℕ) (below : List ℕ) →
           answer ≡ record { status = Limit NormalWords d value; text = [] } →
@@ -80,8 +81,8 @@ module _ (job : Job) (letters : Letters) (relations : List (List Term)) where
               reduced = subst (λ (m : ℕ). IsReducedUpto m relations basis) field reduced;
             };
             coefficient = last;
-            is_coefficient = subst (λ (n : ℕ). IsHilbertCoefficient job.modulus letters.weights relations job.bound n) (sym at)
-                (subst (λ (m : ℕ). IsHilbertCoefficient m letters.weights relations job.bound (slice_index numbers job.bound)) field
+            is_coefficient = subst (λ (n : ℕ). IsHilbertCoefficient (ideal_over job.modulus letters.weights relations) job.bound n) (sym at)
+                (subst (λ (m : ℕ). IsHilbertCoefficient (ideal_over m letters.weights relations) job.bound (slice_index numbers job.bound)) field
                 number);
             printed = printed;
           } in

@@ -1,5 +1,6 @@
 -- What module answers is an outcome of its job.
 use Rattle.std.proofs.Common.{◌≡◌, ◌⊎◌, ◌<◌, ◌≤◌, ℕ, List, [], All, get_or, length, refl, sym, arith, subst, inl, inr}
+use Rattle.ideal_laws.specs.Ideal.{ideal_of, ideal_over}
 use Rattle.ideal_laws.specs.declared.limits.LimitKind.{LimitKind}
 use Rattle.ideal_laws.specs.declared.limits.LimitKind.TheVariants.{NormalWords}
 use Rattle.ideal_laws.specs.declared.presentation.Presentation.{Presentation}
@@ -32,7 +33,7 @@ module _ (job : Job) (given : Presentation) (answer : Answer) where
 
   module _ (names : job.gens ≤ length given.alphabet.weights) (shaped : AreShaped given job.gens) (limits : List (LimitKind × ℕ))
       (same : limits ≡ limits_of job.engine) (p : ℕ) (field : p ≡ job.modulus)
-      (st : IsSetting p given.alphabet.weights given.relations) (limit : ℕ) (standard : limit ≡ standard_limits.normal_words) where
+      (st : IsSetting (ideal_of p given)) (limit : ℕ) (standard : limit ≡ standard_limits.normal_words) where
     abbrev weights : List ℕ
     weights = given.alphabet.weights
 
@@ -42,16 +43,19 @@ module _ (job : Job) (given : Presentation) (answer : Answer) where
     abbrev most : ℕ
     most = standard_limits.normal_words
 
-    own_none : NonePassesUpto p weights given.relations limits job.bound → NonePassesUpto job.modulus weights given.relations (limits_of job.engine) job.bound
+    own_none : NonePassesUpto (ideal_over p weights given.relations) limits job.bound
+        → NonePassesUpto (ideal_over job.modulus weights given.relations) (limits_of job.engine) job.bound
     own_none none =
-        subst (λ (q : ℕ). NonePassesUpto q weights given.relations (limits_of job.engine) job.bound) field
-        (subst (λ (l : List (LimitKind × ℕ)). NonePassesUpto p weights given.relations l job.bound) same none)
+        subst (λ (q : ℕ). NonePassesUpto (ideal_over q weights given.relations) (limits_of job.engine) job.bound) field
+        (subst (λ (l : List (LimitKind × ℕ)). NonePassesUpto (ideal_over p weights given.relations) l job.bound) same none)
 
     -- the module words that are no leading words are counted by the coefficient
-    counted : (d : ℕ) (words : List (List ℕ)) → AreModuleOutside p given job.gens d words → IsModuleCoefficient p weights free given.relations d (length words)
-    counted d words outside = (counts_module p weights free given.relations (record { setting = st; shaped = shaped }) d words outside (length words)).1 refl
+    counted : (d : ℕ) (words : List (List ℕ)) → AreModuleOutside p given job.gens d words
+        → IsModuleCoefficient (ideal_over p weights given.relations) free d (length words)
+    counted d words outside = (counts_module (ideal_over p weights given.relations) free (record { setting = st; shaped = shaped }) d words outside
+        (length words)).1 refl
 
-    large : (d value : ℕ) → IsFirstLarge p given job.gens most job.bound d value → IsFirstLargeModule p weights free given.relations most d value
+    large : (d value : ℕ) → IsFirstLarge p given job.gens most job.bound d value → IsFirstLargeModule (ideal_over p weights given.relations) free most d value
     large d value h = record {
       before = λ e lt. let b = h.before e lt in (length b.0, counted e b.0 b.1, b.2);
       coefficient = length h.words;
@@ -60,34 +64,36 @@ module _ (job : Job) (given : Presentation) (answer : Answer) where
       kept = h.kept;
     }
 
-    own_limit : (kind : LimitKind) (d value : ℕ)
-        → IsFirstRefused p weights given.relations limits job.bound kind d value
-        ⊎ (NonePassesUpto p weights given.relations limits job.bound × (kind ≡ NormalWords) × IsFirstLarge p given job.gens limit job.bound d value)
-        → IsFirstRefused job.modulus weights given.relations (limits_of job.engine) job.bound kind d value
+    own_limit : (kind : LimitKind) (d value : ℕ) → IsFirstRefused (ideal_over p weights given.relations) limits job.bound kind d value
+        ⊎ (NonePassesUpto (ideal_over p weights given.relations) limits job.bound × (kind ≡ NormalWords)
+        × IsFirstLarge p given job.gens limit job.bound d value)
+        → IsFirstRefused (ideal_over job.modulus weights given.relations) (limits_of job.engine) job.bound kind d value
         ⊎ ((kind ≡ NormalWords) × IsCrowded job given.alphabet given.relations d value)
     own_limit kind d value (inl h) =
-        inl (subst (λ (q : ℕ). IsFirstRefused q weights given.relations (limits_of job.engine) job.bound kind d value) field
-        (subst (λ (l : List (LimitKind × ℕ)). IsFirstRefused p weights given.relations l job.bound kind d value) same h))
+        inl (subst (λ (q : ℕ). IsFirstRefused (ideal_over q weights given.relations) (limits_of job.engine) job.bound kind d value) field
+        (subst (λ (l : List (LimitKind × ℕ)). IsFirstRefused (ideal_over p weights given.relations) l job.bound kind d value) same h))
     own_limit kind d value (inr h) =
         inr (
           h.1,
           (
             own_none h.0,
             h.2.upto,
-            subst (λ (q : ℕ). IsFirstLargeModule q weights free given.relations most d value) field
+            subst (λ (q : ℕ). IsFirstLargeModule (ideal_over q weights given.relations) free most d value) field
                 (large d value (subst (λ (n : ℕ). IsFirstLarge p given job.gens n job.bound d value) standard h.2)),
           ),
         )
 
     -- a limit of the engine, or of the normal module words
     pub limit_outcome : (kind : LimitKind) (d value : ℕ) → answer ≡ record { status = Limit kind d value; text = [] }
-        → IsFirstRefused p weights given.relations limits job.bound kind d value
-        ⊎ (NonePassesUpto p weights given.relations limits job.bound × (kind ≡ NormalWords) × IsFirstLarge p given job.gens limit job.bound d value)
+        → IsFirstRefused (ideal_over p weights given.relations) limits job.bound kind d value
+        ⊎ (NonePassesUpto (ideal_over p weights given.relations) limits job.bound × (kind ≡ NormalWords)
+        × IsFirstLarge p given job.gens limit job.bound d value)
         → Outcome answer
     limit_outcome kind d value is h = subst Outcome (sym is) (((names, shaped), own_limit kind d value h), refl)
 
     -- the whole module
-    pub whole_outcome : (text numbers : List ℕ) → answer ≡ record { status = Done; text = text } → NonePassesUpto p weights given.relations limits job.bound
+    pub whole_outcome : (text numbers : List ℕ) → answer ≡ record { status = Done; text = text }
+        → NonePassesUpto (ideal_over p weights given.relations) limits job.bound
         → AreModuleNumbers p given job.gens job.bound numbers → All (λ n. n ≤ limit) numbers →
         IsModuleText job given.alphabet given.relations text → Outcome answer
     whole_outcome text numbers is none are few printed =

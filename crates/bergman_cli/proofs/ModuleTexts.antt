@@ -5,7 +5,7 @@ use Rattle.words.proofs.Members.{All-from_members}
 use Rattle.free_poly.specs.declared.term.Term.{Term}
 use Rattle.free_poly.specs.Poly.{IsMonic}
 use Rattle.ideal_laws.specs.declared.presentation.Presentation.{Presentation}
-use Rattle.ideal_laws.specs.Ideal.{IsElement}
+use Rattle.ideal_laws.specs.Ideal.{IsElement, ideal_of}
 use Rattle.poly_writer.specs.Texts.{basis_text, degree_text, degree_texts}
 use Rattle.right_modules.specs.declared.module.ModuleDegree.{ModuleDegree}
 use Rattle.right_modules.specs.Answered.{AreModuleDegrees, AreModuleNumbers, IsModuleBasisOf, free_letters}
@@ -69,7 +69,7 @@ module _ (job : Job) (given : Presentation) (p : ℕ) (field : p ≡ job.modulus
   BasisText q = IsModuleBasisText q given.alphabet free given.relations job.bound
 
   abbrev SeriesText : List ℕ → Type 0
-  SeriesText = IsModuleSeriesText job.modulus given.alphabet.weights free given.relations job.bound
+  SeriesText = IsModuleSeriesText (ideal_of job.modulus given) free job.bound
 
   own_basis : (text : List ℕ) → BasisText p text → BasisText job.modulus text
   own_basis text h = subst (λ (q : ℕ). BasisText q text) field h

@@ -4,6 +4,7 @@ use Rattle.std.proofs.lemmas.Bool.{cases_lt, false≢true}
 use Rattle.std.proofs.lemmas.List.{get_or-take, length-take}
 use Rattle.words.specs.Names.{Letters}
 use Rattle.free_poly.specs.declared.term.Term.{Term}
+use Rattle.ideal_laws.specs.Ideal.{ideal_over}
 use Rattle.ideal_laws.specs.declared.limits.LimitKind.{LimitKind}
 use Rattle.ideal_laws.specs.Laws.{IsSetting}
 use Rattle.ideal_laws.specs.Limits.{standard_limits}
@@ -51,7 +52,7 @@ module _ (job : Job) (letters : Letters) (relations : List (List Term)) where
   abbrev Due : Status → Type 0
   Due = IsModuleStatus job letters relations
 
-  module _ (st : IsSetting job.modulus letters.weights relations) where
+  module _ (st : IsSetting (ideal_over job.modulus letters.weights relations)) where
     abbrev free : ℕ
     free = free_of job letters
 
@@ -78,20 +79,20 @@ module _ (job : Job) (letters : Letters) (relations : List (List Term)) where
     whole_task none = (none, λ e. absurd (false≢true e))
 
     -- a degree has one module coefficient
-    one_coefficient : Shaped → (d m n : ℕ) → IsModuleCoefficient job.modulus letters.weights free relations d m →
-        IsModuleCoefficient job.modulus letters.weights free relations d n → m ≡ n
+    one_coefficient : Shaped → (d m n : ℕ) → IsModuleCoefficient (ideal_over job.modulus letters.weights relations) free d m →
+        IsModuleCoefficient (ideal_over job.modulus letters.weights relations) free d n → m ≡ n
     one_coefficient shaped d m n a b =
-        let ms : IsModuleSetting job.modulus letters.weights free relations = record { setting = st; shaped = shaped } in
-        let has = dimension_of_products job.modulus letters.weights free relations ms d in
-        let one = (has.dimension a.dimension).0 (dimension_to_ideal job.modulus letters.weights free relations ms d a.dimension a.is_dimension) in
-        let two = (has.dimension b.dimension).0 (dimension_to_ideal job.modulus letters.weights free relations ms d b.dimension b.is_dimension) in
+        let ms : IsModuleSetting (ideal_over job.modulus letters.weights relations) free = record { setting = st; shaped = shaped } in
+        let has = dimension_of_products (ideal_over job.modulus letters.weights relations) free ms d in
+        let one = (has.dimension a.dimension).0 (dimension_to_ideal (ideal_over job.modulus letters.weights relations) free ms d a.dimension a.is_dimension) in
+        let two = (has.dimension b.dimension).0 (dimension_to_ideal (ideal_over job.modulus letters.weights relations) free ms d b.dimension b.is_dimension) in
         omega (arith, a.rest, b.rest, one, two)
 
     abbrev Few : ℕ → Type 0
-    Few d = AreFewBelow job.modulus letters.weights free relations most d
+    Few d = AreFewBelow (ideal_over job.modulus letters.weights relations) free most d
 
     abbrev Large : ℕ → ℕ → Type 0
-    Large d value = IsFirstLargeModule job.modulus letters.weights free relations most d value
+    Large d value = IsFirstLargeModule (ideal_over job.modulus letters.weights relations) free most d value
 
     few_not_large : Shaped → (n d v : ℕ) → Few n → Large d v → d < n → ⊥
     few_not_large shaped n d v few h lt =
@@ -108,7 +109,7 @@ module _ (job : Job) (letters : Letters) (relations : List (List Term)) where
     ]
 
     abbrev Refused : LimitKind → ℕ → ℕ → Type 0
-    Refused kind d value = IsFirstRefused job.modulus letters.weights relations (limits_of job.engine) job.bound kind d value
+    Refused kind d value = IsFirstRefused (ideal_over job.modulus letters.weights relations) (limits_of job.engine) job.bound kind d value
 
     none_or_refused : PassesNoLimit job letters relations → (k : LimitKind) (d v : ℕ) → Refused k d v → ⊥
     none_or_refused none k d v h = whole_is_not_stopped task st (whole_task none) (refused k d v) k d v h (refl, refl, refl)

@@ -4,6 +4,7 @@ use Rattle.std.proofs.lemmas.List.{take_all}
 use Rattle.std.proofs.lemmas.List.Elements.{All-drop, All-take}
 use Rattle.words.specs.Names.{Letters}
 use Rattle.free_poly.specs.declared.term.Term.{Term}
+use Rattle.ideal_laws.specs.Ideal.{ideal_over}
 use Rattle.ideal_laws.specs.declared.limits.LimitKind.{LimitKind}
 use Rattle.ideal_laws.specs.Quantities.{IsFirstRefused, NonePassesUpto}
 use Rattle.command_words.specs.declared.job.Job.{Job}
@@ -13,7 +14,7 @@ use Rattle.job_steps.specs.declared.status.Status.TheVariants.{Done, Input, Limi
 use Rattle.job_steps.specs.Progress.{refused}
 use Rattle.job_steps.specs.Statuses.{IsTaskStatus}
 use Rattle.bergman_cli.specs.Engines.{limits_of}
-use Rattle.bergman_cli.specs.Normal.{IsAbove, IsAnsweredBy, IsAskable, IsFirstPlace, IsNormalOutcome, above, answered, ideal_of, ideal_size}
+use Rattle.bergman_cli.specs.Normal.{IsAbove, IsAnsweredBy, IsAskable, IsFirstPlace, IsNormalOutcome, above, answered, defining_relations, ideal_size}
 use Rattle.bergman_cli.specs.Normal.{normal_task, questions_of, stopped, too_few, too_many}
 
 -- what holds of all relations holds of a part of them
@@ -38,40 +39,40 @@ module _ (job : Job) (letters : Letters) (relations : List (List Term)) where
   above_outcome n place number enough first = (above place, (enough, first), ap (λ (m : ℕ). Input (AboveBound m)) number, refl)
 
   module _ (askable : IsAskable job letters relations) (limits : List (LimitKind × ℕ)) (same : limits ≡ limits_of job.engine) (p : ℕ) (field : p ≡ job.modulus)
-      (alphabet : Letters) (names : alphabet ≡ letters) (ideal : List (List Term)) (part : ideal ≡ ideal_of job relations) where
+      (alphabet : Letters) (names : alphabet ≡ letters) (defining : List (List Term)) (part : defining ≡ defining_relations job relations) where
     -- a limit of the engine
-    pub stopped_outcome : (kind : LimitKind) (d value : ℕ) → IsFirstRefused p alphabet.weights ideal limits job.bound kind d value →
+    pub stopped_outcome : (kind : LimitKind) (d value : ℕ) → IsFirstRefused (ideal_over p alphabet.weights defining) limits job.bound kind d value →
         IsNormalOutcome job letters relations (Limit kind d value) []
     stopped_outcome kind d value first =
-        let own : IsFirstRefused job.modulus letters.weights (ideal_of job relations) (limits_of job.engine) job.bound kind d value =
-        subst (λ (rs : List (List Term)). IsFirstRefused job.modulus letters.weights rs (limits_of job.engine) job.bound kind d value)
+        let own : IsFirstRefused (ideal_over job.modulus letters.weights (defining_relations job relations)) (limits_of job.engine) job.bound kind d value =
+        subst (λ (rs : List (List Term)). IsFirstRefused (ideal_over job.modulus letters.weights rs) (limits_of job.engine) job.bound kind d value)
         part
-        (subst (λ (l : Letters). IsFirstRefused job.modulus l.weights ideal (limits_of job.engine) job.bound kind d value) names
-        (subst (λ (m : ℕ). IsFirstRefused m alphabet.weights ideal (limits_of job.engine) job.bound kind d value) field
-        (subst (λ (l : List (LimitKind × ℕ)). IsFirstRefused p alphabet.weights ideal l job.bound kind d value) same first))) in
+        (subst (λ (l : Letters). IsFirstRefused (ideal_over job.modulus l.weights defining) (limits_of job.engine) job.bound kind d value) names
+        (subst (λ (m : ℕ). IsFirstRefused (ideal_over m alphabet.weights defining) (limits_of job.engine) job.bound kind d value) field
+        (subst (λ (l : List (LimitKind × ℕ)). IsFirstRefused (ideal_over p alphabet.weights defining) l job.bound kind d value) same first))) in
         (stopped kind d value, (askable, (refused kind d value, own, (refl, refl, refl))), refl, refl)
 
-    computed : NonePassesUpto p alphabet.weights ideal limits job.bound → IsTaskStatus (normal_task job letters relations) Done
+    computed : NonePassesUpto (ideal_over p alphabet.weights defining) limits job.bound → IsTaskStatus (normal_task job letters relations) Done
     computed none =
-        let own : NonePassesUpto job.modulus letters.weights (ideal_of job relations) (limits_of job.engine) job.bound =
-        subst (λ (rs : List (List Term)). NonePassesUpto job.modulus letters.weights rs (limits_of job.engine) job.bound) part
-        (subst (λ (l : Letters). NonePassesUpto job.modulus l.weights ideal (limits_of job.engine) job.bound) names
-        (subst (λ (m : ℕ). NonePassesUpto m alphabet.weights ideal (limits_of job.engine) job.bound) field
-        (subst (λ (l : List (LimitKind × ℕ)). NonePassesUpto p alphabet.weights ideal l job.bound) same none))) in
+        let own : NonePassesUpto (ideal_over job.modulus letters.weights (defining_relations job relations)) (limits_of job.engine) job.bound =
+        subst (λ (rs : List (List Term)). NonePassesUpto (ideal_over job.modulus letters.weights rs) (limits_of job.engine) job.bound) part
+        (subst (λ (l : Letters). NonePassesUpto (ideal_over job.modulus l.weights defining) (limits_of job.engine) job.bound) names
+        (subst (λ (m : ℕ). NonePassesUpto (ideal_over m alphabet.weights defining) (limits_of job.engine) job.bound) field
+        (subst (λ (l : List (LimitKind × ℕ)). NonePassesUpto (ideal_over p alphabet.weights defining) l job.bound) same none))) in
         (own, λ shown. absurd (let never : ⊥ = cc in never))
 
-    by_kind : NonePassesUpto p alphabet.weights ideal limits job.bound → (status : Status) (text : List ℕ) →
-        IsAnsweredBy job.modulus letters (ideal_of job relations) (questions_of job relations) status text →
+    by_kind : NonePassesUpto (ideal_over p alphabet.weights defining) limits job.bound → (status : Status) (text : List ℕ) →
+        IsAnsweredBy job.modulus letters (defining_relations job relations) (questions_of job relations) status text →
         IsNormalOutcome job letters relations status text
     by_kind none status text (inl many) = (too_many many.0, ((askable, computed none), many.1), many.2, many.3)
     by_kind none status text (inr all) = (answered, ((askable, computed none), all.0), all.1, all.2)
 
     -- the questions are answered, or those before one with too many triples
-    pub answered_outcome : NonePassesUpto p alphabet.weights ideal limits job.bound → (questions : List (List Term)) →
-        questions ≡ questions_of job relations → (status : Status) (text : List ℕ) → IsAnsweredBy p alphabet ideal questions status text →
+    pub answered_outcome : NonePassesUpto (ideal_over p alphabet.weights defining) limits job.bound → (questions : List (List Term)) →
+        questions ≡ questions_of job relations → (status : Status) (text : List ℕ) → IsAnsweredBy p alphabet defining questions status text →
         IsNormalOutcome job letters relations status text
     answered_outcome none questions asked status text h = by_kind none status text
-        (subst (λ (fs : List (List Term)). IsAnsweredBy job.modulus letters (ideal_of job relations) fs status text) asked
+        (subst (λ (fs : List (List Term)). IsAnsweredBy job.modulus letters (defining_relations job relations) fs status text) asked
         (subst (λ (rs : List (List Term)). IsAnsweredBy job.modulus letters rs questions status text) part
-        (subst (λ (l : Letters). IsAnsweredBy job.modulus l ideal questions status text) names
-        (subst (λ (m : ℕ). IsAnsweredBy m alphabet ideal questions status text) field h))))
+        (subst (λ (l : Letters). IsAnsweredBy job.modulus l defining questions status text) names
+        (subst (λ (m : ℕ). IsAnsweredBy m alphabet defining questions status text) field h))))

@@ -4,6 +4,7 @@ use Rattle.std.proofs.lemmas.Bool.{cases_lt}
 use Rattle.std.proofs.lemmas.List.Elements.{All-take}
 use Rattle.words.specs.Names.{Letters}
 use Rattle.free_poly.specs.declared.term.Term.{Term}
+use Rattle.ideal_laws.specs.Ideal.{ideal_over}
 use Rattle.ideal_laws.specs.declared.limits.LimitKind.{LimitKind}
 use Rattle.ideal_laws.specs.Laws.{IsRelation, IsSetting}
 use Rattle.command_words.specs.declared.job.Command.TheVariants.{Normal}
@@ -38,7 +39,8 @@ done_is_no_limit kind d value e = cc
 
 module _ (job : Job) (letters : Letters) (relations : List (List Term)) where
   -- some of the relations are a setting too
-  pub part_setting : (n : ℕ) → IsSetting job.modulus letters.weights relations → IsSetting job.modulus letters.weights (take n relations)
+  pub part_setting : (n : ℕ) → IsSetting (ideal_over job.modulus letters.weights relations)
+      → IsSetting (ideal_over job.modulus letters.weights (take n relations))
   part_setting n st = record {
     modulus = st.modulus;
     are_weights = st.are_weights;
@@ -54,7 +56,7 @@ module _ (job : Job) (letters : Letters) (relations : List (List Term)) where
   abbrev Computes : Status → Type 0
   Computes = IsTaskStatus (normal_task job letters relations)
 
-  module _ (st : IsSetting job.modulus letters.weights relations) where
+  module _ (st : IsSetting (ideal_over job.modulus letters.weights relations)) where
     one_computed : (s t : Status) → Computes s → Computes t → s ≡ t
     one_computed s t a b = one_task_status (normal_task job letters relations) (part_setting (ideal_size job relations) st) s t a b
 

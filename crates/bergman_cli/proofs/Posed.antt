@@ -3,6 +3,7 @@ use Rattle.std.proofs.Common.{◌≤◌, ℕ, List, refl, arith}
 use Rattle.std.specs.List.{Contains}
 use Rattle.words.specs.Names.{IsAlphabet, Letters}
 use Rattle.free_poly.specs.declared.term.Term.{Term}
+use Rattle.ideal_laws.specs.Ideal.{ideal_over}
 use Rattle.ideal_laws.specs.declared.limits.LimitKind.{LimitKind}
 use Rattle.ideal_laws.specs.declared.limits.LimitKind.TheVariants.{PlainWords, Terms}
 use Rattle.ideal_laws.specs.Laws.{IsSetting}
@@ -21,7 +22,7 @@ bounding Seq = ((Terms, 16777216), (4, omega arith, refl), omega arith)
 bounding Plain = ((PlainWords, 4096), (0, omega arith, refl), omega arith)
 
 pub gb_posed : (job : Job) (letters : Letters) (relations : List (List Term)) → job.bound ≤ 64 → IsAlphabet letters →
-    IsSetting job.modulus letters.weights relations → IsPosed (gb_task job letters relations)
+    IsSetting (ideal_over job.modulus letters.weights relations) → IsPosed (gb_task job letters relations)
 gb_posed job letters relations degrees alphabet st =
     let b = bounding job.engine in
     record {

@@ -1,6 +1,7 @@
 -- The accounts of the machine of claims, on one thread or in a race, can be told.
 use Rattle.std.proofs.Common.{◌≡◌, ◌≤◌, ℕ, List, All, length, sym, subst}
 use Rattle.words.specs.Words.{IsOver}
+use Rattle.ideal_laws.specs.Ideal.{ideal_of}
 use Rattle.ideal_laws.specs.declared.limits.LimitKind.{LimitKind}
 use Rattle.ideal_laws.specs.declared.presentation.Presentation.{Presentation}
 use Rattle.ideal_laws.specs.Overlaps.{ListsLower}
@@ -15,21 +16,21 @@ use Rattle.job_steps.specs.Traces.{Accounts, ArePrintable}
 
 abbrev run_accounts : ℕ → Accounts
 run_accounts workers p given below d account =
-    IsRunAccount workers p given.alphabet.weights given.relations below.elements d account
+    IsRunAccount workers (ideal_of p given) below.elements d account
 
 abbrev core_accounts : ℕ → ℕ → Accounts
 core_accounts workers schedule p given below d account =
-    IsCoreAccount workers schedule p given.alphabet.weights given.relations below.elements d account
+    IsCoreAccount workers schedule (ideal_of p given) below.elements d account
 
 module _ (tell : RunAccountsTell) (list : ListsLower) where
   -- the columns of an ended run are words over the letters, and its calls are on them
   run_printable : (workers : ℕ) → 1 ≤ workers → workers ≤ 64 → (p : ℕ) (given : Presentation) → ArePrintable (run_accounts workers) p given
   run_printable workers some few p given below d elements account small setting is_below reduced may =
       let weights = given.alphabet.weights in
-      let lower = list p weights given.relations setting d below is_below in
-      let tells = tell workers p weights given.relations setting some few d below.elements lower account may elements reduced in
+      let lower = list (ideal_of p given) setting d below is_below in
+      let tells = tell workers (ideal_of p given) setting some few d below.elements lower account may elements reduced in
       let closed = tells.0.are_closed in
-      let words = column_words p weights given.relations setting d below.elements lower tells.0.rows closed.are_rows tells.0.columns
+      let words = column_words (ideal_of p given) setting d below.elements lower tells.0.rows closed.are_rows tells.0.columns
       closed.are_columns tells.0.reducers closed.are_reducers small in
       record { words = subst (All (IsOver (length weights))) (sym tells.0.contested) words.letters; calls = tells.1.columns }
 
@@ -40,9 +41,9 @@ module _ (tell : RunAccountsTell) (list : ListsLower) where
     same_limits = same;
     accounts = λ _ p given below d account setting is_below may.
         let own = subst (λ (w : ℕ). run_accounts w p given below d account) same_workers may in
-        let lower = list p given.alphabet.weights given.relations setting d below is_below in
+        let lower = list (ideal_of p given) setting d below is_below in
         let history : TellsHistory job.workers p given below d account =
-        λ elements reduced. tell job.workers p given.alphabet.weights given.relations setting some few d below.elements lower account own elements reduced in
+        λ elements reduced. tell job.workers (ideal_of p given) setting some few d below.elements lower account own elements reduced in
         subst (λ (e : EngineKind). accounts_in e job.workers job.schedule p given below d account) (sym is) (own, history);
     printable = λ _ p given. run_printable workers (subst (λ (w : ℕ). 1 ≤ w) (sym same_workers) some)
         (subst (λ (w : ℕ). w ≤ 64) (sym same_workers) few) p given;
@@ -60,9 +61,9 @@ module _ (tell : RunAccountsTell) (list : ListsLower) where
     accounts = λ _ p given below d account setting is_below may.
         let own = subst (λ (s : ℕ). core_accounts job.workers s p given below d account) same_schedule
         (subst (λ (w : ℕ). core_accounts w schedule p given below d account) same_workers may) in
-        let lower = list p given.alphabet.weights given.relations setting d below is_below in
+        let lower = list (ideal_of p given) setting d below is_below in
         let history : TellsHistory job.workers p given below d account =
-        λ elements reduced. tell job.workers p given.alphabet.weights given.relations setting some few d below.elements lower account
+        λ elements reduced. tell job.workers (ideal_of p given) setting some few d below.elements lower account
         own.run elements reduced in
         subst (λ (e : EngineKind). accounts_in e job.workers job.schedule p given below d account) (sym is) (own, history);
     printable = λ _ p given. core_printable workers schedule (subst (λ (w : ℕ). 1 ≤ w) (sym same_workers) some)

@@ -3,6 +3,7 @@ use Rattle.std.proofs.Common.{◌≡◌, ◌≢◌, ◌+◌, ℕ, Bool, true, fa
 use Rattle.std.specs.declared.option.Option.{Option}
 use Rattle.words.specs.Names.{IsAlphabet, Letters}
 use Rattle.free_poly.specs.declared.term.Term.{Term}
+use Rattle.ideal_laws.specs.Ideal.{ideal_of, ideal_over}
 use Rattle.ideal_laws.specs.declared.account.Account.{Account}
 use Rattle.ideal_laws.specs.declared.limits.LimitKind.{LimitKind}
 use Rattle.ideal_laws.specs.declared.presentation.Presentation.{Presentation}
@@ -20,7 +21,7 @@ use Rattle.job_steps.specs.declared.status.Status.{Status}
 use Rattle.job_steps.specs.declared.status.Status.TheVariants.{Done, Usage, Input, Limit, Chains, Products, ReadFault, WriteFault, NoMemory}
 use Rattle.job_steps.specs.Gains.{IsUndone}
 use Rattle.job_steps.specs.Printing.{task_of}
-use Rattle.job_steps.specs.Progress.{Task}
+use Rattle.job_steps.specs.Progress.{Task, ideal_of_task}
 use Rattle.bergman_cli.specs.Engines.{AreAmong, IsEngineOf, accounts_of, limits_of, traces_of}
 use Rattle.bergman_cli.specs.Gb.{gb_task, shows_basis, shows_series}
 use Rattle.bergman_cli.specs.Outcomes.{IsWorkTrace, IsWorkTraceOf}
@@ -28,14 +29,14 @@ use Rattle.bergman_cli.specs.Run.{IsGivenReading, IsRunTrace, OfWork}
 use Rattle.job_steps.specs.Traces.{Accounts, AreAccounts, IsAccountOf, IsTaskTrace, IsTrace, IsTracePart, OfTrace}
 
 -- what a task that ended so has for its trace
-module _ (May Own : Accounts) (t : Task) (st : IsSetting t.modulus t.letters.weights t.relations) where
+module _ (May Own : Accounts) (t : Task) (st : IsSetting (ideal_of_task t)) where
   module _ (own : AreAmong May Own) where
     own_account : (d : ℕ) (x : Account) → IsAccountOf May t d x → IsAccountOf Own t d x
     own_account d x first =
-        let setting = subst (λ (l : Letters). IsSetting t.modulus l.weights first.given.relations) (sym first.letters)
-        (subst (λ (rs : List (List Term)). IsSetting t.modulus t.letters.weights rs) (sym first.relations) st) in
-        let below = subst (λ (l : Letters). IsBelow t.modulus l.weights first.given.relations d first.below) (sym first.letters)
-        (subst (λ (rs : List (List Term)). IsBelow t.modulus t.letters.weights rs d first.below) (sym first.relations) first.is_below) in
+        let setting = subst (λ (l : Letters). IsSetting (ideal_over t.modulus l.weights first.given.relations)) (sym first.letters)
+        (subst (λ (rs : List (List Term)). IsSetting (ideal_over t.modulus t.letters.weights rs)) (sym first.relations) st) in
+        let below = subst (λ (l : Letters). IsBelow (ideal_over t.modulus l.weights first.given.relations) d first.below) (sym first.letters)
+        (subst (λ (rs : List (List Term)). IsBelow (ideal_over t.modulus t.letters.weights rs) d first.below) (sym first.relations) first.is_below) in
         record {
           given = first.given;
           letters = first.letters;
@@ -96,12 +97,12 @@ task_is p given limits asked job field same is = λ i. record {
 module _ (p : ℕ) (given : Presentation) (limits : List (LimitKind × ℕ)) (asked : Asked) (job : Job) (field : p ≡ job.modulus)
     (May : Accounts) (engine : IsEngineOf job limits May)
     (is : asked ≡ record { bound = job.bound; basis = shows_basis job.show; series = shows_series job.show; trace = traces_of job })
-    (st : IsSetting p given.alphabet.weights given.relations) where
+    (st : IsSetting (ideal_of p given)) where
   abbrev task : Task
   task = gb_task job given.alphabet given.relations
 
-  own_setting : IsSetting job.modulus given.alphabet.weights given.relations
-  own_setting = subst (λ (m : ℕ). IsSetting m given.alphabet.weights given.relations) field st
+  own_setting : IsSetting (ideal_of job.modulus given)
+  own_setting = subst (λ (m : ℕ). IsSetting (ideal_of m given)) field st
 
   moved : (P : Task → Bool → Type 0) → P (task_of p given limits asked) asked.trace → P task (traces_of job)
   moved P h = subst (λ (t : Task). P t (traces_of job)) (task_is p given limits asked job field engine.same_limits is)
@@ -180,7 +181,7 @@ module _ (words : List (List ℕ)) (left now held more : Option (List ℕ)) (roo
   -- the trace of the work on what was given
   module _ (job : Job) (is : IsJob words job) (letters : Letters) (relations : List (List Term))
       (reads : IsGivenReading job left now letters relations) (alphabet : IsAlphabet letters)
-      (setting : IsSetting job.modulus letters.weights relations) (trace : List ℕ) where
+      (setting : IsSetting (ideal_over job.modulus letters.weights relations)) (trace : List ℕ) where
     given_trace : (status : Status) → IsWorkTrace job letters relations held more room status trace →
         OfWork words left now (λ own l rs. IsWorkTrace own l rs held more room status trace)
     given_trace status h = (

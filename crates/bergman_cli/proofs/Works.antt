@@ -5,6 +5,7 @@ use Rattle.std.specs.Io.KnownBytes.{Appends}
 use Rattle.words.specs.Names.{Letters}
 use Rattle.free_poly.specs.declared.term.Term.{Term}
 use Rattle.bg_io.specs.Ends.{Rose}
+use Rattle.ideal_laws.specs.Ideal.{ideal_over}
 use Rattle.ideal_laws.specs.Laws.{IsSetting}
 use Rattle.command_words.specs.declared.job.Command.{Command}
 use Rattle.command_words.specs.declared.job.Command.TheVariants.{Gb, Make, Module, Chains, Normal}
@@ -32,7 +33,7 @@ module _ (job : Job) (letters : Letters) (relations : List (List Term)) where
   Outcome command = IsOutcomeOf command job letters relations
 
   -- one status is due
-  pub due_is_one : (command : Command) (status other : Status) → IsSetting job.modulus letters.weights relations → Due command status →
+  pub due_is_one : (command : Command) (status other : Status) → IsSetting (ideal_over job.modulus letters.weights relations) → Due command status →
       Due command other → status ≡ other
   due_is_one Gb status other st a b = one_task_status (gb_task job letters relations) st status other a b
   due_is_one Make status other st a b = one_task_status (make_task job letters relations) st status other a b
@@ -139,14 +140,14 @@ module _ (job : Job) (letters : Letters) (relations : List (List Term)) where
       work_memory Chains h = inl h
       work_memory Normal h = h
 
-    part_writes : (command : Command) (own : Status) → IsSetting job.modulus letters.weights relations → Due command own →
+    part_writes : (command : Command) (own : Status) → IsSetting (ideal_over job.modulus letters.weights relations) → Due command own →
         HasGainedPart held more room (Outcome command) → Writes command own
     part_writes command own st due h =
         let same = due_is_one command h.0 own st (outcome_due command h.0 h.1 h.2) due in
         subst (Writes command) same (some_writes command h.0 h.1 h.2 (cut_is_some h.3.gained h.1 h.3.cut_short))
 
     -- a write fails only where the status that is due has something written
-    pub failed_writes : (command : Command) (own : Status) → IsSetting job.modulus letters.weights relations → Due command own →
+    pub failed_writes : (command : Command) (own : Status) → IsSetting (ideal_over job.modulus letters.weights relations) → Due command own →
         Ends command statuses.WriteFault → Writes command own
     failed_writes Gb own st due h = gb_writes own due
     failed_writes Make own st due h = part_writes Make own st due h.1

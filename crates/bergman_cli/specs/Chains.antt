@@ -2,7 +2,7 @@
 use Rattle.std.specs.Prelude.{ℕ, ◌≡◌, ◌+◌, ◌≤◌, false, List, [], length}
 use Rattle.words.specs.Names.{Letters}
 use Rattle.free_poly.specs.declared.term.Term.{Term}
-use Rattle.ideal_laws.specs.Ideal.{IsMinimal}
+use Rattle.ideal_laws.specs.Ideal.{IsMinimal, ideal_over}
 use Rattle.ideal_laws.specs.Limits.{standard_limits}
 use Rattle.anick_chains.specs.declared.chain.Chain.{Chain}
 use Rattle.anick_chains.specs.Listed.{AreListed}
@@ -35,15 +35,13 @@ most_chains = 1048576
 -- up to the bound there are no more chains over the minimal words
 pub record HasFewChains (job : Job) (letters : Letters) (relations : List (List Term)) : Type 0 where
   pub number : ℕ
-  pub is_number :
-      IsNumber (IsMinimal job.modulus letters.weights relations) (length letters.weights)
+  pub is_number : IsNumber (IsMinimal (ideal_over job.modulus letters.weights relations)) (length letters.weights)
       letters.weights job.bound number
   pub few : number ≤ most_chains
 
 -- up to this degree there are more, and up to no lower one; the kept value is the limit plus 1
 pub record HasManyChains (job : Job) (letters : Letters) (relations : List (List Term)) (d value : ℕ) : Type 0 where
-  pub first :
-      IsFirstMany (IsMinimal job.modulus letters.weights relations) (length letters.weights)
+  pub first : IsFirstMany (IsMinimal (ideal_over job.modulus letters.weights relations)) (length letters.weights)
       letters.weights job.bound most_chains d
   pub kept : value ≡ most_chains + 1
 
@@ -65,8 +63,7 @@ pub record HasChainText (T : List ℕ → Type 0) (letters : Letters) (job : Job
 -- the chain text of the chains up to the bound
 pub record IsChainList (job : Job) (letters : Letters) (relations : List (List Term)) (text : List ℕ) : Type 0 where
   pub chains : List Chain
-  pub listed :
-      AreListed (IsMinimal job.modulus letters.weights relations) (length letters.weights)
+  pub listed : AreListed (IsMinimal (ideal_over job.modulus letters.weights relations)) (length letters.weights)
       letters.weights job.bound chains
   pub printed : text ≡ chain_text letters.names job.list chains
 

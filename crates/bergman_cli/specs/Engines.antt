@@ -1,6 +1,7 @@
 -- The engines: the limits that they ask, and the accounts that they may tell.
 use Rattle.std.specs.Prelude.{ℕ, ◌≡◌, Bool, true, false, List, [], ◌∷◌}
 use Rattle.free_poly.specs.declared.term.Term.{Term}
+use Rattle.ideal_laws.specs.Ideal.{ideal_of}
 use Rattle.ideal_laws.specs.declared.account.Account.{Account}
 use Rattle.ideal_laws.specs.declared.limits.LimitKind.{LimitKind}
 use Rattle.ideal_laws.specs.declared.limits.LimitKind.TheVariants.{PlainWords}
@@ -40,17 +41,17 @@ traces_of job = traces_in job.engine job.trace
 -- words of its reduced basis
 abbrev pub TellsHistory : ℕ → Accounts
 TellsHistory workers p given below d account =
-    (elements : List (List Term)) → IsReducedBasis p given.alphabet.weights given.relations d elements
-    → TellsMatrix p given.alphabet.weights given.relations below.elements d account
+    (elements : List (List Term)) → IsReducedBasis (ideal_of p given) d elements
+    → TellsMatrix (ideal_of p given) below.elements d account
     × IsClaimHistory (crew_of workers account.rows) elements account
 
 -- the accounts that an engine may tell
 abbrev pub accounts_in : EngineKind → ℕ → ℕ → Accounts
 accounts_in Race workers schedule p given below d account =
-    IsRunAccount workers p given.alphabet.weights given.relations below.elements d account
+    IsRunAccount workers (ideal_of p given) below.elements d account
     × TellsHistory workers p given below d account
 accounts_in Core workers schedule p given below d account =
-    IsCoreAccount workers schedule p given.alphabet.weights given.relations below.elements d account
+    IsCoreAccount workers schedule (ideal_of p given) below.elements d account
     × TellsHistory workers p given below d account
 accounts_in Seq workers schedule p given below d account = ⊥
 accounts_in Plain workers schedule p given below d account = ⊥
@@ -62,8 +63,8 @@ accounts_of job = accounts_in job.engine job.workers job.schedule
 abbrev pub AreAmong : Accounts → Accounts → Type 0
 AreAmong May Own =
     (p : ℕ) (given : Presentation) (below : Elements) (d : ℕ) (account : Account) →
-    IsSetting p given.alphabet.weights given.relations →
-    IsBelow p given.alphabet.weights given.relations d below
+    IsSetting (ideal_of p given) →
+    IsBelow (ideal_of p given) d below
     → May p given below d account → Own p given below d account
 
 -- limits and accounts of the engine that a job names

@@ -2,6 +2,7 @@
 use Rattle.std.specs.Prelude.{ℕ, Bool, true, false, List}
 use Rattle.words.specs.Names.{IsAlphabet, Letters}
 use Rattle.free_poly.specs.declared.term.Term.{Term}
+use Rattle.ideal_laws.specs.Ideal.{ideal_over}
 use Rattle.ideal_laws.specs.Laws.{IsOne, IsSetting}
 use Rattle.ideal_laws.specs.Limits.{standard_limits}
 use Rattle.command_words.specs.declared.job.Job.{Job}
@@ -39,5 +40,5 @@ gb_task job letters relations = record {
 -- a job on letters and relations has exactly one status with its text
 abbrev pub HasOneGbOutcome : Type 0
 HasOneGbOutcome = (job : Job) (letters : Letters) (relations : List (List Term)) → IsSound job → IsAlphabet letters →
-    IsSetting job.modulus letters.weights relations
+    IsSetting (ideal_over job.modulus letters.weights relations)
     → IsOne (λ (o : Status × List ℕ). IsTaskOutcome (gb_task job letters relations) o.0 o.1)

@@ -5,6 +5,7 @@ use Rattle.words.specs.Names.{Letters}
 use Rattle.free_poly.specs.declared.term.Term.{Term}
 use Rattle.ideal_laws.specs.Dimension.{IsHilbertCoefficient}
 use Rattle.ideal_laws.specs.Engine.{Elements}
+use Rattle.ideal_laws.specs.Ideal.{ideal_over}
 use Rattle.ideal_laws.specs.Kept.{IsBelow}
 use Rattle.ideal_laws.specs.Limits.{standard_limits}
 use Rattle.ideal_laws.specs.Quantities.{terms_in}
@@ -48,9 +49,9 @@ summary_text number relations elements d coefficient =
 -- the summary of the ideal of these relations, up to the bound of the job
 pub record IsSummary (job : Job) (letters : Letters) (relations : List (List Term)) (text : List ℕ) : Type 0 where
   pub basis : Elements
-  pub is_basis : IsBelow job.modulus letters.weights relations (job.bound + 1) basis
+  pub is_basis : IsBelow (ideal_over job.modulus letters.weights relations) (job.bound + 1) basis
   pub coefficient : ℕ
-  pub is_coefficient : IsHilbertCoefficient job.modulus letters.weights relations job.bound coefficient
+  pub is_coefficient : IsHilbertCoefficient (ideal_over job.modulus letters.weights relations) job.bound coefficient
   pub printed : text ≡ summary_text job.number (length relations) basis.elements job.bound coefficient
 
 -- what is printed where the task ends so: the summary, or nothing at a limit

@@ -4,6 +4,7 @@ use Rattle.std.specs.Prelude.{ℕ, ◌≡◌, ◌⊎◌, ◌+◌, ◌-◌, ◌<�
 use Rattle.std.specs.Prelude.{slice_index_or}
 use Rattle.words.specs.Names.{Letters}
 use Rattle.free_poly.specs.declared.term.Term.{Term}
+use Rattle.ideal_laws.specs.Ideal.{Ideal, ideal_over}
 use Rattle.ideal_laws.specs.declared.limits.LimitKind.TheVariants.{NormalWords}
 use Rattle.ideal_laws.specs.Limits.{standard_limits}
 use Rattle.ideal_laws.specs.Quantities.{IsFirstRefused, NonePassesUpto}
@@ -30,20 +31,19 @@ IsOfModule job letters relations = (job.gens ≤ length letters.weights) × All 
 
 -- up to the bound no quantity of the job's engine passes its limit on all relations together
 abbrev pub PassesNoLimit : Job → Letters → List (List Term) → Type 0
-PassesNoLimit job letters relations = NonePassesUpto job.modulus letters.weights relations (limits_of job.engine)
+PassesNoLimit job letters relations = NonePassesUpto (ideal_over job.modulus letters.weights relations)
+    (limits_of job.engine)
     job.bound
 
 -- in the degrees below d the module coefficients are at most the limit
-abbrev pub AreFewBelow : ℕ → List ℕ → ℕ → List (List Term) → ℕ → ℕ → Type 0
-AreFewBelow p weights free relations limit d = (e : ℕ) → e < d → (h : ℕ)
-    × IsModuleCoefficient p weights free relations e h × (h ≤ limit)
+abbrev pub AreFewBelow : Ideal → ℕ → ℕ → ℕ → Type 0
+AreFewBelow ideal free limit d = (e : ℕ) → e < d → (h : ℕ) × IsModuleCoefficient ideal free e h × (h ≤ limit)
 
 -- d is the first degree with a greater module coefficient, and the kept value is the limit plus 1
-pub record IsFirstLargeModule (p : ℕ) (weights : List ℕ) (free : ℕ) (relations : List (List Term))
-    (limit d value : ℕ) : Type 0 where
-  pub before : AreFewBelow p weights free relations limit d
+pub record IsFirstLargeModule (ideal : Ideal) (free : ℕ) (limit d value : ℕ) : Type 0 where
+  pub before : AreFewBelow ideal free limit d
   pub coefficient : ℕ
-  pub is_coefficient : IsModuleCoefficient p weights free relations d coefficient
+  pub is_coefficient : IsModuleCoefficient ideal free d coefficient
   pub large : limit < coefficient
   pub kept : value ≡ limit + 1
 
@@ -51,7 +51,7 @@ pub record IsFirstLargeModule (p : ℕ) (weights : List ℕ) (free : ℕ) (relat
 abbrev pub IsCrowded : Job → Letters → List (List Term) → ℕ → ℕ → Type 0
 IsCrowded job letters relations d value =
     PassesNoLimit job letters relations × (d ≤ job.bound)
-    × IsFirstLargeModule job.modulus letters.weights (free_of job letters) relations
+    × IsFirstLargeModule (ideal_over job.modulus letters.weights relations) (free_of job letters)
     standard_limits.normal_words d value
 
 -- the status that is due
@@ -60,10 +60,10 @@ IsModuleStatus job letters relations (Input (TooFewNames names)) = (names < job.
 IsModuleStatus job letters relations (Input (Shape relation)) = (job.gens ≤ length letters.weights)
     × IsFirstOther (free_of job letters) relations relation
 IsModuleStatus job letters relations (Limit kind d value) = IsOfModule job letters relations
-    × (IsFirstRefused job.modulus letters.weights relations (limits_of job.engine) job.bound kind d value
+    × (IsFirstRefused (ideal_over job.modulus letters.weights relations) (limits_of job.engine) job.bound kind d value
     ⊎ ((kind ≡ NormalWords) × IsCrowded job letters relations d value))
 IsModuleStatus job letters relations Done = IsOfModule job letters relations × PassesNoLimit job letters relations
-    × AreFewBelow job.modulus letters.weights (free_of job letters) relations standard_limits.normal_words
+    × AreFewBelow (ideal_over job.modulus letters.weights relations) (free_of job letters) standard_limits.normal_words
     (job.bound + 1)
 IsModuleStatus job letters relations status = ⊥
 
@@ -72,7 +72,8 @@ pub record IsModuleBasisText (p : ℕ) (letters : Letters) (free : ℕ) (relatio
     (text : List ℕ) : Type 0 where
   pub bases : List (List (List Term))
   pub count : length bases ≡ bound
-  pub each : (k : ℕ) → k < bound → IsModuleBasis p letters.weights free relations (k + 1) (slice_index_or bases k [])
+  pub each : (k : ℕ) → k < bound → IsModuleBasis (ideal_over p letters.weights relations) free (k + 1)
+      (slice_index_or bases k [])
   pub printed : text ≡ basis_text letters.names p bases
 
 -- the series text of a module's numbers of degrees 0, 1, ..
@@ -80,11 +81,10 @@ abbrev pub module_series_text : List ℕ → List ℕ
 module_series_text numbers = line (codes "% module series") ++ series_lines 0 numbers
 
 -- the printed module coefficients of degrees 0 to the bound
-pub record IsModuleSeriesText (p : ℕ) (weights : List ℕ) (free : ℕ) (relations : List (List Term)) (bound : ℕ)
-    (text : List ℕ) : Type 0 where
+pub record IsModuleSeriesText (ideal : Ideal) (free bound : ℕ) (text : List ℕ) : Type 0 where
   pub numbers : List ℕ
   pub count : length numbers ≡ bound + 1
-  pub each : (k : ℕ) → k < bound + 1 → IsModuleCoefficient p weights free relations k (slice_index numbers k)
+  pub each : (k : ℕ) → k < bound + 1 → IsModuleCoefficient ideal free k (slice_index numbers k)
   pub printed : text ≡ module_series_text numbers
 
 -- the basis and then the series, as far as they are shown
@@ -93,8 +93,8 @@ pub record IsModuleText (job : Job) (letters : Letters) (relations : List (List 
   pub series : List ℕ
   pub is_basis : IsPart (shows_basis job.show) (IsModuleBasisText job.modulus letters (free_of job letters)
       relations job.bound) basis
-  pub is_series : IsPart (shows_series job.show) (IsModuleSeriesText job.modulus letters.weights
-      (free_of job letters) relations job.bound) series
+  pub is_series : IsPart (shows_series job.show) (IsModuleSeriesText (ideal_over job.modulus letters.weights relations)
+      (free_of job letters) job.bound) series
   pub joined : text ≡ basis ++ series
 
 -- what is printed with this status: the module text, or nothing

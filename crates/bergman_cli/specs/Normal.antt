@@ -3,6 +3,7 @@ use Rattle.std.specs.Prelude.{ℕ, ◌≡◌, ◌+◌, ◌-◌, ◌<◌, ◌≤�
 use Rattle.std.specs.Prelude.{slice_index_or, take}
 use Rattle.words.specs.Names.{Letters}
 use Rattle.free_poly.specs.declared.term.Term.{Term}
+use Rattle.ideal_laws.specs.Ideal.{ideal_over}
 use Rattle.ideal_laws.specs.declared.limits.LimitKind.{LimitKind}
 use Rattle.ideal_laws.specs.Kept.{lead_degree}
 use Rattle.ideal_laws.specs.Limits.{standard_limits}
@@ -23,8 +24,8 @@ abbrev pub ideal_size : Job → List (List Term) → ℕ
 ideal_size job relations = length relations - job.ask
 
 -- the relations of the ideal
-abbrev pub ideal_of : Job → List (List Term) → List (List Term)
-ideal_of job relations = take (ideal_size job relations) relations
+abbrev pub defining_relations : Job → List (List Term) → List (List Term)
+defining_relations job relations = take (ideal_size job relations) relations
 
 -- the others are the questions
 abbrev pub questions_of : Job → List (List Term) → List (List Term)
@@ -35,7 +36,7 @@ abbrev pub normal_task : Job → Letters → List (List Term) → Task
 normal_task job letters relations = record {
   modulus = job.modulus;
   letters = letters;
-  relations = ideal_of job relations;
+  relations = defining_relations job relations;
   limits = limits_of job.engine;
   normal_words = standard_limits.normal_words;
   bound = job.bound;
@@ -92,9 +93,10 @@ IsEnding job letters relations (above place) = (job.ask ≤ length relations)
 IsEnding job letters relations (stopped kind d value) = IsAskable job letters relations
     × IsTaskStatus (normal_task job letters relations) (Limit kind d value)
 IsEnding job letters relations (too_many place) = IsComputable job letters relations
-    × IsFirstPlace (HasManyTriples letters.weights (ideal_of job relations)) (questions_of job relations) place
+    × IsFirstPlace (HasManyTriples letters.weights (defining_relations job relations)) (questions_of job relations)
+    place
 IsEnding job letters relations answered = IsComputable job letters relations
-    × HasNone (HasManyTriples letters.weights (ideal_of job relations)) (questions_of job relations)
+    × HasNone (HasManyTriples letters.weights (defining_relations job relations)) (questions_of job relations)
 
 -- its status, where relations are counted from 1
 abbrev pub status_of : Job → Letters → List (List Term) → Ending → Status
@@ -109,7 +111,7 @@ status_of job letters relations answered = Done
 abbrev pub AreAnswers : ℕ → Letters → List (List Term) → ℕ → List (List Term) → List ℕ → Type 0
 AreAnswers p letters relations k [] text = text ≡ []
 AreAnswers p letters relations k (f ∷ fs) text =
-    (c : Certificate) × IsCertificate p letters.weights relations (lead_degree letters.weights f) f c
+    (c : Certificate) × IsCertificate (ideal_over p letters.weights relations) (lead_degree letters.weights f) f c
     × ((more : List ℕ) × AreAnswers p letters relations (suc k) fs more
     × (text ≡ answer_text letters.names p k c ++ more))
 
@@ -124,9 +126,9 @@ IsAnsweredBy p letters relations questions status text =
 
 -- what is printed: the answers, or those before the question that has too many triples
 abbrev pub IsEndingText : Job → Letters → List (List Term) → Ending → List ℕ → Type 0
-IsEndingText job letters relations (too_many place) text = AreAnswers job.modulus letters (ideal_of job relations) 1
-    (take place (questions_of job relations)) text
-IsEndingText job letters relations answered text = AreAnswers job.modulus letters (ideal_of job relations) 1
+IsEndingText job letters relations (too_many place) text =
+    AreAnswers job.modulus letters (defining_relations job relations) 1 (take place (questions_of job relations)) text
+IsEndingText job letters relations answered text = AreAnswers job.modulus letters (defining_relations job relations) 1
     (questions_of job relations) text
 IsEndingText job letters relations ending text = text ≡ []
 

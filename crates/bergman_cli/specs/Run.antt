@@ -4,6 +4,7 @@ use Rattle.std.specs.Io.KnownBytes.{Appends}
 use Rattle.words.specs.Names.{IsAlphabet, Letters}
 use Rattle.free_poly.specs.declared.term.Term.{Term}
 use Rattle.bg_io.specs.Ends.{Rose}
+use Rattle.ideal_laws.specs.Ideal.{ideal_over}
 use Rattle.ideal_laws.specs.Laws.{IsSetting}
 use Rattle.relation_reader.specs.Meaning.{FirstFault, Reads}
 use Rattle.generated_text.specs.Generated.{generated_text}
@@ -49,7 +50,7 @@ pub record OfGiven (job : Job) (left now : Option (List â„•)) (Holds : Letters â
   pub relations : List (List Term)
   pub reads : Reads text job.modulus letters relations
   pub alphabet : IsAlphabet letters
-  pub setting : IsSetting job.modulus letters.weights relations
+  pub setting : IsSetting (ideal_over job.modulus letters.weights relations)
   pub holds : Holds letters relations
 
 -- the words are a job, and of it and what is given to it something holds

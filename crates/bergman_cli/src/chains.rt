@@ -3,7 +3,7 @@ ghost use Rattle.free_poly.specs.declared.term.Term.{Term};
 ghost use Rattle.free_poly.specs.Terms.{HasResidues};
 ghost use Rattle.ideal_laws.specs.Closure.{IsFactorFree};
 ghost use Rattle.ideal_laws.specs.Engine.{IsReducedUpto};
-ghost use Rattle.ideal_laws.specs.Ideal.{IsMinimal};
+ghost use Rattle.ideal_laws.specs.Ideal.{IsMinimal, ideal_over};
 ghost use Rattle.ideal_laws.specs.Laws.{IsSetting};
 ghost use Rattle.anick_chains.specs.BasisTips.{leads_of};
 ghost use Rattle.anick_chains.specs.Listing.{IsFirstMany};
@@ -81,9 +81,9 @@ fn chain_lines(
     requires factor_free { IsFactorFree basis.now.elements }
 
     ensures printed { IfOk result (λ text.
-        (p : ℕ) (relations : List (List Term)) → IsSetting p basis.now.weights relations
+        (p : ℕ) (relations : List (List Term)) → IsSetting (ideal_over p basis.now.weights relations)
         → IsReducedUpto p relations basis.now
-        → HasChainText (IsMinimal p basis.now.weights relations) alphabet.now job.now text.items) }
+        → HasChainText (IsMinimal (ideal_over p basis.now.weights relations)) alphabet.now job.now text.items) }
     ensures many { (degree : ℕ) → IsErrOf result (ChainFault.TooMany degree)
         → IsFirstMany (Contains (leads_of basis.now.elements)) (length basis.now.weights) basis.now.weights
         job.now.bound

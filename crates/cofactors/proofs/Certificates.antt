@@ -11,7 +11,7 @@ use Rattle.free_poly.specs.Terms.{scaled, total_at}
 use Rattle.free_poly.proofs.Products.{UsesLetters-product}
 use Rattle.free_poly.proofs.Sums.{HasDegree-from_same, UsesLetters-from_same}
 use Rattle.ideal_laws.specs.Closure.{IsNormal}
-use Rattle.ideal_laws.specs.Ideal.{IsElement, IsLeadingWord, IsMultiple}
+use Rattle.ideal_laws.specs.Ideal.{Ideal, IsElement, IsLeadingWord, IsMultiple}
 use Rattle.ideal_laws.specs.Laws.{IsRelation, IsSetting}
 use Rattle.lead_index.specs.declared.lead.Lead.{Lead}
 use Rattle.lead_index.specs.Leads.{IsFree, IsIndexOf}
@@ -31,89 +31,90 @@ normal_from_free G leads w index free g v k among led o =
     let stands : slice_get G among.0 ≡ Some g = slice_get-get_or G among.0 g among.1 ∙ ap Some among.2 in
     All-contains (λ (m : Lead). OccursAt m.word w k → ⊥) leads l (free k) ((index l).1 (g, stands, led)) o
 
-module _ (p : ℕ) (weights : List ℕ) (relations : List (List Term)) (st : IsSetting p weights relations) (d : ℕ) where
+module _ (ideal : Ideal) (st : IsSetting ideal) (d : ℕ) where
   abbrev all : List Product
-  all = triples weights relations d
+  all = triples ideal.weights ideal.relations d
 
   abbrev fs : List (List Term)
-  fs = map (triple_terms relations) all
+  fs = map (triple_terms ideal.relations) all
 
   -- what holds of the words of the triples holds of those of a combination
-  combined_words : (P : List ℕ → Type 0) → ((s : Product) → Contains all s → All (λ t. P t.word) (triple_terms relations s)) →
+  combined_words : (P : List ℕ → Type 0) → ((s : Product) → Contains all s → All (λ t. P t.word) (triple_terms ideal.relations s)) →
       (factors : List Factor) → HasPlaces (length all) factors → All (λ t. P t.word) (combined fs factors)
   combined_words P h [] k = All-nil (λ (t : Term). P t.word)
   combined_words P h (f ∷ factors) k =
       let within = All-head (λ x. x.place < length all) f factors k in
       let s = get_or all f.place (triple 0 [] []) in
       let own : All (λ (t : Term). P t.word) (get_or fs f.place []) =
-      subst (All (λ (t : Term). P t.word)) (sym (element_at p relations all f within))
+      subst (All (λ (t : Term). P t.word)) (sym (element_at ideal.modulus ideal.relations all f within))
       (h s (Contains-get_or all f.place (triple 0 [] []) within)) in
       All-append (λ (t : Term). P t.word) (scaled f.residue (get_or fs f.place [])) (combined fs factors)
       (All-map (λ (t : Term). P t.word) (λ (t : Term). record { word = t.word; coefficient = f.residue * t.coefficient }) (get_or fs f.place []) own)
       (combined_words P h factors (All-tail (λ x. x.place < length all) f factors k))
 
-  one_product : (s : Product) → Contains all s → IsProduct p weights relations d (record s { coefficient = 1 })
-  one_product s m = product_from_triple p weights relations st d 1 s (omega arith) (omega (arith, st.modulus.two_or_more)) m
+  one_product : (s : Product) → Contains all s → IsProduct ideal d (record s { coefficient = 1 })
+  one_product s m = product_from_triple ideal st d 1 s (omega arith) (omega (arith, st.modulus.two_or_more)) m
 
   -- the number of a triple is that of a relation
-  pub numbered : (s : Product) → Contains all s → (0 < s.relation) × (s.relation ≤ length relations)
+  pub numbered : (s : Product) → Contains all s → (0 < s.relation) × (s.relation ≤ length ideal.relations)
   numbered s m = let q = one_product s m in (q.from, q.upto)
 
-  triple_letters : (s : Product) → Contains all s → All (λ t. IsOver (length weights) t.word) (triple_terms relations s)
+  triple_letters : (s : Product) → Contains all s → All (λ t. IsOver (length ideal.weights) t.word) (triple_terms ideal.relations s)
   triple_letters s m =
       let q = one_product s m in
-      let r = relation_at relations s.relation in
-      let rel : IsRelation p weights r = All-contains (IsRelation p weights) relations r st.are_relations
-      (Contains-get_or relations (s.relation - 1) [] (omega (arith, q.from, q.upto))) in
-      UsesLetters-product (length weights) s.left r s.right q.left_over q.right_over rel.letters
+      let r = relation_at ideal.relations s.relation in
+      let rel : IsRelation ideal.modulus ideal.weights r = All-contains (IsRelation ideal.modulus ideal.weights) ideal.relations r st.are_relations
+      (Contains-get_or ideal.relations (s.relation - 1) [] (omega (arith, q.from, q.upto))) in
+      UsesLetters-product (length ideal.weights) s.left r s.right q.left_over q.right_over rel.letters
 
-  triple_degree : (s : Product) → Contains all s → All (λ t. degree_of weights t.word ≡ d) (triple_terms relations s)
+  triple_degree : (s : Product) → Contains all s → All (λ t. degree_of ideal.weights t.word ≡ d) (triple_terms ideal.relations s)
   triple_degree s m = (one_product s m).degree
 
-  module _ (f : List Term) (ef : IsElement p weights d f) where
-    left_element : (t : Row) → IsRow p t → IsTracked p fs f t → HasPlaces (length all) t.factors → IsElement p weights d t.element
+  module _ (f : List Term) (ef : IsElement ideal.modulus ideal.weights d f) where
+    left_element : (t : Row) → IsRow ideal.modulus t → IsTracked ideal.modulus fs f t → HasPlaces (length all) t.factors
+        → IsElement ideal.modulus ideal.weights d t.element
     left_element t row tracked places =
         let sum = f ++ combined fs t.factors in record {
           form = row.form;
           residues = row.residues;
-          letters = UsesLetters-from_same p (length weights) t.element sum row.form row.residues tracked.sum
-              (All-append (λ (u : Term). IsOver (length weights) u.word) f (combined fs t.factors) ef.letters
-              (combined_words (IsOver (length weights)) triple_letters t.factors places));
-          degree = HasDegree-from_same p weights d t.element sum row.form row.residues tracked.sum
-              (All-append (λ (u : Term). degree_of weights u.word ≡ d) f (combined fs t.factors) ef.degree
-              (combined_words (λ w. degree_of weights w ≡ d) triple_degree t.factors places));
+          letters = UsesLetters-from_same ideal.modulus (length ideal.weights) t.element sum row.form row.residues tracked.sum
+              (All-append (λ (u : Term). IsOver (length ideal.weights) u.word) f (combined fs t.factors) ef.letters
+              (combined_words (IsOver (length ideal.weights)) triple_letters t.factors places));
+          degree = HasDegree-from_same ideal.modulus ideal.weights d t.element sum row.form row.residues tracked.sum
+              (All-append (λ (u : Term). degree_of ideal.weights u.word ≡ d) f (combined fs t.factors) ef.degree
+              (combined_words (λ w. degree_of ideal.weights w ≡ d) triple_degree t.factors places));
         }
 
-    pub places_of : (t : Row) → IsTracked p fs f t → HasPlaces (length all) t.factors
-    places_of t tracked = subst (λ (n : ℕ). HasPlaces n t.factors) (length-map all (triple_terms relations)) tracked.places
+    pub places_of : (t : Row) → IsTracked ideal.modulus fs f t → HasPlaces (length all) t.factors
+    places_of t tracked = subst (λ (n : ℕ). HasPlaces n t.factors) (length-map all (triple_terms ideal.relations)) tracked.places
 
     -- what is left of f, without anything at the leaders' words
-    pub certificate_from_row : (rows : List Row) → AreLeaders p rows → All (λ g. IsPlusSpan p rows g []) fs → (t : Row) → IsRow p t →
-        IsTracked p fs f t → IsZeroAtLeads rows t.element
-        → IsCertificate p weights relations d f (record { normal = t.element; products = negative_products p all t.factors })
+    pub certificate_from_row : (rows : List Row) → AreLeaders ideal.modulus rows → All (λ g. IsPlusSpan ideal.modulus rows g []) fs → (t : Row)
+        → IsRow ideal.modulus t →
+        IsTracked ideal.modulus fs f t → IsZeroAtLeads rows t.element
+        → IsCertificate ideal d f (record { normal = t.element; products = negative_products ideal.modulus all t.factors })
     certificate_from_row rows leaders spanned t row tracked zero =
         let places = places_of t tracked in
         let element = left_element t row tracked places in
-        let products = negative_products p all t.factors in
-        let list = negative_list p weights relations st d t.factors row.factors places in
-        let sum = negative_sum_with p relations all f t.element t.factors row.factors.residues places tracked.sum in record {
-          is_normal = normal_from_products p weights relations st d f t.element products element list sum
-              (normal_at_leads p weights relations st d rows leaders spanned t.element element zero);
+        let products = negative_products ideal.modulus all t.factors in
+        let list = negative_list ideal st d t.factors row.factors places in
+        let sum = negative_sum_with ideal.modulus ideal.relations all f t.element t.factors row.factors.residues places tracked.sum in record {
+          is_normal = normal_from_products ideal st d f t.element products element list sum
+              (normal_at_leads ideal st d rows leaders spanned t.element element zero);
           are_products = list;
           sum = sum;
         }
 
     -- f itself, where none of its words is a leading word
-    pub certificate_of_normal : All (λ s. IsLeadingWord p weights relations d s.word → ⊥) f →
-        IsCertificate p weights relations d f (record { normal = f; products = [] })
+    pub certificate_of_normal : All (λ s. IsLeadingWord ideal d s.word → ⊥) f → IsCertificate ideal d f (record { normal = f; products = [] })
     certificate_of_normal none = record {
       is_normal = record {
         element = ef;
         multiples = [];
-        each = All-nil (IsMultiple p weights relations d);
-        sum = λ w. ap (λ (g : List Term). total_at g w % p) (sym (append-nil f));
+        each = All-nil (IsMultiple ideal d);
+        sum = λ w. ap (λ (g : List Term). total_at g w % ideal.modulus) (sym (append-nil f));
         normal = none;
       };
-      are_products = record { each = All-nil (IsProduct p weights relations d); ordered = AllPairs-nil (StandsBefore weights) };
-      sum = λ w. ap (λ (g : List Term). total_at g w % p) (sym (append-nil f));
+      are_products = record { each = All-nil (IsProduct ideal d); ordered = AllPairs-nil (StandsBefore ideal.weights) };
+      sum = λ w. ap (λ (g : List Term). total_at g w % ideal.modulus) (sym (append-nil f));
     }

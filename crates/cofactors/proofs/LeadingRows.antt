@@ -17,7 +17,7 @@ use Rattle.linear_algebra.specs.Mod.{Residue}
 use Rattle.linear_algebra.proofs.Algebra.{IsInSpan-add, IsInSpan-scaled, IsInSpan-zero}
 use Rattle.linear_algebra.proofs.Elimination.{same_span}
 use Rattle.linear_algebra.proofs.ModField.{same_residue}
-use Rattle.ideal_laws.specs.Ideal.{IsElement, IsLeadingWord, IsMultiple, Multiple, terms_of}
+use Rattle.ideal_laws.specs.Ideal.{Ideal, IsElement, IsLeadingWord, IsMultiple, Multiple, terms_of}
 use Rattle.ideal_laws.specs.Laws.{IsSetting}
 use Rattle.ideal_laws.proofs.Vectors.{same_vectors, vector_of-append, vector_of-scaled}
 use Rattle.ideal_laws.proofs.Vectors as vectors
@@ -31,92 +31,91 @@ use Rattle.cofactors.proofs.Echelon as echelon
 use Rattle.cofactors.proofs.Echelon.{IsOf, greatest_leads}
 use Rattle.cofactors.proofs.ProductLists.{triple_of}
 
-module _ (p : ℕ) (weights : List ℕ) (relations : List (List Term)) (st : IsSetting p weights relations) (d : ℕ) where
+module _ (ideal : Ideal) (st : IsSetting ideal) (d : ℕ) where
   abbrev Kd : Field
-  Kd = vectors.K p st.modulus
+  Kd = vectors.K ideal.modulus st.modulus
 
   abbrev Vd : Type 0
-  Vd = List ℕ → Residue p
+  Vd = List ℕ → Residue ideal.modulus
 
   abbrev vecd : List Term → Vd
-  vecd f = vectors.vector_of p st.modulus f
+  vecd f = vectors.vector_of ideal.modulus st.modulus f
 
   -- rows with falling leading words that span the products of the degree
   pub record AreEchelon (es : List (List ℕ × Vd)) : Type 0 where
     pub falling : AllPairs (λ (d e : List ℕ × Vd). IsLetterwiseGreater d.0 e.0) es
-    pub rows : All (echelon.IsRow p st.modulus) es
-    pub spans : (m : Multiple) → IsMultiple p weights relations d m → IsInSpan Kd (List ℕ) (IsOf p st.modulus es) (vecd (product m.left m.relation m.right))
+    pub rows : All (echelon.IsRow ideal.modulus st.modulus) es
+    pub spans : (m : Multiple) → IsMultiple ideal d m → IsInSpan Kd (List ℕ) (IsOf ideal.modulus st.modulus es) (vecd (product m.left m.relation m.right))
 
-  multiples_spanned : (es : List (List ℕ × Vd)) → AreEchelon es → (ms : List Multiple) → All (IsMultiple p weights relations d) ms →
-      IsInSpan Kd (List ℕ) (IsOf p st.modulus es) (vecd (flat_map terms_of ms))
-  multiples_spanned es h [] k = same_span Kd (List ℕ) _ (λ y. Kd.zero) (vecd []) (λ y. same_residue p _ _ refl) (IsInSpan-zero Kd (List ℕ) _)
+  multiples_spanned : (es : List (List ℕ × Vd)) → AreEchelon es → (ms : List Multiple) → All (IsMultiple ideal d) ms →
+      IsInSpan Kd (List ℕ) (IsOf ideal.modulus st.modulus es) (vecd (flat_map terms_of ms))
+  multiples_spanned es h [] k = same_span Kd (List ℕ) _ (λ y. Kd.zero) (vecd []) (λ y. same_residue ideal.modulus _ _ refl) (IsInSpan-zero Kd (List ℕ) _)
   multiples_spanned es h (m ∷ ms) k =
-      same_span Kd (List ℕ) _ (λ y. Kd.add (Kd.mul (vectors.of p st.modulus m.factor) (vecd (product m.left m.relation m.right) y))
+      same_span Kd (List ℕ) _ (λ y. Kd.add (Kd.mul (vectors.of ideal.modulus st.modulus m.factor) (vecd (product m.left m.relation m.right) y))
       (vecd (flat_map terms_of ms) y)) (vecd (flat_map terms_of (m ∷ ms)))
-      (λ y. sym (vector_of-append p st.modulus (terms_of m) (flat_map terms_of ms) y
-      ∙ ap (λ (n : Residue p). Kd.add n (vecd (flat_map terms_of ms) y))
-      (vector_of-scaled p st.modulus m.factor (product m.left m.relation m.right) y)))
-      (IsInSpan-add Kd (List ℕ) _ _ _ (IsInSpan-scaled Kd (List ℕ) _ (vectors.of p st.modulus m.factor) _
-      (h.spans m (All-head (IsMultiple p weights relations d) m ms k)))
-      (multiples_spanned es h ms (All-tail (IsMultiple p weights relations d) m ms k)))
+      (λ y. sym (vector_of-append ideal.modulus st.modulus (terms_of m) (flat_map terms_of ms) y
+      ∙ ap (λ (n : Residue ideal.modulus). Kd.add n (vecd (flat_map terms_of ms) y))
+      (vector_of-scaled ideal.modulus st.modulus m.factor (product m.left m.relation m.right) y)))
+      (IsInSpan-add Kd (List ℕ) _ _ _ (IsInSpan-scaled Kd (List ℕ) _ (vectors.of ideal.modulus st.modulus m.factor) _
+      (h.spans m (All-head (IsMultiple ideal d) m ms k)))
+      (multiples_spanned es h ms (All-tail (IsMultiple ideal d) m ms k)))
 
-  first_of : (f : List Term) (w : List ℕ) → IsElement p weights d f → lead_of f ≡ Some w →
+  first_of : (f : List Term) (w : List ℕ) → IsElement ideal.modulus ideal.weights d f → lead_of f ≡ Some w →
       (vecd f w ≡ Kd.zero → ⊥) × ((y : List ℕ) → IsLetterwiseGreater y w → vecd f y ≡ Kd.zero)
   first_of [] w e l = cc l
   first_of (t ∷ f) w e l =
       let is : t.word ≡ w = cc l in (
-        (λ z. All-head (λ (s : Term). Stands p (t ∷ f) s.word) t f (Stands-own p (t ∷ f) e.form e.residues)
-            (ap (λ (x : List ℕ). total_at (t ∷ f) x % p) is ∙ ap (λ (n : Residue p). n.0) z ∙ zero-mod p)),
-        (λ y g. same_residue p _ _ (ap (λ (n : ℕ). n % p) (above_all y t f e.form (subst (IsLetterwiseGreater y) (sym is) g)))),
+        (λ z. All-head (λ (s : Term). Stands ideal.modulus (t ∷ f) s.word) t f (Stands-own ideal.modulus (t ∷ f) e.form e.residues)
+            (ap (λ (x : List ℕ). total_at (t ∷ f) x % ideal.modulus) is ∙ ap (λ (n : Residue ideal.modulus). n.0) z ∙ zero-mod ideal.modulus)),
+        (λ y g. same_residue ideal.modulus _ _ (ap (λ (n : ℕ). n % ideal.modulus) (above_all y t f e.form (subst (IsLetterwiseGreater y) (sym is) g)))),
       )
 
   -- each leading word of the ideal leads a row
-  pub leads_a_row : (es : List (List ℕ × Vd)) → AreEchelon es → (w : List ℕ) → IsLeadingWord p weights relations d w →
-      (e : List ℕ × Vd) × Contains es e × (e.0 ≡ w)
+  pub leads_a_row : (es : List (List ℕ × Vd)) → AreEchelon es → (w : List ℕ) → IsLeadingWord ideal d w → (e : List ℕ × Vd) × Contains es e × (e.0 ≡ w)
   leads_a_row es h w l =
       let i = l.inside in
       let o = first_of l.member w i.element l.lead in
-      greatest_leads p st.modulus es h.falling h.rows (vecd l.member)
+      greatest_leads ideal.modulus st.modulus es h.falling h.rows (vecd l.member)
       (same_span Kd (List ℕ) _ (vecd (flat_map terms_of i.multiples)) (vecd l.member)
-      (λ y. sym (same_vectors p st.modulus l.member (flat_map terms_of i.multiples) i.sum y))
+      (λ y. sym (same_vectors ideal.modulus st.modulus l.member (flat_map terms_of i.multiples) i.sum y))
       (multiples_spanned es h i.multiples i.each))
       w o.0 o.1
 
   -- what is 0 at the leading word of each row is 0 at each leading word of the ideal
   pub zero_at_leads : (es : List (List ℕ × Vd)) → AreEchelon es → (left : Vd) → ((e : List ℕ × Vd) → Contains es e → left e.0 ≡ Kd.zero) →
-      (w : List ℕ) → IsLeadingWord p weights relations d w → left w ≡ Kd.zero
+      (w : List ℕ) → IsLeadingWord ideal d w → left w ≡ Kd.zero
   zero_at_leads es h left zero w l = let e = leads_a_row es h w l in subst (λ (x : List ℕ). left x ≡ Kd.zero) e.2 (zero e.0 e.1)
 
   -- a product as a multiple
   multiple_of : Product → Multiple
-  multiple_of q = record { factor = q.coefficient; left = q.left; relation = relation_at relations q.relation; right = q.right }
+  multiple_of q = record { factor = q.coefficient; left = q.left; relation = relation_at ideal.relations q.relation; right = q.right }
 
-  is_multiple : (q : Product) → IsProduct p weights relations d q → IsMultiple p weights relations d (multiple_of q)
+  is_multiple : (q : Product) → IsProduct ideal d q → IsMultiple ideal d (multiple_of q)
   unfolding multiple_of
   is_multiple q h = record {
     residue = h.residue;
     left_over = h.left_over;
     right_over = h.right_over;
-    among = Contains-get_or relations (q.relation - 1) [] (omega (arith, h.from, h.upto));
+    among = Contains-get_or ideal.relations (q.relation - 1) [] (omega (arith, h.from, h.upto));
     degree = h.degree;
   }
 
-  same_terms : (qs : List Product) → flat_map (product_terms relations) qs ≡ flat_map terms_of (map multiple_of qs)
+  same_terms : (qs : List Product) → flat_map (product_terms ideal.relations) qs ≡ flat_map terms_of (map multiple_of qs)
   unfolding multiple_of
   same_terms [] = refl
-  same_terms (q ∷ qs) = ap (λ (f : List Term). product_terms relations q ++ f) (same_terms qs)
+  same_terms (q ∷ qs) = ap (λ (f : List Term). product_terms ideal.relations q ++ f) (same_terms qs)
 
   -- an element without leading words and a product list whose sum is the rest of f are the normal form and its
   -- product list
-  pub normal_from_products : (f t : List Term) (qs : List Product) → IsElement p weights d t → IsProductList p weights relations d qs →
-      IsSumWith p relations f t qs
-      → All (λ s. IsLeadingWord p weights relations d s.word → ⊥) t → IsNormalForm p weights relations d f t
+  pub normal_from_products : (f t : List Term) (qs : List Product) → IsElement ideal.modulus ideal.weights d t → IsProductList ideal d qs →
+      IsSumWith ideal.modulus ideal.relations f t qs
+      → All (λ s. IsLeadingWord ideal d s.word → ⊥) t → IsNormalForm ideal d f t
   normal_from_products f t qs e h s none = record {
     element = e;
     multiples = map multiple_of qs;
-    each = All-map (IsMultiple p weights relations d) multiple_of qs
-        (All-weaker (IsProduct p weights relations d) (λ q. IsMultiple p weights relations d (multiple_of q)) is_multiple qs h.each);
-    sum = λ w. s w ∙ ap (λ (g : List Term). total_at (t ++ g) w % p) (same_terms qs);
+    each = All-map (IsMultiple ideal d) multiple_of qs
+        (All-weaker (IsProduct ideal d) (λ q. IsMultiple ideal d (multiple_of q)) is_multiple qs h.each);
+    sum = λ w. s w ∙ ap (λ (g : List Term). total_at (t ++ g) w % ideal.modulus) (same_terms qs);
     normal = none;
   }
 
@@ -125,49 +124,52 @@ module _ (p : ℕ) (weights : List ℕ) (relations : List (List Term)) (st : IsS
   entry r = (lead_word r, vecd r.element)
 
   part_sum : (parts : List (ℕ × Row)) (w : List ℕ) → vecd (flat_map (λ (c : ℕ × Row). scaled c.0 c.1.element) parts) w
-      ≡ sum_of Kd (List ℕ) (map (λ (c : ℕ × Row). (vectors.of p st.modulus c.0, vecd c.1.element)) parts) w
-  part_sum [] w = same_residue p _ _ refl
+      ≡ sum_of Kd (List ℕ) (map (λ (c : ℕ × Row). (vectors.of ideal.modulus st.modulus c.0, vecd c.1.element)) parts) w
+  part_sum [] w = same_residue ideal.modulus _ _ refl
   part_sum (c ∷ cs) w =
-      vector_of-append p st.modulus (scaled c.0 c.1.element) (flat_map (λ (x : ℕ × Row). scaled x.0 x.1.element) cs) w
-      ∙ ap₂ Kd.add (vector_of-scaled p st.modulus c.0 c.1.element w) (part_sum cs w)
+      vector_of-append ideal.modulus st.modulus (scaled c.0 c.1.element) (flat_map (λ (x : ℕ × Row). scaled x.0 x.1.element) cs) w
+      ∙ ap₂ Kd.add (vector_of-scaled ideal.modulus st.modulus c.0 c.1.element w) (part_sum cs w)
 
-  span_from_parts : (rows : List Row) (f : List Term) → IsPlusSpan p rows f [] → IsInSpan Kd (List ℕ) (IsOf p st.modulus (map entry rows)) (vecd f)
+  span_from_parts : (rows : List Row) (f : List Term) → IsPlusSpan ideal.modulus rows f []
+      → IsInSpan Kd (List ℕ) (IsOf ideal.modulus st.modulus (map entry rows)) (vecd f)
   span_from_parts rows f s = record {
-    parts = map (λ (c : ℕ × Row). (vectors.of p st.modulus c.0, vecd c.1.element)) s.parts;
-    each = All-map (λ (c : Residue p × Vd). IsOf p st.modulus (map entry rows) c.1) (λ (c : ℕ × Row). (vectors.of p st.modulus c.0, vecd c.1.element)) s.parts
-        (All-weaker (λ (c : ℕ × Row). Contains rows c.1) (λ (c : ℕ × Row). IsOf p st.modulus (map entry rows) (vecd c.1.element))
+    parts = map (λ (c : ℕ × Row). (vectors.of ideal.modulus st.modulus c.0, vecd c.1.element)) s.parts;
+    each = All-map (λ (c : Residue ideal.modulus × Vd). IsOf ideal.modulus st.modulus (map entry rows) c.1)
+        (λ (c : ℕ × Row). (vectors.of ideal.modulus st.modulus c.0, vecd c.1.element)) s.parts
+        (All-weaker (λ (c : ℕ × Row). Contains rows c.1) (λ (c : ℕ × Row). IsOf ideal.modulus st.modulus (map entry rows) (vecd c.1.element))
         (λ c m. (entry c.1, Contains-map entry rows c.1 m, refl)) s.parts s.among);
-    sum = λ w. same_vectors p st.modulus f (flat_map (λ (c : ℕ × Row). scaled c.0 c.1.element) s.parts) s.sum w ∙ part_sum s.parts w;
+    sum = λ w. same_vectors ideal.modulus st.modulus f (flat_map (λ (c : ℕ × Row). scaled c.0 c.1.element) s.parts) s.sum w ∙ part_sum s.parts w;
   }
 
-  row_of_leader : (r : Row) → IsRow p r → IsMonic r.element → echelon.IsRow p st.modulus (entry r)
+  row_of_leader : (r : Row) → IsRow ideal.modulus r → IsMonic r.element → echelon.IsRow ideal.modulus st.modulus (entry r)
   row_of_leader r row monic = record {
-    one = same_residue p _ _ (ap (λ (n : ℕ). n % p) (one_at_lead r.element monic row.form));
-    above = λ y g. same_residue p _ _ (ap (λ (n : ℕ). n % p) (none_above r.element y row.form g));
+    one = same_residue ideal.modulus _ _ (ap (λ (n : ℕ). n % ideal.modulus) (one_at_lead r.element monic row.form));
+    above = λ y g. same_residue ideal.modulus _ _ (ap (λ (n : ℕ). n % ideal.modulus) (none_above r.element y row.form g));
   }
 
-  are_echelon : (rows : List Row) → AreLeaders p rows → All (λ f. IsPlusSpan p rows f [])
-      (map (triple_terms relations) (triples weights relations d)) → AreEchelon (map entry rows)
+  are_echelon : (rows : List Row) → AreLeaders ideal.modulus rows → All (λ f. IsPlusSpan ideal.modulus rows f [])
+      (map (triple_terms ideal.relations) (triples ideal.weights ideal.relations d)) → AreEchelon (map entry rows)
   are_echelon rows h spanned = record {
     falling = AllPairs-map entry (λ (r s : Row). IsLetterwiseGreater (lead_word r) (lead_word s))
         (λ (x y : List ℕ × Vd). IsLetterwiseGreater x.0 y.0) (λ r s g. g) rows h.falling;
-    rows = All-map (echelon.IsRow p st.modulus) entry rows (All-from_members (λ r. echelon.IsRow p st.modulus (entry r)) rows
-        (λ r m. row_of_leader r (All-contains (IsRow p) rows r h.each m) (All-contains (λ (s : Row). IsMonic s.element) rows r h.monic m)));
+    rows = All-map (echelon.IsRow ideal.modulus st.modulus) entry rows (All-from_members (λ r. echelon.IsRow ideal.modulus st.modulus (entry r)) rows
+        (λ r m. row_of_leader r (All-contains (IsRow ideal.modulus) rows r h.each m) (All-contains (λ (s : Row). IsMonic s.element) rows r h.monic m)));
     spans = λ m i.
-        let q = triple_of p weights relations st d m i in
-        subst (λ (f : List Term). IsInSpan Kd (List ℕ) (IsOf p st.modulus (map entry rows)) (vecd f)) q.2
-        (span_from_parts rows (triple_terms relations q.0)
-        (All-contains (λ (f : List Term). IsPlusSpan p rows f []) (map (triple_terms relations) (triples weights relations d))
-        (triple_terms relations q.0) spanned (Contains-map (triple_terms relations) (triples weights relations d) q.0 q.1)));
+        let q = triple_of ideal st d m i in
+        subst (λ (f : List Term). IsInSpan Kd (List ℕ) (IsOf ideal.modulus st.modulus (map entry rows)) (vecd f)) q.2
+        (span_from_parts rows (triple_terms ideal.relations q.0)
+        (All-contains (λ (f : List Term). IsPlusSpan ideal.modulus rows f []) (map (triple_terms ideal.relations) (triples ideal.weights ideal.relations d))
+        (triple_terms ideal.relations q.0) spanned (Contains-map (triple_terms ideal.relations) (triples ideal.weights ideal.relations d) q.0 q.1)));
   }
 
   -- an element that is 0 at the leading words of the rows has no leading word
-  pub normal_at_leads : (rows : List Row) → AreLeaders p rows → All (λ f. IsPlusSpan p rows f [])
-      (map (triple_terms relations) (triples weights relations d)) → (t : List Term) → IsElement p weights d t
-      → IsZeroAtLeads rows t → All (λ s. IsLeadingWord p weights relations d s.word → ⊥) t
-  normal_at_leads rows h spanned t e zero = All-from_members (λ s. IsLeadingWord p weights relations d s.word → ⊥) t (λ s m l.
+  pub normal_at_leads : (rows : List Row) → AreLeaders ideal.modulus rows → All (λ f. IsPlusSpan ideal.modulus rows f [])
+      (map (triple_terms ideal.relations) (triples ideal.weights ideal.relations d)) → (t : List Term) → IsElement ideal.modulus ideal.weights d t
+      → IsZeroAtLeads rows t → All (λ s. IsLeadingWord ideal d s.word → ⊥) t
+  normal_at_leads rows h spanned t e zero = All-from_members (λ s. IsLeadingWord ideal d s.word → ⊥) t (λ s m l.
       let none : vecd t s.word ≡ Kd.zero = zero_at_leads (map entry rows) (are_echelon rows h spanned) (vecd t)
       (λ x k. let r = Contains-map_cases entry rows x k in subst (λ (y : List ℕ × Vd). vecd t y.0 ≡ Kd.zero) r.2
-      (same_residue p _ _ (ap (λ (n : ℕ). n % p) (All-contains (λ (r : Row). total_at t (lead_word r) ≡ 0) rows r.0 zero r.1)))) s.word
+      (same_residue ideal.modulus _ _ (ap (λ (n : ℕ). n % ideal.modulus) (All-contains (λ (r : Row). total_at t (lead_word r) ≡ 0) rows r.0 zero r.1)))) s.word
       l in
-      All-contains (λ (u : Term). Stands p t u.word) t s (Stands-own p t e.form e.residues) m (ap (λ (n : Residue p). n.0) none ∙ zero-mod p))
+      All-contains (λ (u : Term). Stands ideal.modulus t u.word) t s (Stands-own ideal.modulus t e.form e.residues) m
+      (ap (λ (n : Residue ideal.modulus). n.0) none ∙ zero-mod ideal.modulus))

@@ -14,6 +14,7 @@ use Rattle.free_poly.specs.declared.term.Term.{Term}
 use Rattle.free_poly.specs.Terms.{HasDegree, IsSame, product, scaled, total_at}
 use Rattle.free_poly.proofs.Products.{HasDegree-product}
 use Rattle.free_poly.proofs.Totals.{total_at-append, total_at-scaled}
+use Rattle.ideal_laws.specs.Ideal.{Ideal}
 use Rattle.ideal_laws.specs.Kept.{lead_degree}
 use Rattle.ideal_laws.specs.Laws.{IsRelation, IsSetting}
 use Rattle.cofactors.specs.declared.factors.Factor.{Factor}
@@ -111,21 +112,22 @@ module _ (p : ℕ) (relations : List (List Term)) (qs : List Product) where
         | inr none ↦ absurd (Contains-none q none)
       ]
 
-module _ (p : ℕ) (weights : List ℕ) (relations : List (List Term)) (st : IsSetting p weights relations) (d : ℕ) where
+module _ (ideal : Ideal) (st : IsSetting ideal) (d : ℕ) where
   abbrev all : List Product
-  all = triples weights relations d
+  all = triples ideal.weights ideal.relations d
 
   -- a triple with a residue other than 0 is a product
-  pub product_from_triple : (c : ℕ) (s : Product) → 0 < c → c < p → Contains all s → IsProduct p weights relations d (record s { coefficient = c })
+  pub product_from_triple : (c : ℕ) (s : Product) → 0 < c → c < ideal.modulus → Contains all s → IsProduct ideal d (record s { coefficient = c })
   product_from_triple c s some small m =
-      let t = from_says weights st.are_weights d 1 relations s m in
+      let t = from_says ideal.weights st.are_weights d 1 ideal.relations s m in
       let k = t.0 in let lt = t.1 in let tr = t.2 in
-      let r = get_or relations k [] in
-      let at : relation_at relations s.relation ≡ r = ap (λ (n : ℕ). get_or relations n []) (omega (arith, tr.number)) in
-      let rel : IsRelation p weights r = All-contains (IsRelation p weights) relations r st.are_relations (k, lt, get_or_default relations k r [] lt) in
-      let degree : HasDegree weights d (product s.left r s.right) =
-      subst (λ (n : ℕ). HasDegree weights n (product s.left r s.right)) tr.degree
-      (HasDegree-product weights (lead_degree weights r) s.left r s.right (one_degree p weights r rel)) in
+      let r = get_or ideal.relations k [] in
+      let at : relation_at ideal.relations s.relation ≡ r = ap (λ (n : ℕ). get_or ideal.relations n []) (omega (arith, tr.number)) in
+      let rel : IsRelation ideal.modulus ideal.weights r = All-contains (IsRelation ideal.modulus ideal.weights) ideal.relations r st.are_relations
+      (k, lt, get_or_default ideal.relations k r [] lt) in
+      let degree : HasDegree ideal.weights d (product s.left r s.right) =
+      subst (λ (n : ℕ). HasDegree ideal.weights n (product s.left r s.right)) tr.degree
+      (HasDegree-product ideal.weights (lead_degree ideal.weights r) s.left r s.right (one_degree ideal.modulus ideal.weights r rel)) in
       record {
         other = some;
         residue = small;
@@ -133,38 +135,39 @@ module _ (p : ℕ) (weights : List ℕ) (relations : List (List Term)) (st : IsS
         upto = omega (arith, tr.number, lt);
         left_over = tr.left_over;
         right_over = tr.right_over;
-        degree = subst (HasDegree weights d) (ap (λ (f : List Term). product s.left f s.right) (sym at)) degree;
+        degree = subst (HasDegree ideal.weights d) (ap (λ (f : List Term). product s.left f s.right) (sym at)) degree;
       }
 
   abbrev Before : Factor → Factor → Type 0
-  Before f g = (f.place < g.place) × (g.place < length all) × ((f.residue < p) × (g.residue < p))
+  Before f g = (f.place < g.place) × (g.place < length all) × ((f.residue < ideal.modulus) × (g.residue < ideal.modulus))
 
   -- the products that take the factors away are a product list
-  pub negative_list : (factors : List Factor) → AreFactors p factors → HasPlaces (length all) factors →
-      IsProductList p weights relations d (negative_products p all factors)
+  pub negative_list : (factors : List Factor) → AreFactors ideal.modulus factors → HasPlaces (length all) factors →
+      IsProductList ideal d (negative_products ideal.modulus all factors)
   negative_list factors h k = record {
-    each = All-from_members (IsProduct p weights relations d) (negative_products p all factors) (λ q m.
-        let f = Contains-flat_map_cases (negative_at p all) factors q m in
-        let s = negative_says p relations all f.0 q (All-contains (λ x. x.residue < p) factors f.0 h.residues f.1) f.2 in
-        subst (IsProduct p weights relations d) s.3
+    each = All-from_members (IsProduct ideal d) (negative_products ideal.modulus all factors) (λ q m.
+        let f = Contains-flat_map_cases (negative_at ideal.modulus all) factors q m in
+        let s = negative_says ideal.modulus ideal.relations all f.0 q (All-contains (λ x. x.residue < ideal.modulus) factors f.0 h.residues f.1) f.2 in
+        subst (IsProduct ideal d) s.3
         (product_from_triple s.0 (get_or all f.0.place (triple 0 [] [])) s.1 s.2
         (Contains-get_or all f.0.place (triple 0 [] []) (All-contains (λ x. x.place < length all) factors f.0 k f.1))));
-    ordered = AllPairs-flat_map (negative_at p all) Before (StandsBefore weights) one_alone before factors
+    ordered = AllPairs-flat_map (negative_at ideal.modulus all) Before (StandsBefore ideal.weights) one_alone before factors
         (λ i j e lt within. (h.rising i j e lt within, k j e within, (h.residues i e (omega (arith, lt, within)), h.residues j e within)));
   }
     where
-      one_alone : (f : Factor) → AllPairs (StandsBefore weights) (negative_at p all f)
+      one_alone : (f : Factor) → AllPairs (StandsBefore ideal.weights) (negative_at ideal.modulus all f)
       one_alone f = by_test (f.residue == 0)
         where
-          by_test : (b : Bool) → AllPairs (StandsBefore weights) (cond b []
-              (record (get_or all f.place (triple 0 [] [])) { coefficient = negative_of p f.residue } ∷ []))
-          by_test true = AllPairs-nil (StandsBefore weights)
+          by_test : (b : Bool) → AllPairs (StandsBefore ideal.weights) (cond b []
+              (record (get_or all f.place (triple 0 [] [])) { coefficient = negative_of ideal.modulus f.residue } ∷ []))
+          by_test true = AllPairs-nil (StandsBefore ideal.weights)
           by_test false = λ i j e lt within. absurd (omega (arith, lt, within))
 
-      before : (f g : Factor) (q r : Product) → Before f g → Contains (negative_at p all f) q → Contains (negative_at p all g) r → StandsBefore weights q r
+      before : (f g : Factor) (q r : Product) → Before f g → Contains (negative_at ideal.modulus all f) q → Contains (negative_at ideal.modulus all g) r
+          → StandsBefore ideal.weights q r
       before f g q r b m n =
-          let x = negative_says p relations all f q b.2.0 m in
-          let y = negative_says p relations all g r b.2.1 n in
-          subst (λ (u : Product). StandsBefore weights u r) x.3 (subst
-          (StandsBefore weights (record (get_or all f.place (triple 0 [] [])) { coefficient = x.0 })) y.3
-          (from_ordered weights st.are_weights d 1 relations f.place g.place (triple 0 [] []) b.0 b.1))
+          let x = negative_says ideal.modulus ideal.relations all f q b.2.0 m in
+          let y = negative_says ideal.modulus ideal.relations all g r b.2.1 n in
+          subst (λ (u : Product). StandsBefore ideal.weights u r) x.3 (subst
+          (StandsBefore ideal.weights (record (get_or all f.place (triple 0 [] [])) { coefficient = x.0 })) y.3
+          (from_ordered ideal.weights st.are_weights d 1 ideal.relations f.place g.place (triple 0 [] []) b.0 b.1))

@@ -20,7 +20,7 @@ use Rattle.linear_algebra.specs.Mod.{Residue}
 use Rattle.linear_algebra.proofs.Algebra.{mul_neg, mul_zero, zero_add, IsInSpan-add, IsInSpan-scaled, IsInSpan-zero}
 use Rattle.linear_algebra.proofs.Elimination.{leads-zero, same_span}
 use Rattle.linear_algebra.proofs.ModField.{same_residue}
-use Rattle.ideal_laws.specs.Ideal.{IsElement, IsInIdeal, IsLeadingWord, IsMultiple, Multiple, terms_of}
+use Rattle.ideal_laws.specs.Ideal.{Ideal, IsElement, IsInIdeal, IsLeadingWord, IsMultiple, Multiple, terms_of}
 use Rattle.ideal_laws.specs.Laws.{IsSetting}
 use Rattle.ideal_laws.proofs.Leads.{element_form, element_from, element_inside, entries, found, had_from_rows, IsMemberVector, leading_listed}
 use Rattle.ideal_laws.proofs.Leads.{listed_leading, member_off, row_member, rows, vector_of_element}
@@ -81,27 +81,27 @@ module _ (p : ℕ) (fm : IsFieldModulus p) where
   zero_only : (a b : Residue p) → K.add a (K.neg b) ≡ K.zero → a ≡ b
   zero_only a b e = sym (restored a b) ∙ ap (λ (n : Residue p). K.add n b) e ∙ zero_add K b
 
-module _ (p : ℕ) (weights : List ℕ) (relations : List (List Term)) (st : IsSetting p weights relations) (d : ℕ) where
-  abbrev fm : IsFieldModulus p
+module _ (ideal : Ideal) (st : IsSetting ideal) (d : ℕ) where
+  abbrev fm : IsFieldModulus ideal.modulus
   fm = st.modulus
 
   abbrev Kd : Field
-  Kd = vectors.K p fm
+  Kd = vectors.K ideal.modulus fm
 
   abbrev Vd : Type 0
-  Vd = List ℕ → Residue p
+  Vd = List ℕ → Residue ideal.modulus
 
   abbrev columns : List (List ℕ)
-  columns = words_of_degree weights d
+  columns = words_of_degree ideal.weights d
 
   abbrev es : List (List ℕ × Vd)
-  es = rows p fm weights relations st d
+  es = rows ideal fm st d
 
   abbrev vec : List Term → Vd
-  vec f = vectors.vector_of p fm f
+  vec f = vectors.vector_of ideal.modulus fm f
 
   abbrev Member : Vd → Type 0
-  Member = IsMemberVector p fm weights relations st d
+  Member = IsMemberVector ideal fm st d
 
   -- the row combination with the entries of v at the leading columns
   abbrev had : Vd → Vd
@@ -111,12 +111,12 @@ module _ (p : ℕ) (weights : List ℕ) (relations : List (List Term)) (st : IsS
       Member (sum_of Kd (List ℕ) (from_leads Kd (List ℕ) fs v))
   had_member [] v h = IsInSpan-zero Kd (List ℕ) _
   had_member (e ∷ fs) v h = IsInSpan-add Kd (List ℕ) _ _ _ (IsInSpan-scaled Kd (List ℕ) _ (v e.0) e.1
-      (row_member p fm weights relations st d e (h e (Contains-first e fs)))) (had_member fs v (λ g m. h g (Contains-more e fs g m)))
+      (row_member ideal fm st d e (h e (Contains-first e fs)))) (had_member fs v (λ g m. h g (Contains-more e fs g m)))
 
   own_entry : (v : Vd) (e : List ℕ × Vd) → Contains es e → had v e.0 ≡ v e.0
-  own_entry v e m = own_at p fm columns es (found p fm weights relations st d).1.reduced v e m
+  own_entry v e m = own_at ideal.modulus fm columns es (found ideal fm st d).1.reduced v e m
 
-  module _ (f : List Term) (ef : IsElement p weights d f) where
+  module _ (f : List Term) (ef : IsElement ideal.modulus ideal.weights d f) where
     abbrev v : Vd
     v = vec f
 
@@ -128,133 +128,134 @@ module _ (p : ℕ) (weights : List ℕ) (relations : List (List Term)) (st : IsS
     left w = Kd.add (v w) (Kd.neg (s w))
 
     abbrev pub normal_form : List Term
-    normal_form = element_from p fm weights relations st d left
+    normal_form = element_from ideal fm st d left
 
     member_s : Member s
     member_s = had_member es v (λ e m. m)
 
-    inside_s : IsInIdeal p weights relations d (element_from p fm weights relations st d s)
-    inside_s = element_inside p fm weights relations st d s member_s
+    inside_s : IsInIdeal ideal d (element_from ideal fm st d s)
+    inside_s = element_inside ideal fm st d s member_s
 
     -- f is 0 off the words of the degree
     f_off : (w : List ℕ) → (Contains columns w → ⊥) → v w ≡ Kd.zero
-    f_off w off = same_residue p _ _ (ap (λ (n : ℕ). n % p) (total_at-absent f w (All-from_members (λ t. t.word ≢ w) f (λ t m e.
-        let over = All-contains (λ (t : Term). IsOver (length weights) t.word) f t ef.letters m in
-        let degree = All-contains (λ (t : Term). degree_of weights t.word ≡ d) f t ef.degree m in
-        off (subst (Contains columns) e (subst (λ (n : ℕ). Contains (words_of_degree weights n) t.word) degree
-        (listed_word weights st.are_weights t.word over)))))))
+    f_off w off = same_residue ideal.modulus _ _ (ap (λ (n : ℕ). n % ideal.modulus) (total_at-absent f w (All-from_members (λ t. t.word ≢ w) f (λ t m e.
+        let over = All-contains (λ (t : Term). IsOver (length ideal.weights) t.word) f t ef.letters m in
+        let degree = All-contains (λ (t : Term). degree_of ideal.weights t.word ≡ d) f t ef.degree m in
+        off (subst (Contains columns) e (subst (λ (n : ℕ). Contains (words_of_degree ideal.weights n) t.word) degree
+        (listed_word ideal.weights st.are_weights t.word over)))))))
 
     left_total : (w : List ℕ) → vec normal_form w ≡ left w
     left_total w = elim (listed columns w) [
-      | inl m ↦ same_residue p _ _ (ap (λ (n : ℕ). n % p) (from_words-total columns (entries p fm left) w
-          (words_of_degree-falling weights st.are_weights d) m) ∙ mod-eq_of_lt (left w).1)
-      | inr off ↦ same_residue p _ _ (ap (λ (n : ℕ). n % p) (from_words-absent columns (entries p fm left) w off) ∙ refl)
-          ∙ sym (ap₂ (λ (a b : Residue p). Kd.add a (Kd.neg b)) (f_off w off) (member_off p fm weights relations st d s member_s w off) ∙ Kd.add_neg Kd.zero)
+      | inl m ↦ same_residue ideal.modulus _ _ (ap (λ (n : ℕ). n % ideal.modulus) (from_words-total columns (entries ideal.modulus fm left) w
+          (words_of_degree-falling ideal.weights st.are_weights d) m) ∙ mod-eq_of_lt (left w).1)
+      | inr off ↦ same_residue ideal.modulus _ _ (ap (λ (n : ℕ). n % ideal.modulus) (from_words-absent columns (entries ideal.modulus fm left) w off) ∙ refl)
+          ∙ sym (ap₂ (λ (a b : Residue ideal.modulus). Kd.add a (Kd.neg b)) (f_off w off) (member_off ideal fm st d s member_s w off) ∙ Kd.add_neg Kd.zero)
     ]
 
     -- no word of it is a leading word
-    left_normal : All (λ t. IsLeadingWord p weights relations d t.word → ⊥) normal_form
-    left_normal = from_words-all (λ t. IsLeadingWord p weights relations d t.word → ⊥) columns (entries p fm left) (λ x m some l.
-        let there = Contains-map_cases (λ (e : List ℕ × Vd). e.0) es x (leading_listed p fm weights relations st d x l) in
+    left_normal : All (λ t. IsLeadingWord ideal d t.word → ⊥) normal_form
+    left_normal = from_words-all (λ t. IsLeadingWord ideal d t.word → ⊥) columns (entries ideal.modulus fm left) (λ x m some l.
+        let there = Contains-map_cases (λ (e : List ℕ × Vd). e.0) es x (leading_listed ideal fm st d x l) in
         let same : s x ≡ v x = subst (λ (y : List ℕ). had v y ≡ v y) there.2 (own_entry v there.0 there.1) in
-        let zero : left x ≡ Kd.zero = ap (λ (n : Residue p). Kd.add (v x) (Kd.neg n)) same ∙ Kd.add_neg (v x) in
-        some (ap (λ (n : Residue p). n.0) zero ∙ zero-mod p))
+        let zero : left x ≡ Kd.zero = ap (λ (n : Residue ideal.modulus). Kd.add (v x) (Kd.neg n)) same ∙ Kd.add_neg (v x) in
+        some (ap (λ (n : Residue ideal.modulus). n.0) zero ∙ zero-mod ideal.modulus))
 
-    pub is_normal_form : IsNormalForm p weights relations d f normal_form
+    pub is_normal_form : IsNormalForm ideal d f normal_form
     is_normal_form = record {
-      element = element_form p fm weights relations st d left;
+      element = element_form ideal fm st d left;
       multiples = inside_s.multiples;
       each = inside_s.each;
-      sum = λ w. ap (λ (n : Residue p). n.0) (sym (vector_of-append p fm normal_form (flat_map terms_of inside_s.multiples) w
-          ∙ ap₂ Kd.add (left_total w) (sym (same_vectors p fm _ (flat_map terms_of inside_s.multiples) inside_s.sum w)
-          ∙ vector_of_element p fm weights relations st d s member_s w)
-          ∙ restored p fm (v w) (s w)));
+      sum = λ w. ap (λ (n : Residue ideal.modulus). n.0) (sym (vector_of-append ideal.modulus fm normal_form (flat_map terms_of inside_s.multiples) w
+          ∙ ap₂ Kd.add (left_total w) (sym (same_vectors ideal.modulus fm _ (flat_map terms_of inside_s.multiples) inside_s.sum w)
+          ∙ vector_of_element ideal fm st d s member_s w)
+          ∙ restored ideal.modulus fm (v w) (s w)));
       normal = left_normal;
     }
 
-  none_at : (t : List Term) → All (λ s. IsLeadingWord p weights relations d s.word → ⊥) t → (w : List ℕ) →
-      IsLeadingWord p weights relations d w → vec t w ≡ Kd.zero
-  none_at t h w l = same_residue p _ _ (ap (λ (n : ℕ). n % p) (total_at-absent t w
-      (All-from_members (λ s. s.word ≢ w) t (λ s m e. All-contains (λ (s : Term). IsLeadingWord p weights relations d s.word → ⊥) t s h m
-      (subst (IsLeadingWord p weights relations d) (sym e) l)))))
+  none_at : (t : List Term) → All (λ s. IsLeadingWord ideal d s.word → ⊥) t → (w : List ℕ) → IsLeadingWord ideal d w → vec t w ≡ Kd.zero
+  none_at t h w l = same_residue ideal.modulus _ _ (ap (λ (n : ℕ). n % ideal.modulus) (total_at-absent t w
+      (All-from_members (λ s. s.word ≢ w) t (λ s m e. All-contains (λ (s : Term). IsLeadingWord ideal d s.word → ⊥) t s h m
+      (subst (IsLeadingWord ideal d) (sym e) l)))))
 
   abbrev sum_vector : List Multiple → Vd
   sum_vector ms = vec (flat_map terms_of ms)
 
-  span_of : (ms : List Multiple) → All (IsMultiple p weights relations d) ms → Member (sum_vector ms)
+  span_of : (ms : List Multiple) → All (IsMultiple ideal d) ms → Member (sum_vector ms)
   span_of ms each = record {
-    parts = map (vectors.part p fm) ms;
+    parts = map (vectors.part ideal.modulus fm) ms;
     each =
-        All-map (λ c. IsProductVector p fm weights relations d c.1) (vectors.part p fm) ms
+        All-map (λ c. IsProductVector ideal fm d c.1) (vectors.part ideal.modulus fm) ms
         (λ k m within. record { multiple = _; is_multiple = each k m within; is = refl });
-    sum = vector_of-multiples p fm ms;
+    sum = vector_of-multiples ideal.modulus fm ms;
   }
 
   -- the sum of the ones less that of the others
   abbrev difference : List Multiple → List Multiple → Vd
   difference ms ns w = Kd.add (sum_vector ms w) (Kd.neg (sum_vector ns w))
 
-  difference_member : (ms ns : List Multiple) → All (IsMultiple p weights relations d) ms → All (IsMultiple p weights relations d) ns →
+  difference_member : (ms ns : List Multiple) → All (IsMultiple ideal d) ms → All (IsMultiple ideal d) ns →
       Member (difference ms ns)
   difference_member ms ns h k = same_span Kd (List ℕ) _ (λ w. Kd.add (sum_vector ms w) (Kd.mul (Kd.neg Kd.one) (sum_vector ns w)))
-      (difference ms ns) (λ w. ap (Kd.add (sum_vector ms w)) (minus p fm (sum_vector ns w)))
+      (difference ms ns) (λ w. ap (Kd.add (sum_vector ms w)) (minus ideal.modulus fm (sum_vector ns w)))
       (IsInSpan-add Kd (List ℕ) _ (sum_vector ms) _ (span_of ms h) (IsInSpan-scaled Kd (List ℕ) _ (Kd.neg Kd.one) (sum_vector ns) (span_of ns k)))
 
   -- a member that is 0 at each leading word is 0
   zero_member : (u : Vd) → Member u → ((e : List ℕ × Vd) → Contains es e → u e.0 ≡ Kd.zero) → (w : List ℕ) → u w ≡ Kd.zero
   zero_member u member zero w = elim (listed columns w) [
-    | inl m ↦ same_at p fm columns u (had u) (had_from_rows p fm weights relations st d u member) w m ∙ sum-zero p fm es u zero w
-    | inr off ↦ member_off p fm weights relations st d u member w off
+    | inl m ↦ same_at ideal.modulus fm columns u (had u) (had_from_rows ideal fm st d u member) w m ∙ sum-zero ideal.modulus fm es u zero w
+    | inr off ↦ member_off ideal fm st d u member w off
   ]
 
   -- two normal forms of one element are one
-  same_forms : (f t u : List Term) → IsNormalForm p weights relations d f t → IsNormalForm p weights relations d f u → t ≡ u
+  same_forms : (f t u : List Term) → IsNormalForm ideal d f t → IsNormalForm ideal d f u → t ≡ u
   same_forms f t u a b =
       let is_diff : (w : List ℕ) → Kd.add (vec t w) (Kd.neg (vec u w)) ≡ difference b.multiples a.multiples w = λ w.
-      exchanged p fm (vec t w) (sum_vector a.multiples w) (vec u w) (sum_vector b.multiples w)
-      (sym (vector_of-append p fm t (flat_map terms_of a.multiples) w) ∙ sym (same_vectors p fm f _ a.sum w) ∙ same_vectors p fm f _ b.sum w
-      ∙ vector_of-append p fm u (flat_map terms_of b.multiples) w) in
+      exchanged ideal.modulus fm (vec t w) (sum_vector a.multiples w) (vec u w) (sum_vector b.multiples w)
+      (sym (vector_of-append ideal.modulus fm t (flat_map terms_of a.multiples) w) ∙ sym (same_vectors ideal.modulus fm f _ a.sum w)
+      ∙ same_vectors ideal.modulus fm f _ b.sum w
+      ∙ vector_of-append ideal.modulus fm u (flat_map terms_of b.multiples) w) in
       let zero_leads : (e : List ℕ × Vd) → Contains es e → difference b.multiples a.multiples e.0 ≡ Kd.zero = λ e m.
-      let l = listed_leading p fm weights relations st d e.0 (Contains-map (λ (c : List ℕ × Vd). c.0) es e m) in
-      sym (is_diff e.0) ∙ ap₂ (λ (m n : Residue p). Kd.add m (Kd.neg n)) (none_at t a.normal e.0 l) (none_at u b.normal e.0 l) ∙ Kd.add_neg Kd.zero in
-      same_polynomials p t u a.element.form b.element.form a.element.residues b.element.residues
-      (λ w. ap (λ (n : Residue p). n.0) (zero_only p fm (vec t w) (vec u w)
+      let l = listed_leading ideal fm st d e.0 (Contains-map (λ (c : List ℕ × Vd). c.0) es e m) in
+      sym (is_diff e.0) ∙ ap₂ (λ (m n : Residue ideal.modulus). Kd.add m (Kd.neg n)) (none_at t a.normal e.0 l) (none_at u b.normal e.0 l)
+      ∙ Kd.add_neg Kd.zero in
+      same_polynomials ideal.modulus t u a.element.form b.element.form a.element.residues b.element.residues
+      (λ w. ap (λ (n : Residue ideal.modulus). n.0) (zero_only ideal.modulus fm (vec t w) (vec u w)
       (is_diff w ∙ zero_member (difference b.multiples a.multiples) (difference_member b.multiples a.multiples b.each a.each) zero_leads
       w)))
 
   -- 0 is the normal form of a member
-  pub zero_of_member : (f : List Term) → IsInIdeal p weights relations d f → IsNormalForm p weights relations d f []
+  pub zero_of_member : (f : List Term) → IsInIdeal ideal d f → IsNormalForm ideal d f []
   zero_of_member f i = record {
     element = record {
       form = record { falling = AllPairs-nil (λ s t. IsLetterwiseGreater s.word t.word); nonzero = All-nil (λ t. t.coefficient ≢ 0) };
-      residues = All-nil (λ t. t.coefficient < p);
-      letters = All-nil (λ t. IsOver (length weights) t.word);
-      degree = All-nil (λ t. degree_of weights t.word ≡ d);
+      residues = All-nil (λ t. t.coefficient < ideal.modulus);
+      letters = All-nil (λ t. IsOver (length ideal.weights) t.word);
+      degree = All-nil (λ t. degree_of ideal.weights t.word ≡ d);
     };
     multiples = i.multiples;
     each = i.each;
     sum = i.sum;
-    normal = All-nil (λ s. IsLeadingWord p weights relations d s.word → ⊥);
+    normal = All-nil (λ s. IsLeadingWord ideal d s.word → ⊥);
   }
 
-  member_of_zero : (f t : List Term) → IsElement p weights d f → IsNormalForm p weights relations d f t → t ≡ [] → IsInIdeal p weights relations d f
+  member_of_zero : (f t : List Term) → IsElement ideal.modulus ideal.weights d f → IsNormalForm ideal d f t → t ≡ [] → IsInIdeal ideal d f
   member_of_zero f t ef n e = record {
     element = ef;
     multiples = n.multiples;
     each = n.each;
-    sum = λ w. n.sum w ∙ ap (λ (g : List Term). total_at (g ++ flat_map terms_of n.multiples) w % p) e;
+    sum = λ w. n.sum w ∙ ap (λ (g : List Term). total_at (g ++ flat_map terms_of n.multiples) w % ideal.modulus) e;
   }
 
 pub has_normal_form : HasNormalForm
-has_normal_form p weights relations st d f ef = record {
-  value = normal_form p weights relations st d f ef;
-  holds = is_normal_form p weights relations st d f ef;
-  only = λ t h. same_forms p weights relations st d f t _ h (is_normal_form p weights relations st d f ef);
+has_normal_form ideal st d f ef = record {
+  value = normal_form ideal st d f ef;
+  holds = is_normal_form ideal st d f ef;
+  only = λ t h. same_forms ideal st d f t _ h (is_normal_form ideal st d f ef);
 }
 
 pub tells_members : TellsMembers
-tells_members p weights relations st d f t ef n = (
-  λ i. same_forms p weights relations st d f t [] n
-      (zero_of_member p weights relations st d f i),
-  member_of_zero p weights relations st d f t ef n,
+tells_members ideal st d f t ef n = (
+  λ i. same_forms ideal st d f t [] n
+      (zero_of_member ideal st d f i),
+  member_of_zero ideal st d f t ef n,
 )

@@ -18,7 +18,7 @@ use Rattle.linear_algebra.specs.Fields.{Field}
 use Rattle.linear_algebra.specs.Mod.{Residue}
 use Rattle.linear_algebra.proofs.Algebra.{add_left_comm, mul_zero, zero_add}
 use Rattle.linear_algebra.proofs.ModField.{same_residue}
-use Rattle.ideal_laws.specs.Ideal.{IsMultiple, Multiple, terms_of}
+use Rattle.ideal_laws.specs.Ideal.{Ideal, IsMultiple, Multiple, terms_of}
 use Rattle.ideal_laws.specs.Kept.{lead_degree}
 use Rattle.ideal_laws.specs.Laws.{IsRelation, IsSetting}
 use Rattle.ideal_laws.proofs.Vectors.{same_vectors, vector_of-append, vector_of-scaled}
@@ -219,73 +219,74 @@ module _ (p : ℕ) (fm : IsFieldModulus p) (relations : List (List Term)) where
             ∙ sym (weighted-add_at m.factor t.1.0 r.coefficients qs t.0 w t.1.1 r.count t.1.2);
       }
 
-module _ (p : ℕ) (weights : List ℕ) (relations : List (List Term)) (st : IsSetting p weights relations) (d : ℕ) where
+module _ (ideal : Ideal) (st : IsSetting ideal) (d : ℕ) where
   abbrev all : List Product
-  all = triples weights relations d
+  all = triples ideal.weights ideal.relations d
 
-  relation_is : (k : ℕ) (r : List Term) → k < length relations → get_or relations k r ≡ r → relation_at relations (1 + k) ≡ r
-  relation_is k r lt e = ap (λ (n : ℕ). get_or relations n []) (omega arith) ∙ get_or_default relations k [] r lt ∙ e
+  relation_is : (k : ℕ) (r : List Term) → k < length ideal.relations → get_or ideal.relations k r ≡ r → relation_at ideal.relations (1 + k) ≡ r
+  relation_is k r lt e = ap (λ (n : ℕ). get_or ideal.relations n []) (omega arith) ∙ get_or_default ideal.relations k [] r lt ∙ e
 
   -- the triple of a multiple
-  pub triple_of : (m : Multiple) → IsMultiple p weights relations d m →
-      (q : Product) × Contains all q × (core p st.modulus relations q ≡ product m.left m.relation m.right)
+  pub triple_of : (m : Multiple) → IsMultiple ideal d m →
+      (q : Product) × Contains all q × (core ideal.modulus st.modulus ideal.relations q ≡ product m.left m.relation m.right)
   triple_of m i =
       let k = i.among in
       let q : Product = record { coefficient = 0; left = m.left; relation = 1 + k.0; right = m.right } in
-      let r = All-contains (IsRelation p weights) relations m.relation st.are_relations i.among in (
+      let r = All-contains (IsRelation ideal.modulus ideal.weights) ideal.relations m.relation st.are_relations i.among in (
         q,
-        from_listed weights st.are_weights d 1 relations k.0 m.relation q k.1 k.2
+        from_listed ideal.weights st.are_weights d 1 ideal.relations k.0 m.relation q k.1 k.2
             (record {
               none = refl;
               number = refl;
               left_over = i.left_over;
               right_over = i.right_over;
-              degree = degree_of_round weights d m.left m.relation m.right r.other i.degree;
+              degree = degree_of_round ideal.weights d m.left m.relation m.right r.other i.degree;
             }),
         ap (λ (f : List Term). product m.left f m.right) (relation_is k.0 m.relation k.1 k.2),
       )
 
   -- each member of the list is a product
-  is_product : (cs : List ℕ) (q : Product) → All (λ c. c < p) cs → Contains (listed_products p st.modulus relations cs all) q →
-      IsProduct p weights relations d q
+  is_product : (cs : List ℕ) (q : Product) → All (λ c. c < ideal.modulus) cs → Contains (listed_products ideal.modulus st.modulus ideal.relations cs all) q →
+      IsProduct ideal d q
   is_product cs q h m =
-      let s = listed-says p st.modulus relations cs all q h m in
-      let t = from_says weights st.are_weights d 1 relations s.0 s.1 in
+      let s = listed-says ideal.modulus st.modulus ideal.relations cs all q h m in
+      let t = from_says ideal.weights st.are_weights d 1 ideal.relations s.0 s.1 in
       let k = t.0 in let lt = t.1 in let tr = t.2 in
-      let r = get_or relations k [] in
+      let r = get_or ideal.relations k [] in
       let number : q.relation ≡ 1 + k = s.3.1 ∙ tr.number in
-      let at : relation_at relations q.relation ≡ r = ap (λ (n : ℕ). get_or relations n []) (omega (arith, number)) in
-      let rel : IsRelation p weights r = All-contains (IsRelation p weights) relations r st.are_relations (k, lt, get_or_default relations k r [] lt) in
-      let degree : HasDegree weights d (product s.0.left r s.0.right) =
-      subst (λ (n : ℕ). HasDegree weights n (product s.0.left r s.0.right)) tr.degree
-      (HasDegree-product weights (lead_degree weights r) s.0.left r s.0.right (one_degree p weights r rel)) in
+      let at : relation_at ideal.relations q.relation ≡ r = ap (λ (n : ℕ). get_or ideal.relations n []) (omega (arith, number)) in
+      let rel : IsRelation ideal.modulus ideal.weights r = All-contains (IsRelation ideal.modulus ideal.weights) ideal.relations r st.are_relations
+      (k, lt, get_or_default ideal.relations k r [] lt) in
+      let degree : HasDegree ideal.weights d (product s.0.left r s.0.right) =
+      subst (λ (n : ℕ). HasDegree ideal.weights n (product s.0.left r s.0.right)) tr.degree
+      (HasDegree-product ideal.weights (lead_degree ideal.weights r) s.0.left r s.0.right (one_degree ideal.modulus ideal.weights r rel)) in
       record {
         other = s.2.0;
         residue = s.2.1;
         from = omega (arith, number);
         upto = omega (arith, number, lt);
-        left_over = subst (IsOver (length weights)) (sym s.3.0) tr.left_over;
-        right_over = subst (IsOver (length weights)) (sym s.3.2) tr.right_over;
-        degree = subst (HasDegree weights d) (sym (λ i. product (s.3.0 i) (at i) (s.3.2 i))) degree;
+        left_over = subst (IsOver (length ideal.weights)) (sym s.3.0) tr.left_over;
+        right_over = subst (IsOver (length ideal.weights)) (sym s.3.2) tr.right_over;
+        degree = subst (HasDegree ideal.weights d) (sym (λ i. product (s.3.0 i) (at i) (s.3.2 i))) degree;
       }
 
-  pub product_list : (f t : List Term) → IsNormalForm p weights relations d f t →
-      (products : List Product) × IsProductList p weights relations d products
-      × IsSame p f (t ++ flat_map (product_terms relations) products)
+  pub product_list : (f t : List Term) → IsNormalForm ideal d f t → (products : List Product) × IsProductList ideal d products
+      × IsSame ideal.modulus f (t ++ flat_map (product_terms ideal.relations) products)
   product_list f t n =
-      let c = coefficients_of p st.modulus relations all (IsMultiple p weights relations d) triple_of n.multiples n.each in
-      let products = listed_products p st.modulus relations c.coefficients all in (
+      let c = coefficients_of ideal.modulus st.modulus ideal.relations all (IsMultiple ideal d) triple_of n.multiples n.each in
+      let products = listed_products ideal.modulus st.modulus ideal.relations c.coefficients all in (
         products,
         record {
-          each = All-from_members (IsProduct p weights relations d) products (λ q m. is_product c.coefficients q c.residues m);
-          ordered = listed-ordered p st.modulus relations weights c.coefficients all c.residues (from_ordered weights st.are_weights d 1 relations);
+          each = All-from_members (IsProduct ideal d) products (λ q m. is_product c.coefficients q c.residues m);
+          ordered = listed-ordered ideal.modulus st.modulus ideal.relations ideal.weights c.coefficients all c.residues
+              (from_ordered ideal.weights st.are_weights d 1 ideal.relations);
         },
-        λ w. ap (λ (n : Residue p). n.0) (same_vectors p st.modulus f (t ++ flat_map terms_of n.multiples) n.sum w
-            ∙ vector_of-append p st.modulus t (flat_map terms_of n.multiples) w
-            ∙ ap (λ (m : Residue p). (vectors.K p st.modulus).add (vectors.vector_of p st.modulus t w) m)
-            (c.same w ∙ same_listed p st.modulus relations c.coefficients all w)
-            ∙ sym (vector_of-append p st.modulus t (flat_map (product_terms relations) products) w)),
+        λ w. ap (λ (n : Residue ideal.modulus). n.0) (same_vectors ideal.modulus st.modulus f (t ++ flat_map terms_of n.multiples) n.sum w
+            ∙ vector_of-append ideal.modulus st.modulus t (flat_map terms_of n.multiples) w
+            ∙ ap (λ (m : Residue ideal.modulus). (vectors.K ideal.modulus st.modulus).add (vectors.vector_of ideal.modulus st.modulus t w) m)
+            (c.same w ∙ same_listed ideal.modulus st.modulus ideal.relations c.coefficients all w)
+            ∙ sym (vector_of-append ideal.modulus st.modulus t (flat_map (product_terms ideal.relations) products) w)),
       )
 
 pub has_product_list : HasProductList
-has_product_list p weights relations st d f t n = product_list p weights relations st d f t n
+has_product_list ideal st d f t n = product_list ideal st d f t n

@@ -4,10 +4,10 @@ use Rattle.free_poly.specs.declared.term.Term.{Term}
 use Rattle.cofactors.specs.declared.certificate.Certificate.{Certificate}
 use Rattle.cofactors.specs.NormalForm.{IsNormalForm}
 use Rattle.cofactors.specs.ProductList.{IsProductList, IsSumWith}
+use Rattle.ideal_laws.specs.Ideal.{Ideal}
 
 -- the normal form of f, and a product list with the sum f less this
-pub record IsCertificate (p : ℕ) (weights : List ℕ) (relations : List (List Term)) (d : ℕ) (f : List Term)
-    (c : Certificate) : Type 0 where
-  pub is_normal : IsNormalForm p weights relations d f c.normal
-  pub are_products : IsProductList p weights relations d c.products
-  pub sum : IsSumWith p relations f c.normal c.products
+pub record IsCertificate (ideal : Ideal) (d : ℕ) (f : List Term) (c : Certificate) : Type 0 where
+  pub is_normal : IsNormalForm ideal d f c.normal
+  pub are_products : IsProductList ideal d c.products
+  pub sum : IsSumWith ideal.modulus ideal.relations f c.normal c.products

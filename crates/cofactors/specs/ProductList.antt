@@ -6,6 +6,7 @@ use Rattle.words.specs.Words.{IsOver, words_of_degree}
 use Rattle.words.specs.Order.{IsGreater}
 use Rattle.free_poly.specs.declared.term.Term.{Term}
 use Rattle.free_poly.specs.Terms.{HasDegree, IsSame, product, scaled}
+use Rattle.ideal_laws.specs.Ideal.{Ideal}
 use Rattle.ideal_laws.specs.Kept.{lead_degree}
 use Rattle.cofactors.specs.declared.product.Product.{Product}
 
@@ -22,15 +23,14 @@ abbrev pub product_terms : List (List Term) → Product → List Term
 product_terms relations q = scaled q.coefficient (triple_terms relations q)
 
 -- a residue other than 0, the number of a relation, and words round it, of this degree together
-pub record IsProduct (p : ℕ) (weights : List ℕ) (relations : List (List Term)) (d : ℕ) (q : Product)
-    : Type 0 where
+pub record IsProduct (ideal : Ideal) (d : ℕ) (q : Product) : Type 0 where
   pub other : 0 < q.coefficient
-  pub residue : q.coefficient < p
+  pub residue : q.coefficient < ideal.modulus
   pub from : 0 < q.relation
-  pub upto : q.relation ≤ length relations
-  pub left_over : IsOver (length weights) q.left
-  pub right_over : IsOver (length weights) q.right
-  pub degree : HasDegree weights d (triple_terms relations q)
+  pub upto : q.relation ≤ length ideal.relations
+  pub left_over : IsOver (length ideal.weights) q.left
+  pub right_over : IsOver (length ideal.weights) q.right
+  pub degree : HasDegree ideal.weights d (triple_terms ideal.relations q)
 
 -- by rising number of the relation, then by falling word before it, and then by falling word behind it
 abbrev pub StandsBefore : List ℕ → Product → Product → Type 0
@@ -40,10 +40,9 @@ StandsBefore weights q r =
     × (IsGreater weights q.left r.left ⊎ ((q.left ≡ r.left) × IsGreater weights q.right r.right)))
 
 -- products of degree d in their order, so that no triple stands twice
-pub record IsProductList (p : ℕ) (weights : List ℕ) (relations : List (List Term)) (d : ℕ) (products : List Product)
-    : Type 0 where
-  pub each : All (IsProduct p weights relations d) products
-  pub ordered : AllPairs (StandsBefore weights) products
+pub record IsProductList (ideal : Ideal) (d : ℕ) (products : List Product) : Type 0 where
+  pub each : All (IsProduct ideal d) products
+  pub ordered : AllPairs (StandsBefore ideal.weights) products
 
 -- f is t and the sum of the list
 abbrev pub IsSumWith : ℕ → List (List Term) → List Term → List Term → List Product → Type 0

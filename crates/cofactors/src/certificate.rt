@@ -1,7 +1,7 @@
 ghost use Rattle.std.specs.Prelude.{◌≡◌, ◌≢◌, ◌<◌, ◌≤◌, ◌↔◌, [], All, IfOk, IsErrOf, IsTrue, OnOk, length};
 ghost use Rattle.free_poly.specs.Terms.{HasOneDegree, HasResidues, UsesLetters};
 ghost use Rattle.ideal_laws.specs.Engine.{IsReducedUpto};
-ghost use Rattle.ideal_laws.specs.Ideal.{IsInIdeal};
+ghost use Rattle.ideal_laws.specs.Ideal.{IsInIdeal, ideal_over};
 ghost use Rattle.ideal_laws.specs.Kept.{lead_degree};
 ghost use Rattle.lead_index.specs.Leads.{IsFree, IsIndexOf};
 ghost use Rattle.cofactors.specs.Certificate.{IsCertificate};
@@ -70,9 +70,11 @@ pub fn normal_form(
     requires few { most ≤ 16384 }
 
     ensures certificate { let weights = basis.now.weights in IfOk result
-        (IsCertificate field.now weights presentation.now.relations (lead_degree weights question.now) question.now) }
-    ensures member { let weights = basis.now.weights in IfOk result (λ c. IsInIdeal field.now weights
-        presentation.now.relations (lead_degree weights question.now) question.now ↔ (c.normal ≡ [])) }
+        (IsCertificate (ideal_over field.now weights presentation.now.relations) (lead_degree weights question.now)
+        question.now) }
+    ensures member { let weights = basis.now.weights in IfOk result
+        (λ c. IsInIdeal (ideal_over field.now weights presentation.now.relations) (lead_degree weights question.now)
+        question.now ↔ (c.normal ≡ [])) }
     ensures within { let weights = basis.now.weights in OnOk result
         (length (triples weights presentation.now.relations (lead_degree weights question.now)) ≤ most) }
 

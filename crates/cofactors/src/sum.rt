@@ -3,6 +3,7 @@ ghost use Rattle.std.specs.List.{flat_map};
 ghost use Rattle.free_poly.specs.Poly.{IsPolynomial};
 ghost use Rattle.free_poly.specs.Terms.{HasResidues, IsSame};
 ghost use Rattle.cofactors.specs.ProductList.{IsProduct, product_terms};
+ghost use Rattle.ideal_laws.specs.Ideal.{ideal_of};
 
 use crate::product::Product;
 use field_table::Field;
@@ -18,9 +19,7 @@ pub fn expand(
     presentation: &Presentation,
     products: &[Product],
 ) -> Result<Poly, NoMemory>
-    requires products { (d : ℕ) × All (IsProduct field.now presentation.now.alphabet.weights
-        presentation.now.relations d)
-        products.now }
+    requires products { (d : ℕ) × All (IsProduct (ideal_of field.now presentation.now) d) products.now }
     requires relations { All (HasResidues field.now) presentation.now.relations }
 
     ensures sum { IfOk result (λ f. IsSame field.now f (flat_map (product_terms presentation.now.relations)

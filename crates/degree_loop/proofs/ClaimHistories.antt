@@ -7,6 +7,7 @@ use Rattle.words.proofs.Members.{AllPairs-nil, Contains-map, Contains-map_cases}
 use Rattle.field_table.specs.Residues.{IsFieldModulus}
 use Rattle.free_poly.specs.declared.term.Term.{Term}
 use Rattle.free_poly.specs.Poly.{element_on, lead_of}
+use Rattle.ideal_laws.specs.Ideal.{Ideal}
 use Rattle.ideal_laws.specs.declared.account.Account.{Account}
 use Rattle.ideal_laws.specs.declared.account.Answer.TheVariants as answer
 use Rattle.ideal_laws.specs.declared.account.Call.{Call}
@@ -94,11 +95,10 @@ module _ (problem : Problem) (crew : ℕ) (s : State) (rule : ClaimedPivots prob
       (k, All-contains (Contains calls) own k (legal.inside i.0 lt) (Contains-get_or own j.0 none j.1), won.0, won.1)
 
 -- the leading words of a degree are those of the held columns
-module _ (p : ℕ) (weights : List ℕ) (relations : List (List Term)) (st : IsSetting p weights relations) (d : ℕ) (G : List (List Term))
-    (lower : AreLower p weights relations d G)
-    (closed : ClosedColumns) (problem : Problem) (matrix : IsMatrix p weights relations G d closed problem) (s : State)
+module _ (ideal : Ideal) (st : IsSetting ideal) (d : ℕ) (G : List (List Term)) (lower : AreLower ideal d G)
+    (closed : ClosedColumns) (problem : Problem) (matrix : IsMatrix ideal G d closed problem) (s : State)
     (pivots : ArePivots problem (holders problem s) (values problem s))
-    (form_law : HaveOneRref) (basis_law : RowsGiveBasis) (elements : List (List Term)) (basis : IsReducedBasis p weights relations d elements) where
+    (form_law : HaveOneRref) (basis_law : RowsGiveBasis) (elements : List (List Term)) (basis : IsReducedBasis ideal d elements) where
   abbrev contested : List (List ℕ)
   contested = contested_words closed.columns closed.reducers
 
@@ -111,9 +111,9 @@ module _ (p : ℕ) (weights : List ℕ) (relations : List (List Term)) (st : IsS
   form : IsRref problem.modulus problem.m (rows_of problem) echelon
   form = (form_law problem.modulus problem.m (rows_of problem) modulus problem.each).form
 
-  own_basis : IsReducedBasis p weights relations d (map (element_on contested) echelon)
-  own_basis = basis_law p weights relations st d G lower matrix.rows closed.columns closed.reducers matrix.are_closed (rows_of problem)
-      matrix.contested echelon (form_of p weights relations G d closed problem matrix echelon form)
+  own_basis : IsReducedBasis ideal d (map (element_on contested) echelon)
+  own_basis = basis_law ideal st d G lower matrix.rows closed.columns closed.reducers matrix.are_closed (rows_of problem)
+      matrix.contested echelon (form_of ideal G d closed problem matrix echelon form)
 
   led_word : (r : List ℕ) (c : ℕ) → c < problem.m → LeadsAt c r → lead_of (element_on contested r) ≡ Some (get_or contested c [])
   led_word r c lt h = (element_on-first contested r c (omega (arith, lt, matrix.width)) h.before h.one).0
@@ -141,7 +141,7 @@ account_is : (account : Account) (n : ℕ) (words : List (List ℕ)) (ks : List 
 account_is account n words ks r c k = λ i. record { rows = r i; columns = c i; calls = k i }
 
 pub run_accounts_tell : ClaimedPivotsLaw → HeldRowsArePivots → OneLegalHistory → HistoryMergesLogs → HaveOneRref → RowsGiveBasis → RunAccountsTell
-run_accounts_tell rules pivot_law histories merges form_law basis_law workers p weights relations st some few d G lower account run elements basis =
+run_accounts_tell rules pivot_law histories merges form_law basis_law workers ideal st some few d G lower account run elements basis =
     let problem = run.problem in
     let crew : ℕ = crew_of workers problem.n in
     let s : State = state_after problem crew run.events in
@@ -158,12 +158,12 @@ run_accounts_tell rules pivot_law histories merges form_law basis_law workers p 
     let own_calls : List Call = merged (logs_of s) in
     let own : Account = record { rows = problem.n; columns = contested; calls = own_calls } in
     let own_told : All (IsTrueCall problem s) own_calls = told problem crew s rule legal merge in
-    let tells : TellsMatrix p weights relations G d account = record {
+    let tells : TellsMatrix ideal G d account = record {
       rows = run.matrix.rows;
       columns = run.closed.columns;
       reducers = run.closed.reducers;
       are_closed = run.matrix.are_closed;
-      count = run.count ∙ count_rows p weights relations G d run.closed problem run.matrix;
+      count = run.count ∙ count_rows ideal G d run.closed problem run.matrix;
       contested = run.contested;
     } in
     let history : IsClaimHistory crew elements own = record {
@@ -177,11 +177,11 @@ run_accounts_tell rules pivot_law histories merges form_law basis_law workers p 
       rows_apart = rows_apart problem crew s rule legal merge;
       above = all_above problem crew s rule legal merge;
       leads = λ w. (
-        (λ h. (let c = lead_held p weights relations st d G lower run.closed problem run.matrix s pivots form_law basis_law elements basis w h in
+        (λ h. (let c = lead_held ideal st d G lower run.closed problem run.matrix s pivots form_law basis_law elements basis w h in
             let k = held_won problem crew s rule legal merge c.0 c.1 in
             (k.0, k.1, k.2, ap (λ (i : ℕ). get_or contested i []) k.3 ∙ c.2))),
         (λ h. subst (IsLeadOf elements) h.3
-            (held_lead p weights relations st d G lower run.closed problem run.matrix s pivots form_law basis_law elements basis h.0.column
+            (held_lead ideal st d G lower run.closed problem run.matrix s pivots form_law basis_law elements basis h.0.column
             (won_held problem crew s rule legal merge h.0 h.1 h.2))),
       );
     } in (

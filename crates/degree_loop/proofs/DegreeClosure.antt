@@ -7,6 +7,7 @@ use Rattle.words.proofs.Members.{All-from_members, Contains-flat_map, Contains-m
 use Rattle.free_poly.specs.declared.term.Term.{Term}
 use Rattle.free_poly.specs.Terms.{HasDegree, HasResidues, UsesLetters}
 use Rattle.free_poly.specs.Poly.{IsPolynomial}
+use Rattle.ideal_laws.specs.Ideal.{Ideal}
 use Rattle.ideal_laws.specs.declared.limits.LimitKind.{LimitKind}
 use Rattle.ideal_laws.specs.declared.limits.LimitKind.TheVariants.{PlainWords, Rows, Columns, Entries, Cells, Terms, NormalWords}
 use Rattle.ideal_laws.specs.Closure.{AreColumns, HasReducer, given}
@@ -22,32 +23,32 @@ use Rattle.row_store.specs.Contested.{IsCellQuantity, IsOnColumns}
 use Rattle.degree_loop.specs.Matrix.{AreColumnWords}
 use Rattle.degree_loop.proofs.Contested.{length-contested}
 
-module _ (p : ℕ) (weights : List ℕ) (relations : List (List Term)) (st : IsSetting p weights relations) (d : ℕ) (G : List (List Term))
-    (lower : AreLower p weights relations d G) where
+module _ (ideal : Ideal) (st : IsSetting ideal) (d : ℕ) (G : List (List Term)) (lower : AreLower ideal d G) where
   pub below_forms : All IsPolynomial G
   below_forms = All-from_members IsPolynomial G (λ g m. ((lower g).0 m).2.inside.element.form)
 
-  pub below_residues : All (HasResidues p) G
-  below_residues = All-from_members (HasResidues p) G (λ g m. ((lower g).0 m).2.inside.element.residues)
+  pub below_residues : All (HasResidues ideal.modulus) G
+  below_residues = All-from_members (HasResidues ideal.modulus) G (λ g m. ((lower g).0 m).2.inside.element.residues)
 
-  module _ (rows : List (List Term)) (are : AreRows p weights relations G d rows) where
-    term_says : (f : List Term) → Contains rows f → (t : Term) → Contains f t → IsOver (length weights) t.word × (degree_of weights t.word ≡ d)
-    term_says f m t n = words_of_degree-says weights st.are_weights d t.word
-        (member_word p weights relations st d f (row_member p weights relations st d G lower rows are f m) t n)
+  module _ (rows : List (List Term)) (are : AreRows ideal G d rows) where
+    term_says : (f : List Term) → Contains rows f → (t : Term) → Contains f t → IsOver (length ideal.weights) t.word × (degree_of ideal.weights t.word ≡ d)
+    term_says f m t n = words_of_degree-says ideal.weights st.are_weights d t.word
+        (member_word ideal st d f (row_member ideal st d G lower rows are f m) t n)
 
-    pub rows_degree : All (HasDegree weights d) rows
-    rows_degree = All-from_members (HasDegree weights d) rows (λ f m. All-from_members (λ t. degree_of weights t.word ≡ d) f (λ t n. (term_says f m t n).1))
+    pub rows_degree : All (HasDegree ideal.weights d) rows
+    rows_degree = All-from_members (HasDegree ideal.weights d) rows (λ f m. All-from_members (λ t. degree_of ideal.weights t.word ≡ d) f
+        (λ t n. (term_says f m t n).1))
 
-    pub rows_letters : All (UsesLetters (length weights)) rows
-    rows_letters = All-from_members (UsesLetters (length weights)) rows
-        (λ f m. All-from_members (λ t. IsOver (length weights) t.word) f (λ t n. (term_says f m t n).0))
+    pub rows_letters : All (UsesLetters (length ideal.weights)) rows
+    rows_letters = All-from_members (UsesLetters (length ideal.weights)) rows
+        (λ f m. All-from_members (λ t. IsOver (length ideal.weights) t.word) f (λ t n. (term_says f m t n).0))
 
-    pub rows_residues : All (HasResidues p) rows
-    rows_residues = All-from_members (HasResidues p) rows (λ f m. (row_member p weights relations st d G lower rows are f m).residues)
+    pub rows_residues : All (HasResidues ideal.modulus) rows
+    rows_residues = All-from_members (HasResidues ideal.modulus) rows (λ f m. (row_member ideal st d G lower rows are f m).residues)
 
     module _ (columns : List (List ℕ)) (are_columns : AreColumns G (words_of rows) columns) where
-      column_says : (w : List ℕ) → Contains columns w → IsOver (length weights) w × (degree_of weights w ≡ d)
-      column_says w m = words_of_degree-says weights st.are_weights d w (closure_word p weights relations st d G lower rows are w ((are_columns.exactly w).0 m))
+      column_says : (w : List ℕ) → Contains columns w → IsOver (length ideal.weights) w × (degree_of ideal.weights w ≡ d)
+      column_says w m = words_of_degree-says ideal.weights st.are_weights d w (closure_word ideal st d G lower rows are w ((are_columns.exactly w).0 m))
 
       pub rows_on_columns : All (IsOnColumns columns) rows
       rows_on_columns = All-from_members (IsOnColumns columns) rows
@@ -56,31 +57,30 @@ module _ (p : ℕ) (weights : List ℕ) (relations : List (List Term)) (st : IsS
           (Contains-flat_map (λ g. g) rows f t m n)))))
 
       module _ (reducers : List (Option (List Term))) (have : AllZip (HasReducer G) columns reducers) where
-        contested_has : (w : List ℕ) → Contains (contested_words columns reducers) w → IsOver (length weights) w × (degree_of weights w ≡ d)
+        contested_has : (w : List ℕ) → Contains (contested_words columns reducers) w → IsOver (length ideal.weights) w × (degree_of ideal.weights w ≡ d)
         contested_has w m = column_says w (contested_says G columns reducers have w m).0
 
-        contested_degree : All (λ w. degree_of weights w ≡ d) (contested_words columns reducers)
-        contested_degree = All-from_members (λ w. degree_of weights w ≡ d) (contested_words columns reducers) (λ w m. (contested_has w m).1)
+        contested_degree : All (λ w. degree_of ideal.weights w ≡ d) (contested_words columns reducers)
+        contested_degree = All-from_members (λ w. degree_of ideal.weights w ≡ d) (contested_words columns reducers) (λ w m. (contested_has w m).1)
 
-        pub column_words : d ≤ 64 → AreColumnWords weights (contested_words columns reducers)
+        pub column_words : d ≤ 64 → AreColumnWords ideal.weights (contested_words columns reducers)
         column_words small = record {
-          letters = All-from_members (IsOver (length weights)) (contested_words columns reducers) (λ w m. (contested_has w m).0);
-          small = All-from_members (λ w. degree_of weights w ≤ 64) (contested_words columns reducers)
+          letters = All-from_members (IsOver (length ideal.weights)) (contested_words columns reducers) (λ w m. (contested_has w m).0);
+          small = All-from_members (λ w. degree_of ideal.weights w ≤ 64) (contested_words columns reducers)
               (λ w m. let e = (contested_has w m).1 in omega (arith, e, small));
           one_degree = λ i j x before within. contested_degree i x (omega (arith, before, within)) ∙ sym (contested_degree j x within);
           falling = contested_falling columns reducers are_columns.falling;
         }
 
-    pub reducer_residues : (closed : ClosedColumns) → IsClosed G (words_of rows) closed → All (HasResidues p) (reducers_in closed.reducers)
-    reducer_residues closed h = All-from_members (HasResidues p) (reducers_in closed.reducers)
+    pub reducer_residues : (closed : ClosedColumns) → IsClosed G (words_of rows) closed → All (HasResidues ideal.modulus) (reducers_in closed.reducers)
+    reducer_residues closed h = All-from_members (HasResidues ideal.modulus) (reducers_in closed.reducers)
         (λ g m. let r = reducer_says G closed.columns closed.reducers h.are_reducers g m in
         let says = column_says closed.columns h.are_columns r.0 r.1 in
-        (reducer_inside p weights relations st d G lower r.0 g says.0 says.1 r.2).element.residues)
+        (reducer_inside ideal st d G lower r.0 g says.0 says.1 r.2).element.residues)
 
-module _ (p : ℕ) (weights : List ℕ) (relations : List (List Term)) (below : Elements) (d : ℕ) (rows : List (List Term))
-    (are : AreRows p weights relations below.elements d rows) where
+module _ (ideal : Ideal) (below : Elements) (d : ℕ) (rows : List (List Term)) (are : AreRows ideal below.elements d rows) where
   -- what is asked of the closure of the rows is a quantity of the degree
-  pub closed_quantity : (kind : LimitKind) (q : ℕ) → IsClosedQuantity below.elements rows kind q → IsQuantity p weights relations below d kind q
+  pub closed_quantity : (kind : LimitKind) (q : ℕ) → IsClosedQuantity below.elements rows kind q → IsQuantity ideal below d kind q
   closed_quantity PlainWords q h = absurd h
   closed_quantity Rows q h = absurd h
   closed_quantity Columns q h = (rows, h.0, are, h.1, h.2)
@@ -97,7 +97,7 @@ module _ (p : ℕ) (weights : List ℕ) (relations : List (List Term)) (below : 
 
   -- and so are the cells
   pub cell_quantity : (closed : ClosedColumns) → IsClosed below.elements (words_of rows) closed → (kind : LimitKind) (q : ℕ) →
-      IsCellQuantity rows closed kind q → IsQuantity p weights relations below d kind q
+      IsCellQuantity rows closed kind q → IsQuantity ideal below d kind q
   cell_quantity closed h PlainWords q e = absurd e
   cell_quantity closed h Rows q e = absurd e
   cell_quantity closed h Columns q e = absurd e

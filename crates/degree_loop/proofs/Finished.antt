@@ -8,6 +8,7 @@ use Rattle.words.proofs.Members.{All-from_members, AllPairs-first, AllPairs-rest
 use Rattle.free_poly.specs.declared.term.Term.{Term}
 use Rattle.free_poly.specs.Poly.{IsMonic, element_on}
 use Rattle.ideal_laws.specs.Basis.{IsReducedBasis}
+use Rattle.ideal_laws.specs.Ideal.{Ideal}
 use Rattle.ideal_laws.specs.Laws.{IsSetting}
 use Rattle.ideal_laws.specs.declared.limits.LimitKind.{LimitKind}
 use Rattle.ideal_laws.specs.declared.limits.LimitKind.TheVariants.{Terms}
@@ -24,33 +25,32 @@ use Rattle.row_laws.specs.Laws.{RowsGiveBasis}
 use Rattle.symbolic_prep.specs.Closed.{ClosedColumns}
 use Rattle.degree_loop.specs.Matrix.{IsMatrix}
 
-module _ (p : ℕ) (weights : List ℕ) (relations G : List (List Term)) (d : ℕ) (closed : ClosedColumns) (problem : Problem)
-    (h : IsMatrix p weights relations G d closed problem) where
+module _ (ideal : Ideal) (G : List (List Term)) (d : ℕ) (closed : ClosedColumns) (problem : Problem) (h : IsMatrix ideal G d closed problem) where
   abbrev contested : List (List ℕ)
   contested = contested_words closed.columns closed.reducers
 
-  pub form_of : (echelon : List (List ℕ)) → IsRref problem.modulus problem.m (rows_of problem) echelon → IsRref p (length contested) (rows_of problem) echelon
-  form_of echelon f = subst (λ (n : ℕ). IsRref p n (rows_of problem) echelon) h.width
+  pub form_of : (echelon : List (List ℕ)) → IsRref problem.modulus problem.m (rows_of problem) echelon
+      → IsRref ideal.modulus (length contested) (rows_of problem) echelon
+  form_of echelon f = subst (λ (n : ℕ). IsRref ideal.modulus n (rows_of problem) echelon) h.width
       (subst (λ (n : ℕ). IsRref n problem.m (rows_of problem) echelon) h.modulus f)
 
-  pub basis_of : (law : RowsGiveBasis) (st : IsSetting p weights relations) (lower : AreLower p weights relations d G) (echelon : List (List ℕ))
+  pub basis_of : (law : RowsGiveBasis) (st : IsSetting ideal) (lower : AreLower ideal d G) (echelon : List (List ℕ))
       → IsRref problem.modulus problem.m (rows_of problem) echelon → (columns : List (List ℕ)) → columns ≡ contested
-      → (elements : List (List Term)) → elements ≡ map (element_on columns) echelon → IsReducedBasis p weights relations d elements
+      → (elements : List (List Term)) → elements ≡ map (element_on columns) echelon → IsReducedBasis ideal d elements
   basis_of law st lower echelon f columns are elements is =
-      let own = law p weights relations st d G lower h.rows closed.columns closed.reducers h.are_closed (rows_of problem) h.contested
+      let own = law ideal st d G lower h.rows closed.columns closed.reducers h.are_closed (rows_of problem) h.contested
       echelon (form_of echelon f) in
-      subst (IsReducedBasis p weights relations d) (sym (is ∙ ap (λ (ws : List (List ℕ)). map (element_on ws) echelon) are)) own
+      subst (IsReducedBasis ideal d) (sym (is ∙ ap (λ (ws : List (List ℕ)). map (element_on ws) echelon) are)) own
 
 -- the problem has as many rows as the degree
-pub count_rows : (p : ℕ) (weights : List ℕ) (relations G : List (List Term)) (d : ℕ) (closed : ClosedColumns) (problem : Problem) →
-    (h : IsMatrix p weights relations G d closed problem) → problem.n ≡ length h.rows
-count_rows p weights relations G d closed problem h =
-    sym problem.count ∙ AllZip-long (IsContestedRow p closed.columns closed.reducers) h.rows (rows_of problem) h.contested
+pub count_rows : (ideal : Ideal) (G : List (List Term)) (d : ℕ) (closed : ClosedColumns) (problem : Problem) →
+    (h : IsMatrix ideal G d closed problem) → problem.n ≡ length h.rows
+count_rows ideal G d closed problem h =
+    sym problem.count ∙ AllZip-long (IsContestedRow ideal.modulus closed.columns closed.reducers) h.rows (rows_of problem) h.contested
 
 -- the elements of a reduced basis are monic
-pub basis_monic : (p : ℕ) (weights : List ℕ) (relations : List (List Term)) (d : ℕ) (basis : List (List Term)) →
-    IsReducedBasis p weights relations d basis → All IsMonic basis
-basis_monic p weights relations d basis h = All-from_members IsMonic basis (λ f m. ((h.exactly f).0 m).monic)
+pub basis_monic : (ideal : Ideal) (d : ℕ) (basis : List (List Term)) → IsReducedBasis ideal d basis → All IsMonic basis
+basis_monic ideal d basis h = All-from_members IsMonic basis (λ f m. ((h.exactly f).0 m).monic)
 
 -- members of a list with one degree have one degree
 pub one_degree : (deg : List ℕ → ℕ) (xs : List (List ℕ)) → AllPairs (λ v w. deg v ≡ deg w) xs → (v w : List ℕ) → Contains xs v → Contains xs w → deg v ≡ deg w
@@ -67,19 +67,18 @@ one_degree deg (x ∷ xs) h v w m n = elim (Contains-cases x xs v m) [
 ]
 
 -- the terms pass their limit, or do not
-module _ (p : ℕ) (weights : List ℕ) (relations : List (List Term)) (below : Elements) (d most count : ℕ) (elements : List (List Term))
-    (basis : IsReducedBasis p weights relations d elements)
+module _ (ideal : Ideal) (below : Elements) (d most count : ℕ) (elements : List (List Term)) (basis : IsReducedBasis ideal d elements)
     (few : most < 2 ^ 32) (is : count ≡ min (min (terms_in below.elements) (2 ^ 64 - 1) + min (terms_in elements) (2 ^ 64 - 1)) (2 ^ 64 - 1)) where
   pub terms_pass : most < count → (kind : LimitKind) (degree value : ℕ) → {T : Type 0} (r : Result T EngineFault) →
       r ≡ Err (Limit Terms d count) → r ≡ Err (Limit kind degree value)
-      → (degree ≡ d) × IsFirstPassing (IsQuantity p weights relations below d) ((Terms, most) ∷ []) kind value
+      → (degree ≡ d) × IsFirstPassing (IsQuantity ideal below d) ((Terms, most) ∷ []) kind value
   terms_pass lt kind degree value r own e =
       let is_kind : kind ≡ Terms = cc e in
       let is_degree : degree ≡ d = cc e in
       let is_value : value ≡ count = cc e in
       (is_degree, inl (terms_in below.elements + terms_in elements, (elements, basis, refl), omega (arith, lt, is, few), is_kind, omega (arith, is_value, is)))
 
-  pub terms_within : count ≤ most → NonePasses (IsQuantity p weights relations below d) ((Terms, most) ∷ [])
+  pub terms_within : count ≤ most → NonePasses (IsQuantity ideal below d) ((Terms, most) ∷ [])
   terms_within le = ((terms_in below.elements + terms_in elements, (elements, basis, refl), omega (arith, le, is, few)), tt)
 
   pub elements_few : count ≤ most → length elements ≤ terms_in elements → length elements ≤ most

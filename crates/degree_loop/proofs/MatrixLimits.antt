@@ -1,6 +1,7 @@
 -- The matrix of a degree and its limits, from the answers of the phases.
 use Rattle.std.proofs.Common.{◌≡◌, ◌≤◌, ℕ, List, [], ◌∷◌, length, refl, arith}
 use Rattle.free_poly.specs.declared.term.Term.{Term}
+use Rattle.ideal_laws.specs.Ideal.{Ideal}
 use Rattle.ideal_laws.specs.declared.limits.LimitKind.{LimitKind}
 use Rattle.ideal_laws.specs.declared.limits.LimitKind.TheVariants.{Cells, Columns, Entries, Rows}
 use Rattle.ideal_laws.specs.declared.limits.Limits.{Limits}
@@ -17,10 +18,10 @@ use Rattle.degree_loop.proofs.Asked.{first_before, first_behind, first_moved, no
 use Rattle.degree_loop.proofs.DegreeClosure.{cell_quantity, closed_quantity}
 
 -- the matrix
-pub is_matrix : (p : ℕ) (weights : List ℕ) (relations G : List (List Term)) (d : ℕ) (rows : List (List Term)) →
-    AreRows p weights relations G d rows → (closed : ClosedColumns) → IsClosed G (words_of rows) closed
-    → (problem : Problem) → IsContestedProblem p closed rows d problem → IsMatrix p weights relations G d closed problem
-is_matrix p weights relations G d rows are closed h problem own = record {
+pub is_matrix : (ideal : Ideal) (G : List (List Term)) (d : ℕ) (rows : List (List Term)) →
+    AreRows ideal G d rows → (closed : ClosedColumns) → IsClosed G (words_of rows) closed
+    → (problem : Problem) → IsContestedProblem ideal.modulus closed rows d problem → IsMatrix ideal G d closed problem
+is_matrix ideal G d rows are closed h problem own = record {
   rows = rows;
   are_closed = record { are_rows = are; are_columns = h.are_columns; are_reducers = h.are_reducers };
   modulus = own.modulus;
@@ -28,9 +29,9 @@ is_matrix p weights relations G d rows are closed h problem own = record {
   contested = own.each;
 }
 
-module _ (p : ℕ) (weights : List ℕ) (relations : List (List Term)) (below : Elements) (d : ℕ) (limits : Limits) where
+module _ (ideal : Ideal) (below : Elements) (d : ℕ) (limits : Limits) where
   abbrev Q : LimitKind → ℕ → Type 0
-  Q = IsQuantity p weights relations below d
+  Q = IsQuantity ideal below d
 
   abbrev row_limit : List (LimitKind × ℕ)
   row_limit = (Rows, limits.rows) ∷ []
@@ -41,40 +42,39 @@ module _ (p : ℕ) (weights : List ℕ) (relations : List (List Term)) (below : 
   pub rows_pass : (kind : LimitKind) (value : ℕ) → IsFirstPassing Q row_limit kind value → IsFirstPassing Q (matrix_limits limits) kind value
   rows_pass kind value h = first_before Q row_limit ((Columns, limits.columns) ∷ (Entries, limits.entries) ∷ (Cells, limits.cells) ∷ []) kind value h
 
-  module _ (rows : List (List Term)) (are : AreRows p weights relations below.elements d rows) (few : NonePasses Q row_limit) where
+  module _ (rows : List (List Term)) (are : AreRows ideal below.elements d rows) (few : NonePasses Q row_limit) where
     pub close_passes : (kind : LimitKind) (value : ℕ) → IsFirstPassing (IsClosedQuantity below.elements rows) (closing_limits limits) kind
         value → IsFirstPassing Q (matrix_limits limits) kind value
     close_passes kind value h =
         first_behind Q row_limit ((Columns, limits.columns) ∷ (Entries, limits.entries) ∷ (Cells, limits.cells) ∷ []) kind value few
         (first_before Q (closing_limits limits) cell_limit kind value
-        (first_moved (IsClosedQuantity below.elements rows) Q (closed_quantity p weights relations below d rows are) (closing_limits limits) kind value h))
+        (first_moved (IsClosedQuantity below.elements rows) Q (closed_quantity ideal below d rows are) (closing_limits limits) kind value h))
 
     module _ (closed : ClosedColumns) (is_closed : IsClosed below.elements (words_of rows) closed)
         (within : NonePasses (IsClosedQuantity below.elements rows) (closing_limits limits)) where
       own_within : NonePasses Q (closing_limits limits)
-      own_within = none_moved (IsClosedQuantity below.elements rows) Q (closed_quantity p weights relations below d rows are) (closing_limits limits) within
+      own_within = none_moved (IsClosedQuantity below.elements rows) Q (closed_quantity ideal below d rows are) (closing_limits limits) within
 
       pub cells_pass : (kind : LimitKind) (value : ℕ) → IsFirstPassing (IsCellQuantity rows closed) cell_limit kind value →
           IsFirstPassing Q (matrix_limits limits) kind value
       cells_pass kind value h =
           first_behind Q row_limit ((Columns, limits.columns) ∷ (Entries, limits.entries) ∷ (Cells, limits.cells) ∷ []) kind value few
           (first_behind Q (closing_limits limits) cell_limit kind value own_within
-          (first_moved (IsCellQuantity rows closed) Q (cell_quantity p weights relations below d rows are closed is_closed) cell_limit kind value h))
+          (first_moved (IsCellQuantity rows closed) Q (cell_quantity ideal below d rows are closed is_closed) cell_limit kind value h))
 
       pub matrix_within : NonePasses (IsCellQuantity rows closed) cell_limit → NonePasses Q (matrix_limits limits)
       matrix_within cells =
           none_together Q row_limit ((Columns, limits.columns) ∷ (Entries, limits.entries) ∷ (Cells, limits.cells) ∷ []) few
           (none_together Q (closing_limits limits) cell_limit own_within
-          (none_moved (IsCellQuantity rows closed) Q (cell_quantity p weights relations below d rows are closed is_closed) cell_limit cells))
+          (none_moved (IsCellQuantity rows closed) Q (cell_quantity ideal below d rows are closed is_closed) cell_limit cells))
 
 -- the columns are within their limit
-pub few_columns : (p : ℕ) (weights : List ℕ) (relations : List (List Term)) → IsSetting p weights relations → (below : Elements) (d : ℕ) →
-    IsBelow p weights relations d below → HasOneQuantity → (limits : Limits)
-    → (rows : List (List Term)) → AreRows p weights relations below.elements d rows → (closed : ClosedColumns) → IsClosed below.elements (words_of rows) closed
+pub few_columns : (ideal : Ideal) → IsSetting ideal → (below : Elements) (d : ℕ) → IsBelow ideal d below → HasOneQuantity → (limits : Limits)
+    → (rows : List (List Term)) → AreRows ideal below.elements d rows → (closed : ClosedColumns) → IsClosed below.elements (words_of rows) closed
     → NonePasses (IsClosedQuantity below.elements rows) (closing_limits limits) → length closed.columns ≤ limits.columns
-few_columns p weights relations st below d is_below one limits rows are closed h within =
-    let Q = IsQuantity p weights relations below d in
+few_columns ideal st below d is_below one limits rows are closed h within =
+    let Q = IsQuantity ideal below d in
     let own : Q Columns (length closed.columns) = (rows, closed.columns, are, h.are_columns, refl) in
-    let other = closed_quantity p weights relations below d rows are Columns within.0.0 within.0.1 in
-    let same : length closed.columns ≡ within.0.0 = one p weights relations st d below is_below Columns (length closed.columns) within.0.0 own other in
+    let other = closed_quantity ideal below d rows are Columns within.0.0 within.0.1 in
+    let same : length closed.columns ≡ within.0.0 = one ideal st d below is_below Columns (length closed.columns) within.0.0 own other in
     omega (arith, same, within.0.2)

@@ -3,6 +3,7 @@ use Rattle.std.specs.Prelude.{ℕ, ◌≡◌, ◌≢◌, ◌↔◌, ◌⊎◌, �
 use Rattle.std.specs.Prelude.{slice_index_or}
 use Rattle.free_poly.specs.declared.term.Term.{Term}
 use Rattle.free_poly.specs.Poly.{lead_of}
+use Rattle.ideal_laws.specs.Ideal.{Ideal}
 use Rattle.ideal_laws.specs.declared.account.Account.{Account}
 use Rattle.ideal_laws.specs.declared.account.Answer.TheVariants as answer
 use Rattle.ideal_laws.specs.declared.account.Call.{Call}
@@ -47,9 +48,8 @@ pub record IsClaimHistory (crew : ℕ) (elements : List (List Term)) (account : 
 -- the account of an ended run tells the matrix of the degree and the calls of its crew, of which the won ones name
 -- exactly the leading words
 abbrev pub RunAccountsTell : Type 0
-RunAccountsTell = (workers p : ℕ) (weights : List ℕ) (relations : List (List Term)) → IsSetting p weights relations
-    → 1 ≤ workers →
-    workers ≤ 64 → (d : ℕ) (G : List (List Term)) → AreLower p weights relations d G
-    → (account : Account) → IsRunAccount workers p weights relations G d account → (elements : List (List Term)) →
-    IsReducedBasis p weights relations d elements
-    → TellsMatrix p weights relations G d account × IsClaimHistory (crew_of workers account.rows) elements account
+RunAccountsTell = (workers : ℕ) (ideal : Ideal) → IsSetting ideal → 1 ≤ workers →
+    workers ≤ 64 → (d : ℕ) (G : List (List Term)) → AreLower ideal d G
+    → (account : Account) → IsRunAccount workers ideal G d account → (elements : List (List Term)) →
+    IsReducedBasis ideal d elements
+    → TellsMatrix ideal G d account × IsClaimHistory (crew_of workers account.rows) elements account

@@ -3,6 +3,7 @@ use Rattle.std.specs.Prelude.{ℕ, ◌≡◌, ◌≤◌, List, All, AllPairs, Op
 use Rattle.words.specs.Order.{IsLetterwiseGreater}
 use Rattle.words.specs.Words.{IsOver, degree_of}
 use Rattle.free_poly.specs.declared.term.Term.{Term}
+use Rattle.ideal_laws.specs.Ideal.{Ideal}
 use Rattle.ideal_laws.specs.declared.account.Account.{Account}
 use Rattle.ideal_laws.specs.Quantities.{AreClosed, contested_words}
 use Rattle.symbolic_prep.specs.Closed.{ClosedColumns}
@@ -11,21 +12,20 @@ use Rattle.back_reduce.specs.Problems.{rows_of}
 use Rattle.row_laws.specs.Contested.{AreContestedRows}
 
 -- the rows of the degree are closed, and this is what they leave at the contested columns
-pub record IsMatrix (p : ℕ) (weights : List ℕ) (relations G : List (List Term)) (d : ℕ) (closed : ClosedColumns)
+pub record IsMatrix (ideal : Ideal) (G : List (List Term)) (d : ℕ) (closed : ClosedColumns)
     (problem : Problem) : Type 0 where
   pub rows : List (List Term)
-  pub are_closed : AreClosed p weights relations G d rows closed.columns closed.reducers
-  pub modulus : problem.modulus ≡ p
+  pub are_closed : AreClosed ideal G d rows closed.columns closed.reducers
+  pub modulus : problem.modulus ≡ ideal.modulus
   pub width : problem.m ≡ length (contested_words closed.columns closed.reducers)
-  pub contested : AreContestedRows p closed.columns closed.reducers rows (rows_of problem)
+  pub contested : AreContestedRows ideal.modulus closed.columns closed.reducers rows (rows_of problem)
 
 -- the number of the rows of a degree, and its contested columns by falling word
-pub record TellsMatrix (p : ℕ) (weights : List ℕ) (relations G : List (List Term)) (d : ℕ)
-    (account : Account) : Type 0 where
+pub record TellsMatrix (ideal : Ideal) (G : List (List Term)) (d : ℕ) (account : Account) : Type 0 where
   pub rows : List (List Term)
   pub columns : List (List ℕ)
   pub reducers : List (Option (List Term))
-  pub are_closed : AreClosed p weights relations G d rows columns reducers
+  pub are_closed : AreClosed ideal G d rows columns reducers
   pub count : account.rows ≡ length rows
   pub contested : account.columns ≡ contested_words columns reducers
 

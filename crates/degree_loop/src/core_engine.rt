@@ -1,4 +1,5 @@
 ghost use Rattle.std.specs.Prelude.{◌≡◌, ◌≤◌};
+ghost use Rattle.ideal_laws.specs.Ideal.{ideal_of};
 ghost use Rattle.ideal_laws.specs.Limits.{AreLimits};
 
 use crate::calls::{crew_for, merged_calls};
@@ -48,8 +49,8 @@ impl DegreeEngine for CoreEngine {
 
     ghost kinds = { λ engine. engine_limits engine.limits };
 
-    ghost may_account = { λ engine p given below d account. IsCoreAccount engine.workers engine.schedule p
-        given.alphabet.weights given.relations below.elements d account };
+    ghost may_account = { λ engine p given below d account. IsCoreAccount engine.workers engine.schedule
+        (ideal_of p given) below.elements d account };
 
     fn degree<R: Threads + Sync>(
         &mut self,

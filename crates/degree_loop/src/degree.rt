@@ -1,5 +1,6 @@
 ghost use Rattle.std.specs.Prelude.{◌≡◌, ◌+◌, ◌≤◌, ℕ, All, Err, IfOk, OnOk, length};
 ghost use Rattle.free_poly.specs.Terms.{HasResidues};
+ghost use Rattle.ideal_laws.specs.Ideal.{ideal_of};
 ghost use Rattle.ideal_laws.specs.declared.limits.LimitKind.{LimitKind};
 ghost use Rattle.ideal_laws.specs.Basis.{IsReducedBasis};
 ghost use Rattle.ideal_laws.specs.Engine.{IsReducedUpto};
@@ -36,17 +37,16 @@ pub fn degree_by<R: Threads + Sync, F: PivotFinder>(
     requires residues { All (HasResidues field.now) presentation.now.relations }
     requires limits { AreLimits limits.now }
 
-    ensures elements { IfOk result (λ report. IsReducedBasis field.now presentation.now.alphabet.weights
-        presentation.now.relations d report.elements) }
+    ensures elements { IfOk result (λ report. IsReducedBasis (ideal_of field.now presentation.now) d report.elements) }
     ensures few { IfOk result (λ report. length report.elements ≤ 16777216) }
-    ensures account { IfOk result (λ report. IsAccountOf (F.tells finder.now) field.now
-        presentation.now.alphabet.weights presentation.now.relations below.now.elements d report.account) }
-    ensures within { OnOk result (NonePasses (IsQuantity field.now presentation.now.alphabet.weights
-        presentation.now.relations below.now d) (engine_limits limits.now)) }
+    ensures account { IfOk result (λ report. IsAccountOf (F.tells finder.now) (ideal_of field.now presentation.now)
+        below.now.elements d report.account) }
+    ensures within { OnOk result (NonePasses (IsQuantity (ideal_of field.now presentation.now) below.now d)
+        (engine_limits limits.now)) }
 
     ensures limit { (kind : LimitKind) (degree value : ℕ) → result ≡ Err (EngineFault.Limit kind degree value)
-        → (degree ≡ d) × IsFirstPassing (IsQuantity field.now presentation.now.alphabet.weights
-        presentation.now.relations below.now d) (engine_limits limits.now) kind value }
+        → (degree ≡ d) × IsFirstPassing (IsQuantity (ideal_of field.now presentation.now) below.now d)
+        (engine_limits limits.now) kind value }
 {
     let matrix = matrix_of(rt, alloc, field, presentation, below, d, limits)?;
     let Matrix { closed, problem } = matrix;

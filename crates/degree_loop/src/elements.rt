@@ -2,6 +2,7 @@ ghost use Rattle.std.specs.Prelude.{◌≡◌, ◌+◌, ◌<◌, ◌≤◌, ◌�
 ghost use Rattle.words.specs.Order.{IsLetterwiseGreater};
 ghost use Rattle.words.specs.Words.{IsOver, degree_of};
 ghost use Rattle.free_poly.specs.Terms.{HasResidues};
+ghost use Rattle.ideal_laws.specs.Ideal.{ideal_of};
 ghost use Rattle.ideal_laws.specs.declared.limits.LimitKind.{LimitKind};
 ghost use Rattle.ideal_laws.specs.declared.limits.LimitKind.TheVariants.{Terms};
 ghost use Rattle.ideal_laws.specs.Basis.{IsReducedBasis};
@@ -41,18 +42,17 @@ pub fn elements_of<R: Threads + Sync, P: PivotRows>(
     requires weights { below.now.weights ≡ presentation.now.alphabet.weights }
     requires reduced { IsReducedUpto field.now presentation.now.relations below.now }
     requires residues { All (HasResidues field.now) presentation.now.relations }
-    requires matrix { IsMatrix field.now presentation.now.alphabet.weights presentation.now.relations
+    requires matrix { IsMatrix (ideal_of field.now presentation.now)
         below.now.elements d closed.now (P.given pivots.now) }
 
-    ensures elements { IfOk result (IsReducedBasis field.now presentation.now.alphabet.weights
-        presentation.now.relations d) }
+    ensures elements { IfOk result (IsReducedBasis (ideal_of field.now presentation.now) d) }
     ensures few { IfOk result (λ elements. length elements ≤ most) }
-    ensures within { OnOk result (NonePasses (IsQuantity field.now presentation.now.alphabet.weights
-        presentation.now.relations below.now d) ((Terms, most) ∷ [])) }
+    ensures within { OnOk result (NonePasses (IsQuantity (ideal_of field.now presentation.now) below.now d)
+        ((Terms, most) ∷ [])) }
 
     ensures limit { (kind : LimitKind) (degree value : ℕ) → result ≡ Err (EngineFault.Limit kind degree value)
-        → (degree ≡ d) × IsFirstPassing (IsQuantity field.now presentation.now.alphabet.weights
-        presentation.now.relations below.now d) ((Terms, most) ∷ []) kind value }
+        → (degree ≡ d) × IsFirstPassing (IsQuantity (ideal_of field.now presentation.now) below.now d)
+        ((Terms, most) ∷ []) kind value }
 {
     lower_law();
     rows_law();

@@ -1,5 +1,6 @@
 ghost use Rattle.std.specs.Prelude.{◌≡◌, ◌+◌, ◌≤◌, ℕ, All, Err, IfOk, OnOk};
 ghost use Rattle.free_poly.specs.Terms.{HasResidues};
+ghost use Rattle.ideal_laws.specs.Ideal.{ideal_of};
 ghost use Rattle.ideal_laws.specs.declared.limits.LimitKind.{LimitKind};
 ghost use Rattle.ideal_laws.specs.Engine.{IsReducedUpto};
 ghost use Rattle.ideal_laws.specs.Limits.{AreLimits};
@@ -44,14 +45,14 @@ pub fn matrix_of<R: Threads + Sync>(
     requires residues { All (HasResidues field.now) presentation.now.relations }
     requires limits { AreLimits limits.now }
 
-    ensures matrix { IfOk result (λ matrix. IsMatrix field.now presentation.now.alphabet.weights
-        presentation.now.relations below.now.elements d matrix.closed matrix.problem) }
-    ensures within { OnOk result (NonePasses (IsQuantity field.now presentation.now.alphabet.weights
-        presentation.now.relations below.now d) (matrix_limits limits.now)) }
+    ensures matrix { IfOk result (λ matrix. IsMatrix (ideal_of field.now presentation.now) below.now.elements d
+        matrix.closed matrix.problem) }
+    ensures within { OnOk result (NonePasses (IsQuantity (ideal_of field.now presentation.now) below.now d)
+        (matrix_limits limits.now)) }
 
     ensures limit { (kind : LimitKind) (degree value : ℕ) → result ≡ Err (EngineFault.Limit kind degree value)
-        → (degree ≡ d) × IsFirstPassing (IsQuantity field.now presentation.now.alphabet.weights
-        presentation.now.relations below.now d) (matrix_limits limits.now) kind value }
+        → (degree ≡ d) × IsFirstPassing (IsQuantity (ideal_of field.now presentation.now) below.now d)
+        (matrix_limits limits.now) kind value }
 {
     lower_law();
     quantities_law();

@@ -1,4 +1,5 @@
 ghost use Rattle.std.specs.Prelude.{◌≡◌, ◌≤◌};
+ghost use Rattle.ideal_laws.specs.Ideal.{ideal_of};
 ghost use Rattle.ideal_laws.specs.Limits.{AreLimits};
 
 use crate::calls::{crew_for, merged_calls};
@@ -49,7 +50,7 @@ impl<'a> DegreeEngine for RaceEngine<'a> {
     ghost kinds = { λ engine. engine_limits engine.limits };
 
     ghost may_account = { λ engine p given below d account.
-        IsRunAccount engine.workers p given.alphabet.weights given.relations below.elements d account };
+        IsRunAccount engine.workers (ideal_of p given) below.elements d account };
 
     fn degree<R: Threads + Sync>(
         &mut self,

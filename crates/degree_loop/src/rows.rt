@@ -1,6 +1,7 @@
 ghost use Rattle.std.specs.Prelude.{◌≡◌, ◌+◌, ◌<◌, ◌≤◌, ◌∷◌, [], ℕ, List, All, Err, IfOk, OnOk, length};
 ghost use Rattle.std.specs.List.{AllZip};
 ghost use Rattle.free_poly.specs.Terms.{HasResidues};
+ghost use Rattle.ideal_laws.specs.Ideal.{ideal_of};
 ghost use Rattle.ideal_laws.specs.declared.limits.LimitKind.{LimitKind};
 ghost use Rattle.ideal_laws.specs.declared.limits.LimitKind.TheVariants.{Rows};
 ghost use Rattle.ideal_laws.specs.Closure.{AreObstructions, IsFactorFree, Overlap};
@@ -30,15 +31,14 @@ pub(crate) fn rows_of_degree(
     requires factor_free { IsFactorFree below.now.elements }
     requires residues { All (HasResidues field.now) below.now.elements }
 
-    ensures rows { IfOk result (λ rows. AreRows field.now presentation.now.alphabet.weights
-        presentation.now.relations below.now.elements d rows.items) }
+    ensures rows { IfOk result (λ rows. AreRows (ideal_of field.now presentation.now) below.now.elements d rows.items) }
     ensures few { IfOk result (λ rows. length rows.items ≤ most) }
-    ensures within { OnOk result (NonePasses (IsQuantity field.now presentation.now.alphabet.weights
-        presentation.now.relations below.now d) ((Rows, most) ∷ [])) }
+    ensures within { OnOk result (NonePasses (IsQuantity (ideal_of field.now presentation.now) below.now d)
+        ((Rows, most) ∷ [])) }
 
     ensures limit { (kind : LimitKind) (degree value : ℕ) → result ≡ Err (EngineFault.Limit kind degree value)
-        → (degree ≡ d) × IsFirstPassing (IsQuantity field.now presentation.now.alphabet.weights
-        presentation.now.relations below.now d) ((Rows, most) ∷ []) kind value }
+        → (degree ≡ d) × IsFirstPassing (IsQuantity (ideal_of field.now presentation.now) below.now d)
+        ((Rows, most) ∷ []) kind value }
 {
     let given = count_of_degree(presentation, d);
     let found = obstructions_within(alloc, below, d, given, most)?;

@@ -1,4 +1,5 @@
 ghost use Rattle.std.specs.Prelude.{◌≡◌};
+ghost use Rattle.ideal_laws.specs.Ideal.{ideal_of};
 ghost use Rattle.ideal_laws.specs.Limits.{AreLimits};
 
 use crate::degree::degree_by;
@@ -32,8 +33,7 @@ impl DegreeEngine for SeqEngine {
 
     ghost kinds = { λ engine. engine_limits engine.limits };
 
-    ghost may_account = { λ _ p given below d account. IsSeqAccount p given.alphabet.weights given.relations
-        below.elements d account };
+    ghost may_account = { λ _ p given below d account. IsSeqAccount (ideal_of p given) below.elements d account };
 
     fn degree<R: Threads + Sync>(
         &mut self,

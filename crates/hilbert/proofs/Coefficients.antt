@@ -8,6 +8,7 @@ use Rattle.free_poly.specs.declared.term.Term.{Term}
 use Rattle.free_poly.proofs.Totals.{letterwise-apart}
 use Rattle.ideal_laws.specs.Dimension.{IsHilbertCoefficient}
 use Rattle.ideal_laws.specs.Engine.{Elements, IsReducedUpto}
+use Rattle.ideal_laws.specs.Ideal.{ideal_over}
 use Rattle.ideal_laws.specs.Kept.{IsKept}
 use Rattle.ideal_laws.specs.Laws.{IsSetting}
 use Rattle.ideal_laws.specs.Overlaps.{AreLower}
@@ -44,20 +45,22 @@ no_longer (x ∷ xs) ys p h =
     ]) in
     omega (arith, rest, length-append k.before k.after, length-append k.before (x ∷ k.after), ap length k.is)
 
-module _ (p : ℕ) (relations : List (List Term)) (basis : Elements) (st : IsSetting p basis.weights relations) (kept : IsKept basis)
+module _ (p : ℕ) (relations : List (List Term)) (basis : Elements) (st : IsSetting (ideal_over p basis.weights relations)) (kept : IsKept basis)
     (upto : IsReducedUpto p relations basis) where
-  lower : AreLower p basis.weights relations (basis.done + 1) basis.elements
-  lower = lists_lower p basis.weights relations st (basis.done + 1) basis (record { kept = kept; next = refl; same_weights = refl; reduced = upto })
+  lower : AreLower (ideal_over p basis.weights relations) (basis.done + 1) basis.elements
+  lower = lists_lower (ideal_over p basis.weights relations) st (basis.done + 1) basis
+      (record { kept = kept; next = refl; same_weights = refl; reduced = upto })
 
-  pub count_coefficient : (d n : ℕ) → d ≤ basis.done → IsCount basis.weights basis.elements d n → IsHilbertCoefficient p basis.weights relations d n
+  pub count_coefficient : (d n : ℕ) → d ≤ basis.done → IsCount basis.weights basis.elements d n
+      → IsHilbertCoefficient (ideal_over p basis.weights relations) d n
   count_coefficient d n le c =
-      let H = has_one_dimension p basis.weights relations st d in
+      let H = has_one_dimension (ideal_over p basis.weights relations) st d in
       let there : length c.words ≤ length H.others =
       no_longer c.words H.others (λ i j x below within. letterwise-apart _ _ (c.are_normal.falling i j x below within))
       (λ w m.
       let s = (c.are_normal.exactly w).0 m in
       elim ((H.split w).0 s.0) [
-        | inl l ↦ absurd (normal_no_lead p basis.weights relations st (basis.done + 1) basis.elements lower d w (omega (arith, le)) s.0 s.1
+        | inl l ↦ absurd (normal_no_lead (ideal_over p basis.weights relations) st (basis.done + 1) basis.elements lower d w (omega (arith, le)) s.0 s.1
             ((H.are_leading.exactly w).0 l))
         | inr o ↦ o
       ]) in
@@ -65,7 +68,11 @@ module _ (p : ℕ) (relations : List (List Term)) (basis : Elements) (st : IsSet
       no_longer H.others c.words H.apart
       (λ w m.
       let all = (H.split w).1 (inr m) in
-      (c.are_normal.exactly w).1 (all, normal_from p basis.weights relations st (basis.done + 1) basis.elements lower d w all (H.are_others w m))) in
+      (c.are_normal.exactly w).1 (
+        all,
+        normal_from (ideal_over p basis.weights relations) st (basis.done + 1) basis.elements lower d w all
+            (H.are_others w m),
+      )) in
       (H.coefficient n).1 (omega (arith, there, back, c.count))
 
 pub counts_coefficients : CountsCoefficients

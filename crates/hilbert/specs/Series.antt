@@ -4,6 +4,7 @@ use Rattle.free_poly.specs.declared.term.Term.{Term}
 use Rattle.ideal_laws.specs.Closure.{IsNormal}
 use Rattle.ideal_laws.specs.Dimension.{IsHilbertCoefficient}
 use Rattle.ideal_laws.specs.Engine.{Elements, IsReducedUpto}
+use Rattle.ideal_laws.specs.Ideal.{ideal_over}
 use Rattle.ideal_laws.specs.Kept.{IsKept}
 use Rattle.ideal_laws.specs.Laws.{IsSetting}
 use Rattle.ideal_laws.specs.Quantities.{AreNormalWords}
@@ -48,8 +49,9 @@ pub record AreHeld (weights : List ℕ) (leads : List Lead) (held : List WordsOf
 
 -- up to the last degree that is done the coefficients are the numbers of normal words
 abbrev pub CountsCoefficients : Type 0
-CountsCoefficients = (p : ℕ) (relations : List (List Term)) (basis : Elements) → IsSetting p basis.weights relations
+CountsCoefficients = (p : ℕ) (relations : List (List Term)) (basis : Elements)
+    → IsSetting (ideal_over p basis.weights relations)
     → IsKept basis →
     IsReducedUpto p relations basis
     → (d n : ℕ) → d ≤ basis.done → IsCount basis.weights basis.elements d n →
-    IsHilbertCoefficient p basis.weights relations d n
+    IsHilbertCoefficient (ideal_over p basis.weights relations) d n

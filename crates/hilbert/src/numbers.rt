@@ -3,6 +3,7 @@ ghost use Rattle.free_poly.specs.declared.term.Term.{Term};
 ghost use Rattle.ideal_laws.specs.Closure.{IsFactorFree};
 ghost use Rattle.ideal_laws.specs.Dimension.{IsHilbertCoefficient};
 ghost use Rattle.ideal_laws.specs.Engine.{IsReducedUpto};
+ghost use Rattle.ideal_laws.specs.Ideal.{ideal_over};
 ghost use Rattle.ideal_laws.specs.Laws.{IsSetting};
 ghost use Rattle.hilbert.specs.Series.{AreCounts, IndexesLeads, IsFirstLarge};
 
@@ -53,8 +54,9 @@ pub fn series(
 
     // Where the basis is reduced, these are the coefficients.
     ensures coefficients { IfOk result (λ numbers. (p : ℕ) (relations : List (List Term)) →
-        IsSetting p basis.now.weights relations → IsReducedUpto p relations basis.now
-        → (d : ℕ) → d ≤ bound → IsHilbertCoefficient p basis.now.weights relations d (slice_index numbers.items d)) }
+        IsSetting (ideal_over p basis.now.weights relations) → IsReducedUpto p relations basis.now
+        → (d : ℕ) → d ≤ bound → IsHilbertCoefficient (ideal_over p basis.now.weights relations) d
+        (slice_index numbers.items d)) }
 
     ensures limit { (degree value : ℕ) (below : List ℕ) → IsErrOf result (SeriesFault.Limit degree value below)
         → IsFirstLarge basis.now.weights basis.now.elements limits.now.normal_words bound degree value below }

@@ -8,7 +8,7 @@ use Rattle.free_poly.specs.Terms.{HasDegree, product, scaled, total_at}
 use Rattle.free_poly.specs.Poly.{lead_of}
 use Rattle.free_poly.proofs.Products.{HasDegree-product, HasOneDegree-from, HasResidues-product, IsPolynomial-product, IsSame-product}
 use Rattle.free_poly.proofs.Products.{UsesLetters-product, product-append, product-product, product-scaled}
-use Rattle.ideal_laws.specs.Ideal.{IsElement, IsInIdeal, IsMultiple, Multiple, terms_of}
+use Rattle.ideal_laws.specs.Ideal.{IsElement, IsInIdeal, IsMultiple, Multiple, ideal_over, terms_of}
 
 -- words put round a multiple
 abbrev pub widened : List ℕ → List ℕ → Multiple → Multiple
@@ -33,12 +33,12 @@ module _ (p : ℕ) (weights : List ℕ) (aw : AreWeights weights) where
   }
 
   pub inside_product : (relations : List (List Term)) (d : ℕ) (u : List ℕ) (f : List Term) (v : List ℕ) → IsOver (length weights) u →
-      IsOver (length weights) v → IsInIdeal p weights relations d f
-      → IsInIdeal p weights relations (degree_of weights u + d + degree_of weights v) (product u f v)
+      IsOver (length weights) v → IsInIdeal (ideal_over p weights relations) d f
+      → IsInIdeal (ideal_over p weights relations) (degree_of weights u + d + degree_of weights v) (product u f v)
   inside_product relations d u f v hu hv i = record {
     element = IsElement-product d u f v hu hv i.element;
     multiples = map (widened u v) i.multiples;
-    each = All-map (IsMultiple p weights relations (degree_of weights u + d + degree_of weights v)) (widened u v) i.multiples
+    each = All-map (IsMultiple (ideal_over p weights relations) (degree_of weights u + d + degree_of weights v)) (widened u v) i.multiples
         (λ k m within. let h = i.each k m within in record {
           residue = h.residue;
           left_over = All-append (λ x. x < length weights) u _ hu h.left_over;

@@ -23,7 +23,7 @@ use Rattle.linear_algebra.specs.Mod.{Residue}
 use Rattle.linear_algebra.proofs.Algebra.{zero_add, add_left_comm, mul_zero, IsInSpan-add, IsInSpan-scaled, IsInSpan-zero}
 use Rattle.linear_algebra.proofs.Dependent.{HasNonzero, IsZeroOn, dependent, sum_zip}
 use Rattle.linear_algebra.proofs.ModField.{same_residue}
-use Rattle.ideal_laws.specs.Ideal.{IsInIdeal, IsLeadingWord}
+use Rattle.ideal_laws.specs.Ideal.{Ideal, IsInIdeal, IsLeadingWord}
 use Rattle.ideal_laws.specs.Dimension.{AreFactors, IsDimension, IsIndependent, combination}
 use Rattle.ideal_laws.specs.Laws.{HasDimension, HasOneDimension, IsSetting}
 use Rattle.ideal_laws.proofs.Leads.{element_from, element_inside, found, had_from_rows, is_leading, leading_listed, leading_words, listed_leading}
@@ -167,54 +167,56 @@ module _ (p : ℕ) (fm : IsFieldModulus p) where
       (vectors.vector_of p fm (combination cs fs))
       ∙ ap₂ (λ (m n : Residue p). K.add (K.mul (of c) m) n) z.0 (readings-combination bs es cs fs z.1) ∙ times_nothing (of c) K.zero
 
-module _ (p : ℕ) (weights : List ℕ) (relations : List (List Term)) (st : IsSetting p weights relations) (d : ℕ) where
-  abbrev fmd : IsFieldModulus p
+module _ (ideal : Ideal) (st : IsSetting ideal) (d : ℕ) where
+  abbrev fmd : IsFieldModulus ideal.modulus
   fmd = st.modulus
 
   abbrev Kd : Field
-  Kd = vectors.K p fmd
+  Kd = vectors.K ideal.modulus fmd
 
   abbrev Vd : Type 0
-  Vd = List ℕ → Residue p
+  Vd = List ℕ → Residue ideal.modulus
 
   abbrev es : List (List ℕ × Vd)
-  es = rows p fmd weights relations st d
+  es = rows ideal fmd st d
 
   abbrev element_of : List ℕ × Vd → List Term
-  element_of e = element_from p fmd weights relations st d e.1
+  element_of e = element_from ideal fmd st d e.1
 
   abbrev members : List (List Term)
   members = map element_of es
 
   abbrev columns : List (List ℕ)
-  columns = words_of_degree weights d
+  columns = words_of_degree ideal.weights d
 
   reduced : IsReduced Kd (List ℕ) columns es
-  reduced = (found p fmd weights relations st d).1.reduced
+  reduced = (found ideal fmd st d).1.reduced
 
   vector_of_combination : (cs : List ℕ) (fs : List (List ℕ × Vd)) → ((e : List ℕ × Vd) → Contains fs e → Contains es e) → (y : List ℕ) →
-      vectors.vector_of p fmd (combination cs (map element_of fs)) y ≡ mix p fmd cs fs y
-  vector_of_combination [] fs h y = same_residue p _ _ refl
-  vector_of_combination (c ∷ cs) [] h y = same_residue p _ _ refl
+      vectors.vector_of ideal.modulus fmd (combination cs (map element_of fs)) y ≡ mix ideal.modulus fmd cs fs y
+  vector_of_combination [] fs h y = same_residue ideal.modulus _ _ refl
+  vector_of_combination (c ∷ cs) [] h y = same_residue ideal.modulus _ _ refl
   vector_of_combination (c ∷ cs) (e ∷ fs) h y =
-      combination-first p fmd c cs (element_of e) (map element_of fs) y
-      ∙ ap₂ (λ (m n : Residue p). Kd.add (Kd.mul (vectors.of p fmd c) m) n)
-      (vector_of_element p fmd weights relations st d e.1 (row_member p fmd weights relations st d e (h e (Contains-first e fs))) y)
+      combination-first ideal.modulus fmd c cs (element_of e) (map element_of fs) y
+      ∙ ap₂ (λ (m n : Residue ideal.modulus). Kd.add (Kd.mul (vectors.of ideal.modulus fmd c) m) n)
+      (vector_of_element ideal fmd st d e.1 (row_member ideal fmd st d e (h e (Contains-first e fs))) y)
       (vector_of_combination cs fs (λ g m. h g (Contains-more e fs g m)) y)
 
-  independent : IsIndependent p members
+  independent : IsIndependent ideal.modulus members
   independent cs fac none =
-      rows_independent p fmd columns es reduced cs (fac.count ∙ length-map es element_of) fac.residues
-      (λ e m. sym (vector_of_combination cs es (λ g n. n) e.0) ∙ same_vectors p fmd (combination cs members) [] none e.0 ∙ same_residue p _ _ refl)
+      rows_independent ideal.modulus fmd columns es reduced cs (fac.count ∙ length-map es element_of) fac.residues
+      (λ e m. sym (vector_of_combination cs es (λ g n. n) e.0) ∙ same_vectors ideal.modulus fmd (combination cs members) [] none e.0
+      ∙ same_residue ideal.modulus _ _ refl)
 
   -- the entries of a member at the leading columns
   abbrev factors_of : Vd → List (List ℕ × Vd) → List ℕ
   factors_of v fs = map (λ (e : List ℕ × Vd). (v e.0).0) fs
 
-  mix-factors : (v : Vd) (fs : List (List ℕ × Vd)) (y : List ℕ) → mix p fmd (factors_of v fs) fs y ≡ sum_of Kd (List ℕ) (from_leads Kd (List ℕ) fs v) y
+  mix-factors : (v : Vd) (fs : List (List ℕ × Vd)) (y : List ℕ) → mix ideal.modulus fmd (factors_of v fs) fs y ≡ sum_of Kd (List ℕ)
+      (from_leads Kd (List ℕ) fs v) y
   mix-factors v [] y = refl
-  mix-factors v (e ∷ fs) y = ap₂ (λ (m n : Residue p). Kd.add (Kd.mul m (e.1 y)) n)
-      (same_residue p (vectors.of p fmd (v e.0).0) (v e.0) (mod-eq_of_lt (v e.0).1)) (mix-factors v fs y)
+  mix-factors v (e ∷ fs) y = ap₂ (λ (m n : Residue ideal.modulus). Kd.add (Kd.mul m (e.1 y)) n)
+      (same_residue ideal.modulus (vectors.of ideal.modulus fmd (v e.0).0) (v e.0) (mod-eq_of_lt (v e.0).1)) (mix-factors v fs y)
 
   same_at : (xs : List (List ℕ)) (u v : Vd) → AreSameAt Kd (List ℕ) xs u v → (w : List ℕ) → Contains xs w → u w ≡ v w
   same_at [] u v s w m = absurd (Contains-none w m)
@@ -223,58 +225,59 @@ module _ (p : ℕ) (weights : List ℕ) (relations : List (List Term)) (st : IsS
     | inr n ↦ same_at xs u v s.1 w n
   ]
 
-  mixed : (v : Vd) → IsMemberVector p fmd weights relations st d v → (w : List ℕ) → v w ≡ mix p fmd (factors_of v es) es w
+  mixed : (v : Vd) → IsMemberVector ideal fmd st d v → (w : List ℕ) → v w ≡ mix ideal.modulus fmd (factors_of v es) es w
   mixed v s w = elim (listed columns w) [
-    | inl m ↦ same_at columns v _ (had_from_rows p fmd weights relations st d v s) w m ∙ sym (mix-factors v es w)
-    | inr off ↦ member_off p fmd weights relations st d v s w off
-        ∙ sym (mix-zero p fmd (factors_of v es) es w (λ e m. member_off p fmd weights relations st d e.1 (row_member p fmd weights relations st d e m) w off))
+    | inl m ↦ same_at columns v _ (had_from_rows ideal fmd st d v s) w m ∙ sym (mix-factors v es w)
+    | inr off ↦ member_off ideal fmd st d v s w off
+        ∙ sym (mix-zero ideal.modulus fmd (factors_of v es) es w (λ e m. member_off ideal fmd st d e.1 (row_member ideal fmd st d e m) w off))
   ]
 
-  spanning : (f : List Term) → IsInIdeal p weights relations d f → (cs : List ℕ) × AreFactors p cs members × IsSame p f (combination cs members)
+  spanning : (f : List Term) → IsInIdeal ideal d f → (cs : List ℕ) × AreFactors ideal.modulus cs members × IsSame ideal.modulus f (combination cs members)
   spanning f i =
-      let v = vectors.vector_of p fmd f in (
+      let v = vectors.vector_of ideal.modulus fmd f in (
         factors_of v es,
         record {
           count = length-map es (λ (e : List ℕ × Vd). (v e.0).0) ∙ sym (length-map es element_of);
-          residues = All-map (λ c. c < p) (λ (e : List ℕ × Vd). (v e.0).0) es (λ k e within. (v (get_or es k e).0).1);
+          residues = All-map (λ c. c < ideal.modulus) (λ (e : List ℕ × Vd). (v e.0).0) es (λ k e within. (v (get_or es k e).0).1);
         },
-        λ w. ap (λ (n : Residue p). n.0) (mixed v (span_from_ideal p fmd weights relations d f i) w
+        λ w. ap (λ (n : Residue ideal.modulus). n.0) (mixed v (span_from_ideal ideal fmd d f i) w
             ∙ sym (vector_of_combination (factors_of v es) es (λ g n. n) w)),
       )
 
-  pub has_dimension : IsDimension p weights relations d (length (leading_words p fmd weights relations st d))
+  pub has_dimension : IsDimension ideal d (length (leading_words ideal fmd st d))
   has_dimension = record {
     members = members;
     count = length-map es element_of ∙ sym (length-map es (λ (e : List ℕ × Vd). e.0));
-    inside = All-from_members (IsInIdeal p weights relations d) members (λ f m.
+    inside = All-from_members (IsInIdeal ideal d) members (λ f m.
         let c = Contains-map_cases element_of es f m in
-        subst (IsInIdeal p weights relations d) c.2 (element_inside p fmd weights relations st d c.0.1 (row_member p fmd weights relations st d c.0 c.1)));
+        subst (IsInIdeal ideal d) c.2 (element_inside ideal fmd st d c.0.1 (row_member ideal fmd st d c.0 c.1)));
     independent = independent;
     spanning = spanning;
   }
 
   -- sums of multiples of members are members
-  sum_member : (cs : List (Residue p)) (fs : List (List Term)) → All (IsInIdeal p weights relations d) fs →
-      IsMemberVector p fmd weights relations st d (sum_zip Kd (List ℕ) cs (map (vectors.vector_of p fmd) fs))
+  sum_member : (cs : List (Residue ideal.modulus)) (fs : List (List Term)) → All (IsInIdeal ideal d) fs →
+      IsMemberVector ideal fmd st d (sum_zip Kd (List ℕ) cs (map (vectors.vector_of ideal.modulus fmd) fs))
   sum_member [] fs h = IsInSpan-zero Kd (List ℕ) _
   sum_member (c ∷ cs) [] h = IsInSpan-zero Kd (List ℕ) _
   sum_member (c ∷ cs) (f ∷ fs) h =
-      IsInSpan-add Kd (List ℕ) _ _ _ (IsInSpan-scaled Kd (List ℕ) _ c (vectors.vector_of p fmd f)
-      (span_from_ideal p fmd weights relations d f (All-head (IsInIdeal p weights relations d) f fs h)))
-      (sum_member cs fs (All-tail (IsInIdeal p weights relations d) f fs h))
+      IsInSpan-add Kd (List ℕ) _ _ _ (IsInSpan-scaled Kd (List ℕ) _ c (vectors.vector_of ideal.modulus fmd f)
+      (span_from_ideal ideal fmd d f (All-head (IsInIdeal ideal d) f fs h)))
+      (sum_member cs fs (All-tail (IsInIdeal ideal d) f fs h))
 
-  abbrev numbers : List (Residue p) → List ℕ
-  numbers cs = map (λ (c : Residue p). c.0) cs
+  abbrev numbers : List (Residue ideal.modulus) → List ℕ
+  numbers cs = map (λ (c : Residue ideal.modulus). c.0) cs
 
-  vector_of_numbers : (cs : List (Residue p)) (fs : List (List Term)) (y : List ℕ) →
-      vectors.vector_of p fmd (combination (numbers cs) fs) y ≡ sum_zip Kd (List ℕ) cs (map (vectors.vector_of p fmd) fs) y
-  vector_of_numbers [] fs y = same_residue p _ _ refl
-  vector_of_numbers (c ∷ cs) [] y = same_residue p _ _ refl
+  vector_of_numbers : (cs : List (Residue ideal.modulus)) (fs : List (List Term)) (y : List ℕ) →
+      vectors.vector_of ideal.modulus fmd (combination (numbers cs) fs) y ≡ sum_zip Kd (List ℕ) cs (map (vectors.vector_of ideal.modulus fmd) fs) y
+  vector_of_numbers [] fs y = same_residue ideal.modulus _ _ refl
+  vector_of_numbers (c ∷ cs) [] y = same_residue ideal.modulus _ _ refl
   vector_of_numbers (c ∷ cs) (f ∷ fs) y =
-      combination-first p fmd c.0 (numbers cs) f fs y ∙ ap₂ (λ (m n : Residue p). Kd.add (Kd.mul m (vectors.vector_of p fmd f y)) n)
-      (same_residue p (vectors.of p fmd c.0) c (mod-eq_of_lt c.1)) (vector_of_numbers cs fs y)
+      combination-first ideal.modulus fmd c.0 (numbers cs) f fs y ∙ ap₂ (λ (m n : Residue ideal.modulus). Kd.add
+      (Kd.mul m (vectors.vector_of ideal.modulus fmd f y)) n)
+      (same_residue ideal.modulus (vectors.of ideal.modulus fmd c.0) c (mod-eq_of_lt c.1)) (vector_of_numbers cs fs y)
 
-  all_zero : (cs : List (Residue p)) → HasNonzero Kd (List ℕ) cs → All (λ c. c ≡ 0) (numbers cs) → ⊥
+  all_zero : (cs : List (Residue ideal.modulus)) → HasNonzero Kd (List ℕ) cs → All (λ c. c ≡ 0) (numbers cs) → ⊥
   all_zero [] some h = some
   all_zero (c ∷ cs) (inl f) h = let t : (c.0 == 0) ≡ true = ap (λ (n : ℕ). n == 0) (All-head (λ c. c ≡ 0) c.0 (numbers cs) h) in cc
   all_zero (c ∷ cs) (inr later) h = all_zero cs later (All-tail (λ c. c ≡ 0) c.0 (numbers cs) h)
@@ -282,61 +285,61 @@ module _ (p : ℕ) (weights : List ℕ) (relations : List (List Term)) (st : IsS
   zero_leads : (v : Vd) (fs : List (List ℕ × Vd)) → IsZeroOn Kd (List ℕ) (map (λ (e : List ℕ × Vd). e.0) fs) v → (y : List ℕ) →
       sum_of Kd (List ℕ) (from_leads Kd (List ℕ) fs v) y ≡ Kd.zero
   zero_leads v [] z y = refl
-  zero_leads v (e ∷ fs) z y = ap (λ (n : Residue p). Kd.add (Kd.mul n (e.1 y)) (sum_of Kd (List ℕ) (from_leads Kd (List ℕ) fs v) y)) z.0
-      ∙ nothing_times p fmd (e.1 y) _ ∙ zero_leads v fs z.1 y
+  zero_leads v (e ∷ fs) z y = ap (λ (n : Residue ideal.modulus). Kd.add (Kd.mul n (e.1 y)) (sum_of Kd (List ℕ) (from_leads Kd (List ℕ) fs v) y)) z.0
+      ∙ nothing_times ideal.modulus fmd (e.1 y) _ ∙ zero_leads v fs z.1 y
 
   -- no more independent members than leading words
-  at_most : (fs : List (List Term)) → All (IsInIdeal p weights relations d) fs → IsIndependent p fs →
-      length (leading_words p fmd weights relations st d) < length fs → ⊥
+  at_most : (fs : List (List Term)) → All (IsInIdeal ideal d) fs → IsIndependent ideal.modulus fs →
+      length (leading_words ideal fmd st d) < length fs → ⊥
   at_most fs inside ind more =
-      let dep = dependent Kd (List ℕ) (leading_words p fmd weights relations st d) (map (vectors.vector_of p fmd) fs)
-      (omega (arith, more, length-map fs (vectors.vector_of p fmd))) in
-      let v = sum_zip Kd (List ℕ) dep.factors (map (vectors.vector_of p fmd) fs) in
+      let dep = dependent Kd (List ℕ) (leading_words ideal fmd st d) (map (vectors.vector_of ideal.modulus fmd) fs)
+      (omega (arith, more, length-map fs (vectors.vector_of ideal.modulus fmd))) in
+      let v = sum_zip Kd (List ℕ) dep.factors (map (vectors.vector_of ideal.modulus fmd) fs) in
       let s = sum_member dep.factors fs inside in
       let zero : (w : List ℕ) → v w ≡ Kd.zero = λ w. elim (listed columns w) [
-        | inl m ↦ same_at columns v _ (had_from_rows p fmd weights relations st d v s) w m ∙ zero_leads v es dep.sum w
-        | inr off ↦ member_off p fmd weights relations st d v s w off
+        | inl m ↦ same_at columns v _ (had_from_rows ideal fmd st d v s) w m ∙ zero_leads v es dep.sum w
+        | inr off ↦ member_off ideal fmd st d v s w off
       ] in
       all_zero dep.factors dep.other (ind (numbers dep.factors)
       (record {
-        count = length-map dep.factors (λ (c : Residue p). c.0) ∙ dep.count ∙ length-map fs (vectors.vector_of p fmd);
+        count = length-map dep.factors (λ (c : Residue ideal.modulus). c.0) ∙ dep.count ∙ length-map fs (vectors.vector_of ideal.modulus fmd);
         residues =
-            All-map (λ c. c < p) (λ (c : Residue p). c.0) dep.factors (λ k c within. (get_or dep.factors k c).1);
+            All-map (λ c. c < ideal.modulus) (λ (c : Residue ideal.modulus). c.0) dep.factors (λ k c within. (get_or dep.factors k c).1);
       })
-      (λ w. ap (λ (n : Residue p). n.0) (vector_of_numbers dep.factors fs w ∙ zero w)))
+      (λ w. ap (λ (n : Residue ideal.modulus). n.0) (vector_of_numbers dep.factors fs w ∙ zero w)))
 
   -- no fewer members span than there are leading words
-  at_least : (fs : List (List Term)) → ((f : List Term) → IsInIdeal p weights relations d f →
-      (cs : List ℕ) × AreFactors p cs fs × IsSame p f (combination cs fs))
-      → length fs < length (leading_words p fmd weights relations st d) → ⊥
+  at_least : (fs : List (List Term)) → ((f : List Term) → IsInIdeal ideal d f →
+      (cs : List ℕ) × AreFactors ideal.modulus cs fs × IsSame ideal.modulus f (combination cs fs))
+      → length fs < length (leading_words ideal fmd st d) → ⊥
   at_least fs span fewer =
-      let dep = dependent Kd Vd (map (vectors.vector_of p fmd) fs) (map (reading p fmd) es)
+      let dep = dependent Kd Vd (map (vectors.vector_of ideal.modulus fmd) fs) (map (reading ideal.modulus fmd) es)
       (omega (
         arith,
         fewer,
-        length-map fs (vectors.vector_of p fmd),
-        length-map es (reading p fmd),
+        length-map fs (vectors.vector_of ideal.modulus fmd),
+        length-map es (reading ideal.modulus fmd),
         length-map es (λ (e : List ℕ × Vd). e.0),
       )) in
-      readings_independent p fmd columns es reduced dep.factors (dep.count ∙ length-map es (reading p fmd)) (λ e m.
+      readings_independent ideal.modulus fmd columns es reduced dep.factors (dep.count ∙ length-map es (reading ideal.modulus fmd)) (λ e m.
       let f = element_of e in
-      let member = row_member p fmd weights relations st d e m in
-      let c = span f (element_inside p fmd weights relations st d e.1 member) in
-      readings-same p fmd dep.factors es e.1 (vectors.vector_of p fmd (combination c.0 fs))
-      (λ y. sym (vector_of_element p fmd weights relations st d e.1 member y) ∙ same_vectors p fmd f (combination c.0 fs) c.2 y)
-      ∙ readings-combination p fmd dep.factors es c.0 fs dep.sum) dep.other
+      let member = row_member ideal fmd st d e m in
+      let c = span f (element_inside ideal fmd st d e.1 member) in
+      readings-same ideal.modulus fmd dep.factors es e.1 (vectors.vector_of ideal.modulus fmd (combination c.0 fs))
+      (λ y. sym (vector_of_element ideal fmd st d e.1 member y) ∙ same_vectors ideal.modulus fmd f (combination c.0 fs) c.2 y)
+      ∙ readings-combination ideal.modulus fmd dep.factors es c.0 fs dep.sum) dep.other
 
-  pub only_dimension : (k : ℕ) → IsDimension p weights relations d k → k ≡ length (leading_words p fmd weights relations st d)
-  only_dimension k h = elim (cases_lt (length h.members) (length (leading_words p fmd weights relations st d))) [
+  pub only_dimension : (k : ℕ) → IsDimension ideal d k → k ≡ length (leading_words ideal fmd st d)
+  only_dimension k h = elim (cases_lt (length h.members) (length (leading_words ideal fmd st d))) [
     | inl fewer ↦ absurd (at_least h.members h.spanning fewer)
-    | inr le ↦ elim (cases_lt (length (leading_words p fmd weights relations st d)) (length h.members)) [
+    | inr le ↦ elim (cases_lt (length (leading_words ideal fmd st d)) (length h.members)) [
       | inl more ↦ absurd (at_most h.members h.inside h.independent more)
       | inr ge ↦ omega (arith, le, ge, h.count)
     ]
   ]
 
   abbrev IsLead : List ℕ → Type 0
-  IsLead w = IsLeadingWord p weights relations d w
+  IsLead w = IsLeadingWord ideal d w
 
   abbrev IsNoLead : List ℕ → Type 0
   IsNoLead w = IsLead w → ⊥
@@ -346,7 +349,7 @@ module _ (p : ℕ) (weights : List ℕ) (relations : List (List Term)) (st : IsS
   turned w (inr n) = inl n
 
   abbrev decide : (w : List ℕ) → IsLead w ⊎ IsNoLead w
-  decide w = is_leading p fmd weights relations st d w
+  decide w = is_leading ideal fmd st d w
 
   abbrev others : List (List ℕ) → List (List ℕ)
   others xs = kept IsNoLead (λ w. turned w (decide w)) xs
@@ -363,52 +366,53 @@ module _ (p : ℕ) (weights : List ℕ) (relations : List (List Term)) (st : IsS
 
   lead_column : (w : List ℕ) → IsLead w → Contains columns w
   lead_column w l =
-      let c = Contains-map_cases (λ (e : List ℕ × Vd). e.0) es w (leading_listed p fmd weights relations st d w l) in
-      subst (Contains columns) c.2 (lead_in_columns p fmd columns es reduced c.0 c.1)
+      let c = Contains-map_cases (λ (e : List ℕ × Vd). e.0) es w (leading_listed ideal fmd st d w l) in
+      subst (Contains columns) c.2 (lead_in_columns ideal.modulus fmd columns es reduced c.0 c.1)
 
-  falling_leads : AllPairs IsLetterwiseGreater (leading_words p fmd weights relations st d)
+  falling_leads : AllPairs IsLetterwiseGreater (leading_words ideal fmd st d)
   falling_leads = AllPairs-map (λ (e : List ℕ × Vd). e.0) (λ (c e : List ℕ × Vd). IsLetterwiseGreater c.0 e.0) IsLetterwiseGreater
-      (λ c e g. g) es (leads_falling p fmd columns es reduced (words_of_degree-falling weights st.are_weights d))
+      (λ c e g. g) es (leads_falling ideal.modulus fmd columns es reduced (words_of_degree-falling ideal.weights st.are_weights d))
 
   falling-apart : (xs : List (List ℕ)) → AllPairs IsLetterwiseGreater xs → AllPairs (λ v w. v ≢ w) xs
   falling-apart xs h i j x below within = letterwise-apart _ _ (h i j x below within)
 
-  kept_leads : leading_words p fmd weights relations st d ≡ kept IsLead decide columns
+  kept_leads : leading_words ideal fmd st d ≡ kept IsLead decide columns
   kept_leads = same_lists IsLetterwiseGreater (λ w g. letterwise-apart w w g refl) letterwise-trans _ _ falling_leads
-      (AllPairs-kept IsLead decide IsLetterwiseGreater columns (words_of_degree-falling weights st.are_weights d))
-      (λ w m. let l = listed_leading p fmd weights relations st d w m in in_kept IsLead decide columns w (lead_column w l) l)
-      (λ w m. leading_listed p fmd weights relations st d w (kept-says IsLead decide columns w m).1)
+      (AllPairs-kept IsLead decide IsLetterwiseGreater columns (words_of_degree-falling ideal.weights st.are_weights d))
+      (λ w m. let l = listed_leading ideal fmd st d w m in in_kept IsLead decide columns w (lead_column w l) l)
+      (λ w m. leading_listed ideal fmd st d w (kept-says IsLead decide columns w m).1)
 
-  counts : length (leading_words p fmd weights relations st d) + length (others columns) ≡ length columns
+  counts : length (leading_words ideal fmd st d) + length (others columns) ≡ length columns
   counts = ap (λ (xs : List (List ℕ)). length xs + length (others columns)) kept_leads ∙ count_both columns
 
-  split_column : (w : List ℕ) → Contains columns w → Contains (leading_words p fmd weights relations st d) w ⊎ Contains (others columns) w
+  split_column : (w : List ℕ) → Contains columns w → Contains (leading_words ideal fmd st d) w ⊎ Contains (others columns) w
   split_column w m = elim (decide w) [
-    | inl l ↦ inl (leading_listed p fmd weights relations st d w l)
+    | inl l ↦ inl (leading_listed ideal fmd st d w l)
     | inr n ↦ inr (in_kept IsNoLead (λ w. turned w (decide w)) columns w m n)
   ]
 
-  joined_column : (w : List ℕ) → Contains (leading_words p fmd weights relations st d) w ⊎ Contains (others columns) w → Contains columns w
-  joined_column w (inl m) = lead_column w (listed_leading p fmd weights relations st d w m)
+  joined_column : (w : List ℕ) → Contains (leading_words ideal fmd st d) w ⊎ Contains (others columns) w → Contains columns w
+  joined_column w (inl m) = lead_column w (listed_leading ideal fmd st d w m)
   joined_column w (inr m) = (kept-says IsNoLead (λ w. turned w (decide w)) columns w m).0
 
-  pub dimension_of_degree : HasDimension p weights relations d
+  pub dimension_of_degree : HasDimension ideal d
   dimension_of_degree = record {
-    leading = leading_words p fmd weights relations st d;
+    leading = leading_words ideal fmd st d;
     others = others columns;
     are_leading = record {
-      exactly = λ w. (listed_leading p fmd weights relations st d w, leading_listed p fmd weights relations st d w);
+      exactly = λ w. (listed_leading ideal fmd st d w, leading_listed ideal fmd st d w);
       apart = falling-apart _ falling_leads;
     };
     split = λ w. (split_column w, joined_column w);
     are_others = λ w m. (kept-says IsNoLead (λ w. turned w (decide w)) columns w m).1;
-    apart = falling-apart _ (AllPairs-kept IsNoLead (λ w. turned w (decide w)) IsLetterwiseGreater columns (words_of_degree-falling weights st.are_weights d));
-    dimension = λ k. (only_dimension k, λ e. subst (IsDimension p weights relations d) (sym e) has_dimension);
+    apart = falling-apart _ (AllPairs-kept IsNoLead (λ w. turned w (decide w)) IsLetterwiseGreater columns
+        (words_of_degree-falling ideal.weights st.are_weights d));
+    dimension = λ k. (only_dimension k, λ e. subst (IsDimension ideal d) (sym e) has_dimension);
     coefficient = λ h. (
       (λ c. omega (arith, c.rest, only_dimension c.dimension c.is_dimension, counts)),
-      λ e. record { dimension = length (leading_words p fmd weights relations st d); is_dimension = has_dimension; rest = omega (arith, e, counts) },
+      λ e. record { dimension = length (leading_words ideal fmd st d); is_dimension = has_dimension; rest = omega (arith, e, counts) },
     );
   }
 
 pub has_one_dimension : HasOneDimension
-has_one_dimension p weights relations st d = dimension_of_degree p weights relations st d
+has_one_dimension ideal st d = dimension_of_degree ideal st d

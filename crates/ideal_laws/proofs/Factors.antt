@@ -13,7 +13,7 @@ use Rattle.free_poly.specs.declared.term.Term.{Term}
 use Rattle.free_poly.specs.Terms.{product}
 use Rattle.free_poly.proofs.Products.{degree_of-round}
 use Rattle.free_poly.proofs.Totals.{here}
-use Rattle.ideal_laws.specs.Ideal.{IsInIdeal, IsLeadingWord, IsMinimal}
+use Rattle.ideal_laws.specs.Ideal.{Ideal, IsInIdeal, IsLeadingWord, IsMinimal}
 use Rattle.ideal_laws.specs.Laws.{IsFactorLaw, IsSetting}
 use Rattle.ideal_laws.proofs.Closed.{inside_product, lead-product}
 use Rattle.ideal_laws.proofs.Leads.{is_leading}
@@ -87,15 +87,15 @@ pub All-back : (P : ℕ → Type 0) (a b : List ℕ) → All P (a ++ b) → All 
 All-back P [] b h = h
 All-back P (x ∷ a) b h = All-back P a b (All-tail P x (a ++ b) h)
 
-module _ (p : ℕ) (weights : List ℕ) (relations : List (List Term)) (st : IsSetting p weights relations) where
+module _ (ideal : Ideal) (st : IsSetting ideal) where
   -- a leading word other than w
   abbrev IsOther : List ℕ → List ℕ → Type 0
-  IsOther w v = (v ≢ w) × IsLeadingWord p weights relations (degree_of weights v) v
+  IsOther w v = (v ≢ w) × IsLeadingWord ideal (degree_of ideal.weights v) v
 
   is_other : (w v : List ℕ) → IsOther w v ⊎ (IsOther w v → ⊥)
   is_other w v = elim (cases_Bool (bytes_eq v w)) [
     | inl is ↦ inr (λ h. h.0 ((bytes_eq-Decides v w).0 is))
-    | inr other ↦ elim (is_leading p st.modulus weights relations st (degree_of weights v) v) [
+    | inr other ↦ elim (is_leading ideal st.modulus st (degree_of ideal.weights v) v) [
       | inl l ↦ inl (apart other, l)
       | inr not ↦ inr (λ h. not h.1)
     ]
@@ -106,17 +106,17 @@ module _ (p : ℕ) (weights : List ℕ) (relations : List (List Term)) (st : IsS
 
   -- a leading word is minimal, or has a proper factor that is a leading word
   pub data IsMinimalOr (w : List ℕ) : Type 0 where
-    minimal : IsMinimal p weights relations w → IsMinimalOr w
-    inside : (v : List ℕ) → IsProperFactor v w → IsLeadingWord p weights relations (degree_of weights v) v → IsMinimalOr w
+    minimal : IsMinimal ideal w → IsMinimalOr w
+    inside : (v : List ℕ) → IsProperFactor v w → IsLeadingWord ideal (degree_of ideal.weights v) v → IsMinimalOr w
 
-  pub minimal_or : (w : List ℕ) → IsLeadingWord p weights relations (degree_of weights w) w → IsMinimalOr w
+  pub minimal_or : (w : List ℕ) → IsLeadingWord ideal (degree_of ideal.weights w) w → IsMinimalOr w
   minimal_or w l = elim (search_list (IsOther w) (is_other w) (factors w)) [
     | found v m h ↦ inside v (record { inside = listed_factor v w m; other = h.0 }) h.1
     | none all ↦ minimal (record { leading = l; none_inside = λ v proper k. all v (factor_listed v w proper.inside) (proper.other, k) })
   ]
 
-  pub is_minimal : (w : List ℕ) → IsMinimal p weights relations w ⊎ (IsMinimal p weights relations w → ⊥)
-  is_minimal w = elim (is_leading p st.modulus weights relations st (degree_of weights w) w) [
+  pub is_minimal : (w : List ℕ) → IsMinimal ideal w ⊎ (IsMinimal ideal w → ⊥)
+  is_minimal w = elim (is_leading ideal st.modulus st (degree_of ideal.weights w) w) [
     | inr not ↦ inr (λ m. not m.leading)
     | inl l ↦ elim (minimal_or w l) [
       | minimal m ↦ inl m
@@ -124,8 +124,7 @@ module _ (p : ℕ) (weights : List ℕ) (relations : List (List Term)) (st : IsS
     ]
   ]
 
-  minimal_inside : (n : ℕ) (w : List ℕ) → length w ≤ n → IsLeadingWord p weights relations (degree_of weights w) w →
-      (v : List ℕ) × IsFactor v w × IsMinimal p weights relations v
+  minimal_inside : (n : ℕ) (w : List ℕ) → length w ≤ n → IsLeadingWord ideal (degree_of ideal.weights w) w → (v : List ℕ) × IsFactor v w × IsMinimal ideal v
   minimal_inside zero w le l = elim (minimal_or w l) [
     | minimal m ↦ (w, factor_itself w, m)
     | inside v proper k ↦ absurd (omega (arith, le, shorter v w proper))
@@ -137,22 +136,23 @@ module _ (p : ℕ) (weights : List ℕ) (relations : List (List Term)) (st : IsS
         (r.0, factor_trans r.0 v w r.1 proper.inside, r.2)
   ]
 
-  leading_round : (w v : List ℕ) → IsOver (length weights) w → IsFactor v w → IsLeadingWord p weights relations (degree_of weights v) v →
-      IsLeadingWord p weights relations (degree_of weights w) w
+  leading_round : (w v : List ℕ) → IsOver (length ideal.weights) w → IsFactor v w → IsLeadingWord ideal (degree_of ideal.weights v) v →
+      IsLeadingWord ideal (degree_of ideal.weights w) w
   leading_round w v over i l =
-      let whole = subst (IsOver (length weights)) i.joined over in
-      let front = All-front (λ x. x < length weights) i.before v (All-front (λ x. x < length weights) (i.before ++ v) i.after whole) in
-      let back = All-back (λ x. x < length weights) (i.before ++ v) i.after whole in
-      let degree = sym (ap (degree_of weights) i.joined ∙ degree_of-round weights i.before v i.after) in
+      let whole = subst (IsOver (length ideal.weights)) i.joined over in
+      let front = All-front (λ x. x < length ideal.weights) i.before v (All-front (λ x. x < length ideal.weights) (i.before ++ v) i.after whole) in
+      let back = All-back (λ x. x < length ideal.weights) (i.before ++ v) i.after whole in
+      let degree = sym (ap (degree_of ideal.weights) i.joined ∙ degree_of-round ideal.weights i.before v i.after) in
       record {
         member = product i.before l.member i.after;
-        inside = subst (λ (n : ℕ). IsInIdeal p weights relations n (product i.before l.member i.after)) degree
-            (inside_product p weights st.are_weights relations (degree_of weights v) i.before l.member i.after front back l.inside);
+        inside = subst (λ (n : ℕ). IsInIdeal ideal n (product i.before l.member i.after)) degree
+            (inside_product ideal.modulus ideal.weights st.are_weights ideal.relations (degree_of ideal.weights v) i.before l.member i.after front back
+            l.inside);
         lead = lead-product i.before l.member i.after v l.lead ∙ ap Some (sym i.joined);
       }
 
 pub factor_law : IsFactorLaw
-factor_law p weights relations st w over = (
-  minimal_inside p weights relations st (length w) w (omega arith),
-  λ h. leading_round p weights relations st w h.0 over h.1 h.2.leading,
+factor_law ideal st w over = (
+  minimal_inside ideal st (length w) w (omega arith),
+  λ h. leading_round ideal st w h.0 over h.1 h.2.leading,
 )

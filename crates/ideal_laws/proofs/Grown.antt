@@ -12,6 +12,7 @@ use Rattle.free_poly.specs.Poly.{IsMonic}
 use Rattle.words.specs.Words.{AreWeights, degree_of}
 use Rattle.ideal_laws.specs.Basis.{HasGreaterLead, IsReducedBasis}
 use Rattle.ideal_laws.specs.Engine.{Elements, IsReducedUpto, of_degree}
+use Rattle.ideal_laws.specs.Ideal.{ideal_over}
 use Rattle.ideal_laws.specs.Kept.{IsKept, IsKeptElement, IsStored, StandsBefore, count_below, count_upto, lead_degree}
 use Rattle.ideal_laws.proofs.Counts.{not_eqb, upto-all, upto-append, upto-none, with_key}
 
@@ -154,7 +155,7 @@ module _ (basis : Elements) (added : List (List Term)) (next : AreNext basis add
 
   -- a basis that is reduced in each degree stays so with the reduced basis of the next one
   pub reduced_grown : (p : ℕ) (relations : List (List Term)) → IsKept basis → IsReducedUpto p relations basis →
-      IsReducedBasis p basis.weights relations (basis.done + 1) added → IsReducedUpto p relations (grown basis added)
+      IsReducedBasis (ideal_over p basis.weights relations) (basis.done + 1) added → IsReducedUpto p relations (grown basis added)
   reduced_grown p relations h old new d from le = elim (cases_lt basis.done d) [
     | inl last ↦
         let is : d ≡ basis.done + 1 = omega (arith, last, le) in
@@ -163,19 +164,20 @@ module _ (basis : Elements) (added : List (List Term)) (next : AreNext basis add
         ∙ ap₂ (λ (fs gs : List (List Term)). fs ++ gs) (of_degree-none basis.weights d basis.elements
         (λ k f within e. omega (arith, (h.each k f within).upto, e, last)))
         (ap (λ (n : ℕ). of_degree basis.weights n added) is ∙ of_degree-all basis.weights (basis.done + 1) added next.monic next.degree) in
-        subst (IsReducedBasis p basis.weights relations d) (sym here) (subst (λ (n : ℕ). IsReducedBasis p basis.weights relations n added) (sym is) new)
+        subst (IsReducedBasis (ideal_over p basis.weights relations) d) (sym here)
+        (subst (λ (n : ℕ). IsReducedBasis (ideal_over p basis.weights relations) n added) (sym is) new)
     | inr before ↦
         let here : of_degree basis.weights d (basis.elements ++ added) ≡ of_degree basis.weights d basis.elements =
         of_degree-append basis.weights d basis.elements added
         ∙ ap (λ (gs : List (List Term)). of_degree basis.weights d basis.elements ++ gs)
         (of_degree-none basis.weights d added (λ k f within e. omega (arith, leads_next k f within, e, before)))
         ∙ append-nil (of_degree basis.weights d basis.elements) in
-        subst (IsReducedBasis p basis.weights relations d) (sym here) (old d from before)
+        subst (IsReducedBasis (ideal_over p basis.weights relations) d) (sym here) (old d from before)
   ]
 
 -- the reduced basis of a degree may be the next one
 pub next_from_reduced : (p : ℕ) (relations : List (List Term)) (basis : Elements) (added : List (List Term)) → length added ≤ 16777216
-    → IsReducedBasis p basis.weights relations (basis.done + 1) added → AreNext basis added
+    → IsReducedBasis (ideal_over p basis.weights relations) (basis.done + 1) added → AreNext basis added
 next_from_reduced p relations basis added few h = record {
   few = few;
   monic = All-from_members IsMonic added (λ f m. ((h.exactly f).0 m).monic);
@@ -204,7 +206,7 @@ stored_none weights ends one few are size none = record {
 -- the same of a basis that has grown so
 pub reduced_upto_grown : (p : ℕ) (relations : List (List Term)) (old new : Elements) (added : List (List Term)) → IsKept old →
     IsReducedUpto p relations old → length added ≤ 16777216
-    → IsReducedBasis p old.weights relations (old.done + 1) added → new.weights ≡ old.weights → new.done ≡ old.done + 1 →
+    → IsReducedBasis (ideal_over p old.weights relations) (old.done + 1) added → new.weights ≡ old.weights → new.done ≡ old.done + 1 →
     new.elements ≡ old.elements ++ added → IsReducedUpto p relations new
 reduced_upto_grown p relations old new added kept upto few h w d e =
     let is : grown old added ≡ new = λ i. record { weights = sym w i; done = sym d i; elements = sym e i } in

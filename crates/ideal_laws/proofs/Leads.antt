@@ -24,7 +24,7 @@ use Rattle.linear_algebra.specs.Mod.{Residue}
 use Rattle.linear_algebra.proofs.Algebra.{zero_add, mul_zero}
 use Rattle.linear_algebra.proofs.Elimination.{IsInSpan-zero_at, eliminated, leads-zero}
 use Rattle.linear_algebra.proofs.ModField.{same_residue}
-use Rattle.ideal_laws.specs.Ideal.{IsElement, IsInIdeal, IsLeadingWord}
+use Rattle.ideal_laws.specs.Ideal.{Ideal, IsElement, IsInIdeal, IsLeadingWord}
 use Rattle.ideal_laws.specs.Laws.{IsRelation, IsSetting}
 use Rattle.ideal_laws.proofs.Products.{listed_product, product_listed, products}
 use Rattle.ideal_laws.proofs.Vectors.{IsProductVector, ideal_from_span, same_vectors, span_from_ideal}
@@ -121,115 +121,124 @@ module _ (p : ℕ) (fm : IsFieldModulus p) where
   span_weaker : (P Q : V → Type 0) → ((v : V) → P v → Q v) → (v : V) → IsInSpan K (List ℕ) P v → IsInSpan K (List ℕ) Q v
   span_weaker P Q h v s = record { parts = s.parts; each = All-weaker (λ c. P c.1) (λ c. Q c.1) (λ c. h c.1) s.parts s.each; sum = s.sum }
 
-  module _ (weights : List ℕ) (relations : List (List Term)) (st : IsSetting p weights relations) (d : ℕ) where
-    abbrev pub columns : List (List ℕ)
-    columns = words_of_degree weights d
+module _ (ideal : Ideal) (fm : IsFieldModulus ideal.modulus) (st : IsSetting ideal) (d : ℕ) where
+  abbrev Kd : Field
+  Kd = K ideal.modulus fm
 
-    abbrev pub vectors_of_degree : List V
-    vectors_of_degree = map (vectors.vector_of p fm) (products weights relations d)
+  abbrev Vd : Type 0
+  Vd = V ideal.modulus fm
 
-    abbrev pub IsMemberVector : V → Type 0
-    IsMemberVector = IsInSpan K (List ℕ) (IsProductVector p fm weights relations d)
+  abbrev pub columns : List (List ℕ)
+  columns = words_of_degree ideal.weights d
 
-    pub found : (es : List (List ℕ × V)) × IsBasis K (List ℕ) columns vectors_of_degree es
-    found = eliminated K (List ℕ) columns vectors_of_degree
+  abbrev pub vectors_of_degree : List Vd
+  vectors_of_degree = map (vectors.vector_of ideal.modulus fm) (products ideal.weights ideal.relations d)
 
-    abbrev pub rows : List (List ℕ × V)
-    rows = found.0
+  abbrev pub IsMemberVector : Vd → Type 0
+  IsMemberVector = IsInSpan Kd (List ℕ) (IsProductVector ideal fm d)
 
-    product_vector_listed : (v : V) → IsProductVector p fm weights relations d v → IsOneOf K (List ℕ) vectors_of_degree v
-    product_vector_listed v h =
-        subst (IsOneOf K (List ℕ) vectors_of_degree) (sym h.is) (one_of_listed (products weights relations d) _
-        (product_listed weights st.are_weights p relations st.are_relations d h.multiple h.is_multiple))
+  pub found : (es : List (List ℕ × Vd)) × IsBasis Kd (List ℕ) columns vectors_of_degree es
+  found = eliminated Kd (List ℕ) columns vectors_of_degree
 
-    listed_product_vector : (v : V) → IsOneOf K (List ℕ) vectors_of_degree v → IsProductVector p fm weights relations d v
-    listed_product_vector v h =
-        let r = listed_one_of (products weights relations d) v h in
-        let q = listed_product weights st.are_weights p positive relations d r.0 r.1 in
-        record { multiple = q.multiple; is_multiple = q.is_multiple; is = r.2 ∙ ap (vectors.vector_of p fm) q.is }
+  abbrev pub rows : List (List ℕ × Vd)
+  rows = found.0
 
-    pub had_from_rows : (v : V) → IsMemberVector v → AreSameAt K (List ℕ) columns v (sum_of K (List ℕ) (from_leads K (List ℕ) rows v))
-    had_from_rows v s = found.1.coordinates v (span_weaker _ _ product_vector_listed v s)
+  product_vector_listed : (v : Vd) → IsProductVector ideal fm d v → IsOneOf Kd (List ℕ) vectors_of_degree v
+  product_vector_listed v h =
+      subst (IsOneOf Kd (List ℕ) vectors_of_degree) (sym h.is) (one_of_listed ideal.modulus fm (products ideal.weights ideal.relations d) _
+      (product_listed ideal.weights st.are_weights ideal.modulus ideal.relations st.are_relations d h.multiple h.is_multiple))
 
-    in_columns : (w : List ℕ) → IsOver (length weights) w → degree_of weights w ≡ d → Contains columns w
-    in_columns w over e = subst (λ (n : ℕ). Contains (words_of_degree weights n) w) e (listed_word weights st.are_weights w over)
+  listed_product_vector : (v : Vd) → IsOneOf Kd (List ℕ) vectors_of_degree v → IsProductVector ideal fm d v
+  listed_product_vector v h =
+      let r = listed_one_of ideal.modulus fm (products ideal.weights ideal.relations d) v h in
+      let q = listed_product ideal.weights st.are_weights ideal.modulus (positive ideal.modulus fm) ideal.relations d r.0 r.1 in
+      record { multiple = q.multiple; is_multiple = q.is_multiple; is = r.2 ∙ ap (vectors.vector_of ideal.modulus fm) q.is }
 
-    -- members are 0 off the words of the degree
-    product_off : (v : V) → IsProductVector p fm weights relations d v → (w : List ℕ) → (Contains columns w → ⊥) → v w ≡ K.zero
-    product_off v h w off =
-        let m = h.multiple in let i = h.is_multiple in
-        let r = All-contains (IsRelation p weights) relations m.relation st.are_relations i.among in
-        let letters = UsesLetters-product (length weights) m.left m.relation m.right i.left_over i.right_over r.letters in
-        let f = product m.left m.relation m.right in
-        let none : total_at f w ≡ 0 = total_at-absent f w (λ k t within e. off
-        (subst (Contains columns) e (in_columns (get_or f k t).word (letters k t within) (i.degree k t within)))) in
-        ap (λ (u : V). u w) h.is ∙ same_residue p _ _ (ap (λ (n : ℕ). n % p) none)
+  pub had_from_rows : (v : Vd) → IsMemberVector v → AreSameAt Kd (List ℕ) columns v (sum_of Kd (List ℕ) (from_leads Kd (List ℕ) rows v))
+  had_from_rows v s = found.1.coordinates v (span_weaker ideal.modulus fm _ _ product_vector_listed v s)
 
-    pub member_off : (v : V) → IsMemberVector v → (w : List ℕ) → (Contains columns w → ⊥) → v w ≡ K.zero
-    member_off v s w off = IsInSpan-zero_at K (List ℕ) (IsProductVector p fm weights relations d) w (λ g h. product_off g h w off) v s
+  in_columns : (w : List ℕ) → IsOver (length ideal.weights) w → degree_of ideal.weights w ≡ d → Contains columns w
+  in_columns w over e = subst (λ (n : ℕ). Contains (words_of_degree ideal.weights n) w) e (listed_word ideal.weights st.are_weights w over)
 
-    abbrev pub element_from : V → List Term
-    element_from v = from_words columns (entries v)
+  -- members are 0 off the words of the degree
+  product_off : (v : Vd) → IsProductVector ideal fm d v → (w : List ℕ) → (Contains columns w → ⊥) → v w ≡ Kd.zero
+  product_off v h w off =
+      let m = h.multiple in let i = h.is_multiple in
+      let r = All-contains (IsRelation ideal.modulus ideal.weights) ideal.relations m.relation st.are_relations i.among in
+      let letters = UsesLetters-product (length ideal.weights) m.left m.relation m.right i.left_over i.right_over r.letters in
+      let f = product m.left m.relation m.right in
+      let none : total_at f w ≡ 0 = total_at-absent f w (λ k t within e. off
+      (subst (Contains columns) e (in_columns (get_or f k t).word (letters k t within) (i.degree k t within)))) in
+      ap (λ (u : Vd). u w) h.is ∙ same_residue ideal.modulus _ _ (ap (λ (n : ℕ). n % ideal.modulus) none)
 
-    pub total_of_element : (v : V) → IsMemberVector v → (w : List ℕ) → total_at (element_from v) w ≡ (v w).0
-    total_of_element v s w = elim (listed columns w) [
-      | inl m ↦ from_words-total columns (entries v) w (words_of_degree-falling weights st.are_weights d) m
-      | inr off ↦ from_words-absent columns (entries v) w off ∙ sym (ap (λ (n : Residue p). n.0) (member_off v s w off) ∙ zero-mod p)
-    ]
+  pub member_off : (v : Vd) → IsMemberVector v → (w : List ℕ) → (Contains columns w → ⊥) → v w ≡ Kd.zero
+  member_off v s w off = IsInSpan-zero_at Kd (List ℕ) (IsProductVector ideal fm d) w (λ g h. product_off g h w off) v s
 
-    pub vector_of_element : (v : V) → IsMemberVector v → (w : List ℕ) → vectors.vector_of p fm (element_from v) w ≡ v w
-    vector_of_element v s w = same_residue p _ _ (ap (λ (n : ℕ). n % p) (total_of_element v s w) ∙ mod-eq_of_lt (v w).1)
+  abbrev pub element_from : Vd → List Term
+  element_from v = from_words columns (entries ideal.modulus fm v)
 
-    pub element_form : (v : V) → IsElement p weights d (element_from v)
-    element_form v = record {
-      form = from_words-polynomial columns (entries v) (words_of_degree-falling weights st.are_weights d);
-      residues = from_words-all (λ t. t.coefficient < p) columns (entries v) (λ x m ne. (v x).1);
-      letters = from_words-all (λ t. IsOver (length weights) t.word) columns (entries v) (λ x m ne. (words_of_degree-says weights st.are_weights d x m).0);
-      degree = from_words-all (λ t. degree_of weights t.word ≡ d) columns (entries v) (λ x m ne. (words_of_degree-says weights st.are_weights d x m).1);
-    }
+  pub total_of_element : (v : Vd) → IsMemberVector v → (w : List ℕ) → total_at (element_from v) w ≡ (v w).0
+  total_of_element v s w = elim (listed columns w) [
+    | inl m ↦ from_words-total columns (entries ideal.modulus fm v) w (words_of_degree-falling ideal.weights st.are_weights d) m
+    | inr off ↦ from_words-absent columns (entries ideal.modulus fm v) w off ∙ sym
+        (ap (λ (n : Residue ideal.modulus). n.0) (member_off v s w off) ∙ zero-mod ideal.modulus)
+  ]
 
-    pub element_inside : (v : V) → IsMemberVector v → IsInIdeal p weights relations d (element_from v)
-    element_inside v s = ideal_from_span p fm weights relations d (element_from v) (element_form v)
-        (record { parts = s.parts; each = s.each; sum = λ w. vector_of_element v s w ∙ s.sum w })
+  pub vector_of_element : (v : Vd) → IsMemberVector v → (w : List ℕ) → vectors.vector_of ideal.modulus fm (element_from v) w ≡ v w
+  vector_of_element v s w = same_residue ideal.modulus _ _ (ap (λ (n : ℕ). n % ideal.modulus) (total_of_element v s w) ∙ mod-eq_of_lt (v w).1)
 
-    -- a member is the element of its vector
-    pub member_is : (f : List Term) → IsInIdeal p weights relations d f → f ≡ element_from (vectors.vector_of p fm f)
-    member_is f i =
-        let v = vectors.vector_of p fm f in let e = element_form v in
-        same_polynomials p f (element_from v) i.element.form e.form i.element.residues e.residues
-        (λ w. sym (ap (λ (n : ℕ). n % p) (total_of_element v (span_from_ideal p fm weights relations d f i) w) ∙ mod-mod (total_at f w) p))
+  pub element_form : (v : Vd) → IsElement ideal.modulus ideal.weights d (element_from v)
+  element_form v = record {
+    form = from_words-polynomial columns (entries ideal.modulus fm v) (words_of_degree-falling ideal.weights st.are_weights d);
+    residues = from_words-all (λ t. t.coefficient < ideal.modulus) columns (entries ideal.modulus fm v) (λ x m ne. (v x).1);
+    letters = from_words-all (λ t. IsOver (length ideal.weights) t.word) columns (entries ideal.modulus fm v)
+        (λ x m ne. (words_of_degree-says ideal.weights st.are_weights d x m).0);
+    degree = from_words-all (λ t. degree_of ideal.weights t.word ≡ d) columns (entries ideal.modulus fm v)
+        (λ x m ne. (words_of_degree-says ideal.weights st.are_weights d x m).1);
+  }
 
-    row_inside : (gs : List V) (es : List (List ℕ × V)) → AreInSpan K (List ℕ) gs es → (e : List ℕ × V) → Contains es e →
-        IsInSpan K (List ℕ) (IsOneOf K (List ℕ) gs) e.1
-    row_inside gs [] h e m = absurd (Contains-none e m)
-    row_inside gs (c ∷ es) h e m = elim (Contains-cases c es e m) [
-      | inl is ↦ subst (λ (r : List ℕ × V). IsInSpan K (List ℕ) (IsOneOf K (List ℕ) gs) r.1) is h.0
-      | inr n ↦ row_inside gs es h.1 e n
-    ]
+  pub element_inside : (v : Vd) → IsMemberVector v → IsInIdeal ideal d (element_from v)
+  element_inside v s = ideal_from_span ideal fm d (element_from v) (element_form v)
+      (record { parts = s.parts; each = s.each; sum = λ w. vector_of_element v s w ∙ s.sum w })
 
-    pub row_member : (e : List ℕ × V) → Contains rows e → IsMemberVector e.1
-    row_member e m = span_weaker _ _ listed_product_vector e.1 (row_inside vectors_of_degree rows found.1.inside e m)
+  -- a member is the element of its vector
+  pub member_is : (f : List Term) → IsInIdeal ideal d f → f ≡ element_from (vectors.vector_of ideal.modulus fm f)
+  member_is f i =
+      let v = vectors.vector_of ideal.modulus fm f in let e = element_form v in
+      same_polynomials ideal.modulus f (element_from v) i.element.form e.form i.element.residues e.residues
+      (λ w. sym (ap (λ (n : ℕ). n % ideal.modulus) (total_of_element v (span_from_ideal ideal fm d f i) w) ∙ mod-mod (total_at f w) ideal.modulus))
 
-    abbrev pub leading_words : List (List ℕ)
-    leading_words = map (λ (e : List ℕ × V). e.0) rows
+  row_inside : (gs : List Vd) (es : List (List ℕ × Vd)) → AreInSpan Kd (List ℕ) gs es → (e : List ℕ × Vd) → Contains es e →
+      IsInSpan Kd (List ℕ) (IsOneOf Kd (List ℕ) gs) e.1
+  row_inside gs [] h e m = absurd (Contains-none e m)
+  row_inside gs (c ∷ es) h e m = elim (Contains-cases c es e m) [
+    | inl is ↦ subst (λ (r : List ℕ × Vd). IsInSpan Kd (List ℕ) (IsOneOf Kd (List ℕ) gs) r.1) is h.0
+    | inr n ↦ row_inside gs es h.1 e n
+  ]
 
-    pub leading_listed : (w : List ℕ) → IsLeadingWord p weights relations d w → Contains leading_words w
-    leading_listed w l =
-        let v = vectors.vector_of p fm l.member in
-        lead_among columns rows found.1.reduced v (had_from_rows v (span_from_ideal p fm weights relations d l.member l.inside)) w
-        (ap lead_of (sym (member_is l.member l.inside)) ∙ l.lead)
+  pub row_member : (e : List ℕ × Vd) → Contains rows e → IsMemberVector e.1
+  row_member e m = span_weaker ideal.modulus fm _ _ listed_product_vector e.1 (row_inside vectors_of_degree rows found.1.inside e m)
 
-    pub row_leads : (e : List ℕ × V) → Contains rows e → lead_of (element_from e.1) ≡ Some e.0
-    row_leads e m = lead_of_row columns rows found.1.reduced e m
+  abbrev pub leading_words : List (List ℕ)
+  leading_words = map (λ (e : List ℕ × Vd). e.0) rows
 
-    pub listed_leading : (w : List ℕ) → Contains leading_words w → IsLeadingWord p weights relations d w
-    listed_leading w h =
-        let r = Contains-map_cases (λ (e : List ℕ × V). e.0) rows w h in
-        record { member = element_from r.0.1; inside = element_inside r.0.1 (row_member r.0 r.1); lead = row_leads r.0 r.1 ∙ ap Some r.2 }
+  pub leading_listed : (w : List ℕ) → IsLeadingWord ideal d w → Contains leading_words w
+  leading_listed w l =
+      let v = vectors.vector_of ideal.modulus fm l.member in
+      lead_among ideal.modulus fm columns rows found.1.reduced v (had_from_rows v (span_from_ideal ideal fm d l.member l.inside)) w
+      (ap lead_of (sym (member_is l.member l.inside)) ∙ l.lead)
 
-    -- a word is a leading word or not
-    pub is_leading : (w : List ℕ) → IsLeadingWord p weights relations d w ⊎ (IsLeadingWord p weights relations d w → ⊥)
-    is_leading w = elim (listed leading_words w) [
-      | inl m ↦ inl (listed_leading w m)
-      | inr none ↦ inr (λ l. none (leading_listed w l))
-    ]
+  pub row_leads : (e : List ℕ × Vd) → Contains rows e → lead_of (element_from e.1) ≡ Some e.0
+  row_leads e m = lead_of_row ideal.modulus fm columns rows found.1.reduced e m
+
+  pub listed_leading : (w : List ℕ) → Contains leading_words w → IsLeadingWord ideal d w
+  listed_leading w h =
+      let r = Contains-map_cases (λ (e : List ℕ × Vd). e.0) rows w h in
+      record { member = element_from r.0.1; inside = element_inside r.0.1 (row_member r.0 r.1); lead = row_leads r.0 r.1 ∙ ap Some r.2 }
+
+  -- a word is a leading word or not
+  pub is_leading : (w : List ℕ) → IsLeadingWord ideal d w ⊎ (IsLeadingWord ideal d w → ⊥)
+  is_leading w = elim (listed leading_words w) [
+    | inl m ↦ inl (listed_leading w m)
+    | inr none ↦ inr (λ l. none (leading_listed w l))
+  ]

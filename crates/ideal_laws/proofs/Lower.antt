@@ -16,7 +16,7 @@ use Rattle.free_poly.specs.Terms.{HasDegree, product, total_at}
 use Rattle.free_poly.specs.Poly.{IsMonic, lead_of}
 use Rattle.free_poly.proofs.Products.{degree_of-round}
 use Rattle.free_poly.proofs.Totals.{letterwise-apart}
-use Rattle.ideal_laws.specs.Ideal.{IsMultiple, Multiple, terms_of}
+use Rattle.ideal_laws.specs.Ideal.{Ideal, IsMultiple, Multiple, ideal_over, terms_of}
 use Rattle.ideal_laws.specs.Basis.{IsReduced}
 use Rattle.ideal_laws.specs.Closure.{IsFactorFree}
 use Rattle.ideal_laws.specs.Engine.{Elements, IsReducedUpto, of_degree}
@@ -69,21 +69,29 @@ positive_product weights aw u (t ∷ r) v other words h =
       degree_of-positive weights aw t.word (All-head (λ (s : Term). s.word ≢ []) t r words),
     )
 
-module _ (p : ℕ) (weights : List ℕ) (relations : List (List Term)) (st : IsSetting p weights relations) where
-  pub none_of_degree_0 : (ms : List Multiple) → All (IsMultiple p weights relations 0) ms → ms ≡ []
+module _ (ideal : Ideal) (st : IsSetting ideal) where
+  pub none_of_degree_0 : (ms : List Multiple) → All (IsMultiple ideal 0) ms → ms ≡ []
   none_of_degree_0 [] h = refl
   none_of_degree_0 (m ∷ ms) h =
-      let i = All-head (IsMultiple p weights relations 0) m ms h in
-      let r = All-contains (IsRelation p weights) relations m.relation st.are_relations i.among in
-      absurd (positive_product weights st.are_weights m.left m.relation m.right r.other r.degree i.degree)
+      let i = All-head (IsMultiple ideal 0) m ms h in
+      let r = All-contains (IsRelation ideal.modulus ideal.weights) ideal.relations m.relation st.are_relations i.among in
+      absurd (positive_product ideal.weights st.are_weights m.left m.relation m.right r.other r.degree i.degree)
 
   -- no monic member has degree 0
-  pub no_reduced_0 : (f : List Term) → IsReduced p weights relations 0 f → ⊥
+  pub no_reduced_0 : (f : List Term) → IsReduced ideal 0 f → ⊥
   no_reduced_0 f h =
       let w = monic-led f h.monic in
       let one = monic_total f w.0 w.1 h.inside.element.form h.monic in
-      let sum = h.inside.sum w.0 ∙ ap (λ (ms : List Multiple). total_at (flat_map terms_of ms) w.0 % p) (none_of_degree_0 h.inside.multiples h.inside.each) in
-      omega (arith, ap (λ (n : ℕ). n % p) one, sum, mod-eq_of_lt {n = 1} {m = p} (omega (arith, st.modulus.two_or_more)), zero-mod p)
+      let sum = h.inside.sum w.0 ∙ ap (λ (ms : List Multiple). total_at (flat_map terms_of ms) w.0 % ideal.modulus)
+      (none_of_degree_0 h.inside.multiples h.inside.each) in
+      omega (
+        arith,
+        ap (λ (n : ℕ). n % ideal.modulus) one,
+        sum,
+        mod-eq_of_lt {n = 1} {m = ideal.modulus} (omega (arith, st.modulus.two_or_more)),
+        zero-mod
+            ideal.modulus,
+      )
 
 lead_degree-led : (weights : List ℕ) (f : List Term) (w : List ℕ) → lead_of f ≡ Some w → lead_degree weights f ≡ degree_of weights w
 lead_degree-led weights [] w e = cc e
@@ -95,19 +103,19 @@ strict weights g h w lg lh (inl lower) = omega (arith, lower, lead_degree-led we
 strict weights g h w lg lh (inr equal) =
     letterwise-apart equal.1.of_f equal.1.of_g equal.1.greater (some_same equal.1.of_f equal.1.of_g (sym equal.1.leads_f ∙ lg ∙ sym lh ∙ equal.1.leads_g))
 
-module _ (p : ℕ) (relations : List (List Term)) (below : Elements) (st : IsSetting p below.weights relations) (kept : IsKept below)
+module _ (p : ℕ) (relations : List (List Term)) (below : Elements) (st : IsSetting (ideal_over p below.weights relations)) (kept : IsKept below)
     (upto : IsReducedUpto p relations below) where
-  listed : (g : List Term) → Contains below.elements g → (e : ℕ) × (e < below.done + 1) × IsReduced p below.weights relations e g
+  listed : (g : List Term) → Contains below.elements g → (e : ℕ) × (e < below.done + 1) × IsReduced (ideal_over p below.weights relations) e g
   listed g m =
       let k = All-contains (IsKeptElement below.weights below.done) below.elements g kept.each m in
       let d = lead_degree below.weights g in
       (d, omega (arith, k.upto), ((upto d k.from k.upto).exactly g).0 (of_degree-has below.weights d below.elements g m k.monic refl))
 
-  has : (g : List Term) (e : ℕ) → e < below.done + 1 → IsReduced p below.weights relations e g → Contains below.elements g
-  has g zero lt h = absurd (no_reduced_0 p below.weights relations st g h)
+  has : (g : List Term) (e : ℕ) → e < below.done + 1 → IsReduced (ideal_over p below.weights relations) e g → Contains below.elements g
+  has g zero lt h = absurd (no_reduced_0 (ideal_over p below.weights relations) st g h)
   has g (suc e) lt h = of_degree-says below.weights (suc e) below.elements g (((upto (suc e) (omega arith) (omega (arith, lt))).exactly g).1 h)
 
-  lower : AreLower p below.weights relations (below.done + 1) below.elements
+  lower : AreLower (ideal_over p below.weights relations) (below.done + 1) below.elements
   lower g = (listed g, λ h. has g h.0 h.1 h.2)
 
   in_list : (i : ℕ) (g : List Term) → slice_get below.elements i ≡ Some g → Contains below.elements g
@@ -143,11 +151,13 @@ module _ (p : ℕ) (relations : List (List Term)) (below : Elements) (st : IsSet
       apart f e = let t : bytes_eq v w ≡ true = (bytes_eq-Decides v w).1 e in cc
 
 pub lists_lower : ListsLower
-lists_lower p weights relations st d below h =
-    let own = subst (λ (ws : List ℕ). IsSetting p ws relations) (sym h.same_weights) st in
-    subst (λ (n : ℕ). AreLower p weights relations n below.elements) h.next
-    (subst (λ (ws : List ℕ). AreLower p ws relations (below.done + 1) below.elements) h.same_weights (lower p relations below own h.kept h.reduced))
+lists_lower ideal st d below h =
+    let own = subst (λ (ws : List ℕ). IsSetting (record ideal { weights = ws })) (sym h.same_weights) st in
+    subst (λ (n : ℕ). AreLower ideal n below.elements) h.next
+    (subst (λ (ws : List ℕ). AreLower (record ideal { weights = ws }) (below.done + 1) below.elements) h.same_weights
+    (lower ideal.modulus ideal.relations below own h.kept h.reduced))
 
 pub lists_factor_free : ListsFactorFree
-lists_factor_free p weights relations st d below h =
-    factor_free p relations below (subst (λ (ws : List ℕ). IsSetting p ws relations) (sym h.same_weights) st) h.kept h.reduced
+lists_factor_free ideal st d below h =
+    factor_free ideal.modulus ideal.relations below (subst (λ (ws : List ℕ). IsSetting (record ideal { weights = ws })) (sym h.same_weights) st) h.kept
+    h.reduced

@@ -25,7 +25,7 @@ use Rattle.linear_algebra.specs.Spans.{sum_of}
 use Rattle.linear_algebra.specs.Echelon.{AreSameAt, AreZeroAt, IsReduced, IsZeroAtLeads, done, skip, lead, from_leads}
 use Rattle.linear_algebra.specs.Mod.{Residue}
 use Rattle.linear_algebra.proofs.ModField.{same_residue}
-use Rattle.ideal_laws.specs.Ideal.{IsLeadingWord, IsMinimal}
+use Rattle.ideal_laws.specs.Ideal.{Ideal, IsLeadingWord, IsMinimal}
 use Rattle.ideal_laws.specs.Basis.{HasGreaterLead, IsReduced as IsReducedElement, IsReducedBasis, below_lead}
 use Rattle.ideal_laws.specs.Laws.{HasOneBasis, IsSetting}
 use Rattle.ideal_laws.proofs.Factors.{is_minimal}
@@ -185,87 +185,88 @@ module _ (p : ℕ) (fm : IsFieldModulus p) where
       subst IsMonic (sym l.is) (c ∙ ap (λ (x : List ℕ). (v x).0) l.word ∙ ap (λ (n : Residue p). n.0) one
       ∙ mod-eq_of_lt {n = 1} {m = p} (omega (arith, fm.two_or_more)))
 
-module _ (p : ℕ) (weights : List ℕ) (relations : List (List Term)) (st : IsSetting p weights relations) (d : ℕ) where
-  abbrev fm : IsFieldModulus p
+module _ (ideal : Ideal) (st : IsSetting ideal) (d : ℕ) where
+  abbrev fm : IsFieldModulus ideal.modulus
   fm = st.modulus
 
   abbrev RowVector : Type 0
-  RowVector = List ℕ → Residue p
+  RowVector = List ℕ → Residue ideal.modulus
 
   abbrev es : List (List ℕ × RowVector)
-  es = rows p fm weights relations st d
+  es = rows ideal fm st d
 
   abbrev element_of : List ℕ × RowVector → List Term
-  element_of e = element_from p fm weights relations st d e.1
+  element_of e = element_from ideal fm st d e.1
 
   abbrev IsMinimalRow : List ℕ × RowVector → Type 0
-  IsMinimalRow e = IsMinimal p weights relations e.0
+  IsMinimalRow e = IsMinimal ideal e.0
 
   minimal_row : (e : List ℕ × RowVector) → IsMinimalRow e ⊎ (IsMinimalRow e → ⊥)
-  minimal_row e = is_minimal p weights relations st e.0
+  minimal_row e = is_minimal ideal st e.0
 
   pub basis : List (List Term)
   basis = map element_of (kept IsMinimalRow minimal_row es)
 
-  row_reduced : (e : List ℕ × RowVector) → Contains es e → IsMinimalRow e → IsReducedElement p weights relations d (element_of e)
+  row_reduced : (e : List ℕ × RowVector) → Contains es e → IsMinimalRow e → IsReducedElement ideal d (element_of e)
   row_reduced e m minimal =
-      let r = (found p fm weights relations st d).1.reduced in
-      let leads = row_leads p fm weights relations st d e m in
-      let form = element_form p fm weights relations st d e.1 in
+      let r = (found ideal fm st d).1.reduced in
+      let leads = row_leads ideal fm st d e m in
+      let form = element_form ideal fm st d e.1 in
       record {
-        inside = element_inside p fm weights relations st d e.1 (row_member p fm weights relations st d e m);
-        monic = from_words-monic p fm (words_of_degree weights d) e.1 e.0 leads (row_one p fm _ _ r e m);
-        minimal = λ w is. subst (IsMinimal p weights relations) (some_same e.0 w (sym leads ∙ is)) minimal;
-        others = below-all (λ t. IsLeadingWord p weights relations d t.word → ⊥) (element_of e) e.0 leads form.form (λ t n greater l.
-            let there = Contains-map_cases (λ (c : List ℕ × RowVector). c.0) es t.word (leading_listed p fm weights relations st d t.word l) in
-            let zero = row_zero p fm _ _ r e there.0 m there.1 (λ same. letterwise-apart e.0 t.word greater (sym same ∙ there.2)) in
+        inside = element_inside ideal fm st d e.1 (row_member ideal fm st d e m);
+        monic = from_words-monic ideal.modulus fm (words_of_degree ideal.weights d) e.1 e.0 leads (row_one ideal.modulus fm _ _ r e m);
+        minimal = λ w is. subst (IsMinimal ideal) (some_same e.0 w (sym leads ∙ is)) minimal;
+        others = below-all (λ t. IsLeadingWord ideal d t.word → ⊥) (element_of e) e.0 leads form.form (λ t n greater l.
+            let there = Contains-map_cases (λ (c : List ℕ × RowVector). c.0) es t.word (leading_listed ideal fm st d t.word l) in
+            let zero = row_zero ideal.modulus fm _ _ r e there.0 m there.1 (λ same. letterwise-apart e.0 t.word greater (sym same ∙ there.2)) in
             let c = All-contains (λ (s : Term). (s.coefficient ≡ (e.1 s.word).0) × (s.coefficient ≢ 0)) (element_of e) t
-            (from_words-all (λ s. (s.coefficient ≡ (e.1 s.word).0) × (s.coefficient ≢ 0)) (words_of_degree weights d) (entries p fm e.1)
+            (from_words-all (λ s. (s.coefficient ≡ (e.1 s.word).0) × (s.coefficient ≢ 0)) (words_of_degree ideal.weights d) (entries ideal.modulus fm e.1)
             (λ x k ne. (refl, ne))) n in
-            c.1 (c.0 ∙ ap (λ (x : List ℕ). (e.1 x).0) (sym there.2) ∙ ap (λ (n : Residue p). n.0) zero ∙ zero-mod p));
+            c.1 (c.0 ∙ ap (λ (x : List ℕ). (e.1 x).0) (sym there.2) ∙ ap (λ (n : Residue ideal.modulus). n.0) zero ∙ zero-mod ideal.modulus));
       }
 
   -- a reduced member is the row with its leading word
-  reduced_row : (f : List Term) → IsReducedElement p weights relations d f → Contains basis f
+  reduced_row : (f : List Term) → IsReducedElement ideal d f → Contains basis f
   unfolding basis
   reduced_row f h =
-      let r = (found p fm weights relations st d).1.reduced in
+      let r = (found ideal fm st d).1.reduced in
       let w = monic-led f h.monic in
       let there = Contains-map_cases (λ (c : List ℕ × RowVector). c.0) es w.0
-      (leading_listed p fm weights relations st d w.0 (record { member = f; inside = h.inside; lead = w.1 })) in
+      (leading_listed ideal fm st d w.0 (record { member = f; inside = h.inside; lead = w.1 })) in
       let e = there.0 in
-      let v = vectors.vector_of p fm f in
+      let v = vectors.vector_of ideal.modulus fm f in
       let same : (c : List ℕ × RowVector) → Contains es c → v c.0 ≡ e.1 c.0 = λ c m. elim (cases_Bool (bytes_eq c.0 w.0)) [
         | inl is ↦
             let at = (bytes_eq-Decides c.0 w.0).0 is in
-            same_residue p _ _ (ap (λ (x : List ℕ). total_at f x % p) at ∙ ap (λ (n : ℕ). n % p) (monic_total f w.0 w.1 h.inside.element.form h.monic))
-            ∙ sym (ap e.1 (at ∙ sym there.2) ∙ row_one p fm _ _ r e there.1)
+            same_residue ideal.modulus _ _ (ap (λ (x : List ℕ). total_at f x % ideal.modulus) at
+            ∙ ap (λ (n : ℕ). n % ideal.modulus) (monic_total f w.0 w.1 h.inside.element.form h.monic))
+            ∙ sym (ap e.1 (at ∙ sym there.2) ∙ row_one ideal.modulus fm _ _ r e there.1)
         | inr other ↦
             let ne : c.0 ≢ w.0 = λ at. (let t : bytes_eq c.0 w.0 ≡ true = here c.0 w.0 at in cc) in
-            same_residue p _ _ (ap (λ (n : ℕ). n % p) (other_total f w.0 (IsLeadingWord p weights relations d) w.1 h.others c.0
-            (listed_leading p fm weights relations st d c.0 (Contains-map (λ (b : List ℕ × RowVector). b.0) es c m)) ne))
-            ∙ sym (row_zero p fm _ _ r e c there.1 m (λ at. ne (at ∙ there.2)))
+            same_residue ideal.modulus _ _ (ap (λ (n : ℕ). n % ideal.modulus) (other_total f w.0 (IsLeadingWord ideal d) w.1 h.others c.0
+            (listed_leading ideal fm st d c.0 (Contains-map (λ (b : List ℕ × RowVector). b.0) es c m)) ne))
+            ∙ sym (row_zero ideal.modulus fm _ _ r e c there.1 m (λ at. ne (at ∙ there.2)))
       ] in
-      let had_f = had_from_rows p fm weights relations st d v (span_from_ideal p fm weights relations d f h.inside) in
-      let had_e = had_from_rows p fm weights relations st d e.1 (row_member p fm weights relations st d e there.1) in
-      let is : f ≡ element_of e = member_is p fm weights relations st d f h.inside
-      ∙ from_words-same p fm (words_of_degree weights d) v e.1 _ (same_after p fm (words_of_degree weights d) v _ _ had_f
-      (from_leads-same p fm es v e.1 same)) had_e in
+      let had_f = had_from_rows ideal fm st d v (span_from_ideal ideal fm d f h.inside) in
+      let had_e = had_from_rows ideal fm st d e.1 (row_member ideal fm st d e there.1) in
+      let is : f ≡ element_of e = member_is ideal fm st d f h.inside
+      ∙ from_words-same ideal.modulus fm (words_of_degree ideal.weights d) v e.1 _ (same_after ideal.modulus fm (words_of_degree ideal.weights d) v _ _ had_f
+      (from_leads-same ideal.modulus fm es v e.1 same)) had_e in
       subst (Contains basis) (sym is) (Contains-map element_of (kept IsMinimalRow minimal_row es) e
-      (in_kept IsMinimalRow minimal_row es e there.1 (subst (IsMinimal p weights relations) (sym there.2) (h.minimal w.0 w.1))))
+      (in_kept IsMinimalRow minimal_row es e there.1 (subst (IsMinimal ideal) (sym there.2) (h.minimal w.0 w.1))))
 
-  pub is_basis : IsReducedBasis p weights relations d basis
+  pub is_basis : IsReducedBasis ideal d basis
   unfolding basis
   is_basis = record {
     exactly = λ f. (
       (λ m. let c = Contains-map_cases element_of (kept IsMinimalRow minimal_row es) f m in
           let k = kept-says IsMinimalRow minimal_row es c.0 c.1 in
-          subst (IsReducedElement p weights relations d) c.2 (row_reduced c.0 k.0 k.1)),
+          subst (IsReducedElement ideal d) c.2 (row_reduced c.0 k.0 k.1)),
       reduced_row f,
     );
     falling = falling_rows (kept IsMinimalRow minimal_row es) (λ e m. (kept-says IsMinimalRow minimal_row es e m).0)
         (AllPairs-kept IsMinimalRow minimal_row (λ (c e : List ℕ × RowVector). IsLetterwiseGreater c.0 e.0) es
-        (leads_falling p fm _ _ (found p fm weights relations st d).1.reduced (words_of_degree-falling weights st.are_weights d)));
+        (leads_falling ideal.modulus fm _ _ (found ideal fm st d).1.reduced (words_of_degree-falling ideal.weights st.are_weights d)));
   }
     where
       falling_rows : (cs : List (List ℕ × RowVector)) → ((e : List ℕ × RowVector) → Contains cs e → Contains es e) →
@@ -278,34 +279,33 @@ module _ (p : ℕ) (weights : List ℕ) (relations : List (List Term)) (st : IsS
           subst (HasGreaterLead (element_of c)) e.2 (record {
             of_f = c.0;
             of_g = e.0.0;
-            leads_f = row_leads p fm weights relations st d c (h c (Contains-first c cs));
-            leads_g = row_leads p fm weights relations st d e.0 (h e.0 (Contains-more c cs e.0 e.1));
+            leads_f = row_leads ideal fm st d c (h c (Contains-first c cs));
+            leads_g = row_leads ideal fm st d e.0 (h e.0 (Contains-more c cs e.0 e.1));
             greater = All-contains (λ (b : List ℕ × RowVector). IsLetterwiseGreater c.0 b.0) cs e.0
                 (AllPairs-first (λ (c e : List ℕ × RowVector). IsLetterwiseGreater c.0 e.0) c cs f) e.1;
           })))
           (falling_rows cs (λ e m. h e (Contains-more c cs e m)) (AllPairs-rest (λ (c e : List ℕ × RowVector). IsLetterwiseGreater c.0 e.0) c cs f))
 
 -- each minimal word leads a reduced member of its degree
-pub minimal_led : (p : ℕ) (weights : List ℕ) (relations : List (List Term)) (st : IsSetting p weights relations) (w : List ℕ) → IsMinimal p weights relations w
-    → (f : List Term) × IsReducedElement p weights relations (degree_of weights w) f × (lead_of f ≡ Some w)
-minimal_led p weights relations st w h =
-    let d = degree_of weights w in
-    let c = Contains-map_cases (λ (e : List ℕ × (List ℕ → Residue p)). e.0) (rows p st.modulus weights relations st d) w
-    (leading_listed p st.modulus weights relations st d w h.leading) in (
-      element_from p st.modulus weights relations st d c.0.1,
-      row_reduced p weights relations st d c.0 c.1 (subst (IsMinimal p weights relations) (sym c.2) h),
-      row_leads p st.modulus weights relations st d c.0 c.1 ∙ ap Some c.2,
+pub minimal_led : (ideal : Ideal) (st : IsSetting ideal) (w : List ℕ) → IsMinimal ideal w
+    → (f : List Term) × IsReducedElement ideal (degree_of ideal.weights w) f × (lead_of f ≡ Some w)
+minimal_led ideal st w h =
+    let d = degree_of ideal.weights w in
+    let c = Contains-map_cases (λ (e : List ℕ × (List ℕ → Residue ideal.modulus)). e.0) (rows ideal st.modulus st d) w
+    (leading_listed ideal st.modulus st d w h.leading) in (
+      element_from ideal st.modulus st d c.0.1,
+      row_reduced ideal st d c.0 c.1 (subst (IsMinimal ideal) (sym c.2) h),
+      row_leads ideal st.modulus st d c.0 c.1 ∙ ap Some c.2,
     )
 
-pub bases_are_one : (p : ℕ) (weights : List ℕ) (relations : List (List Term)) (d : ℕ) (fs gs : List (List Term)) →
-    IsReducedBasis p weights relations d fs → IsReducedBasis p weights relations d gs → fs ≡ gs
-bases_are_one p weights relations d fs gs a b =
+pub bases_are_one : (ideal : Ideal) (d : ℕ) (fs gs : List (List Term)) → IsReducedBasis ideal d fs → IsReducedBasis ideal d gs → fs ≡ gs
+bases_are_one ideal d fs gs a b =
     same_lists HasGreaterLead greater_strict greater_trans fs gs a.falling b.falling (λ f m. (b.exactly f).1 ((a.exactly f).0 m))
     (λ f m. (a.exactly f).1 ((b.exactly f).0 m))
 
 pub has_one_basis : HasOneBasis
-has_one_basis p weights relations st d = record {
-  value = basis p weights relations st d;
-  holds = is_basis p weights relations st d;
-  only = λ fs h. bases_are_one p weights relations d fs (basis p weights relations st d) h (is_basis p weights relations st d);
+has_one_basis ideal st d = record {
+  value = basis ideal st d;
+  holds = is_basis ideal st d;
+  only = λ fs h. bases_are_one ideal d fs (basis ideal st d) h (is_basis ideal st d);
 }

@@ -12,6 +12,7 @@ use Rattle.free_poly.specs.Terms.{product, total_at}
 use Rattle.free_poly.specs.Poly.{lead_of}
 use Rattle.free_poly.proofs.NormalForms.{letterwise-trans, same_polynomials}
 use Rattle.free_poly.proofs.Totals.{letterwise-apart}
+use Rattle.ideal_laws.specs.Ideal.{Ideal}
 use Rattle.ideal_laws.specs.declared.limits.LimitKind.TheVariants.{PlainWords, Rows, Columns, Entries, Cells, Terms, NormalWords}
 use Rattle.ideal_laws.specs.Closure.{AreColumns, AreObstructions, HasReducer, IsFactorFree, IsReducer, Overlap, OverlapsBefore, obstruction_row, overlap_word}
 use Rattle.ideal_laws.specs.Engine.{of_degree}
@@ -50,19 +51,21 @@ first_of v w r e f le = record {
       ∙ take-append-drop (length v) w);
 }
 
-module _ (p : ℕ) (weights : List ℕ) (relations G : List (List Term)) (d : ℕ) where
-  overlaps_one : (os qs : List Overlap) → AreObstructions weights G d os → AreObstructions weights G d qs → os ≡ qs
+module _ (ideal : Ideal) (G : List (List Term)) (d : ℕ) where
+  overlaps_one : (os qs : List Overlap) → AreObstructions ideal.weights G d os → AreObstructions ideal.weights G d qs → os ≡ qs
   overlaps_one os qs a b = same_lists OverlapsBefore before_itself before_trans os qs a.ordered b.ordered
       (λ o m. (b.exactly o).1 ((a.exactly o).0 m)) (λ o m. (a.exactly o).1 ((b.exactly o).0 m))
 
-  row_one : (o : Overlap) (f g : List Term) → IsRowOf p weights G d o f → IsRowOf p weights G d o g → f ≡ g
+  row_one : (o : Overlap) (f g : List Term) → IsRowOf ideal.modulus ideal.weights G d o f → IsRowOf ideal.modulus ideal.weights G d o g → f ≡ g
   row_one o f g a b =
       let first = some_one (slice_get G o.left) a.obstruction.first b.obstruction.first a.obstruction.at_left b.obstruction.at_left in
       let second = some_one (slice_get G o.right) a.obstruction.second b.obstruction.second a.obstruction.at_right b.obstruction.at_right in
-      let row = ap₂ (λ (x y : List Term). obstruction_row p x o.behind o.before y) first second in
-      same_polynomials p f g a.form b.form a.residues b.residues (λ w. a.same w ∙ ap (λ (r : List Term). total_at r w % p) row ∙ sym (b.same w))
+      let row = ap₂ (λ (x y : List Term). obstruction_row ideal.modulus x o.behind o.before y) first second in
+      same_polynomials ideal.modulus f g a.form b.form a.residues b.residues (λ w. a.same w ∙ ap (λ (r : List Term). total_at r w % ideal.modulus) row
+      ∙ sym (b.same w))
 
-  overlap_rows_one : (os : List Overlap) (fs gs : List (List Term)) → AllZip (IsRowOf p weights G d) os fs → AllZip (IsRowOf p weights G d) os gs → fs ≡ gs
+  overlap_rows_one : (os : List Overlap) (fs gs : List (List Term)) → AllZip (IsRowOf ideal.modulus ideal.weights G d) os fs
+      → AllZip (IsRowOf ideal.modulus ideal.weights G d) os gs → fs ≡ gs
   overlap_rows_one [] [] [] a b = refl
   overlap_rows_one [] [] (g ∷ gs) a b = absurd b
   overlap_rows_one [] (f ∷ fs) gs a b = absurd a
@@ -71,11 +74,11 @@ module _ (p : ℕ) (weights : List ℕ) (relations G : List (List Term)) (d : �
   overlap_rows_one (o ∷ os) (f ∷ fs) (g ∷ gs) a b = ap₂ (λ (h : List Term) (hs : List (List Term)). h ∷ hs) (row_one o f g a.0 b.0)
       (overlap_rows_one os fs gs a.1 b.1)
 
-  rows_one : (fs gs : List (List Term)) → AreRows p weights relations G d fs → AreRows p weights relations G d gs → fs ≡ gs
+  rows_one : (fs gs : List (List Term)) → AreRows ideal G d fs → AreRows ideal G d gs → fs ≡ gs
   rows_one fs gs a b =
       let same = overlaps_one b.overlaps a.overlaps b.are_obstructions a.are_obstructions in
-      let each = subst (λ (os : List Overlap). AllZip (IsRowOf p weights G d) os b.overlap_rows) same b.each in
-      a.joined ∙ ap (λ (hs : List (List Term)). of_degree weights d relations ++ hs)
+      let each = subst (λ (os : List Overlap). AllZip (IsRowOf ideal.modulus ideal.weights G d) os b.overlap_rows) same b.each in
+      a.joined ∙ ap (λ (hs : List (List Term)). of_degree ideal.weights d ideal.relations ++ hs)
       (overlap_rows_one a.overlaps a.overlap_rows b.overlap_rows a.each each) ∙ sym b.joined
 
 module _ (G : List (List Term)) (free : IsFactorFree G) where
@@ -117,34 +120,33 @@ module _ (G : List (List Term)) (free : IsFactorFree G) where
       option_one (Some f) None h k = absurd (k h.element h.lead h.at h.among h.is_lead h.here)
       option_one (Some f) (Some g) h k = ap Some (reducer_one w f g h k)
 
-  closed_one : (p : ℕ) (weights : List ℕ) (relations : List (List Term)) (d : ℕ) (fs gs : List (List Term)) (xs ys : List (List ℕ))
-      (rs ss : List (Option (List Term)))
-      → AreClosed p weights relations G d fs xs rs → AreClosed p weights relations G d gs ys ss → (fs ≡ gs) × (rs ≡ ss)
-  closed_one p weights relations d fs gs xs ys rs ss a b =
-      let rows = rows_one p weights relations G d fs gs a.are_rows b.are_rows in
+  closed_one : (ideal : Ideal) (d : ℕ) (fs gs : List (List Term)) (xs ys : List (List ℕ)) (rs ss : List (Option (List Term)))
+      → AreClosed ideal G d fs xs rs → AreClosed ideal G d gs ys ss → (fs ≡ gs) × (rs ≡ ss)
+  closed_one ideal d fs gs xs ys rs ss a b =
+      let rows = rows_one ideal G d fs gs a.are_rows b.are_rows in
       let columns = columns_one (words_of gs) xs ys (subst (λ (hs : List (List Term)). AreColumns G (words_of hs) xs) rows a.are_columns) b.are_columns in
       (rows, reducers_one ys rs ss (subst (λ (zs : List (List ℕ)). AllZip (HasReducer G) zs rs) columns a.are_reducers) b.are_reducers)
 
 pub one_quantity : HasOneQuantity
-one_quantity p weights relations st d below h PlainWords q r a b = a ∙ sym b
-one_quantity p weights relations st d below h Rows q r a b =
-    a.2 ∙ ap (λ (os : List Overlap). length (of_degree weights d relations) + length os)
-    (overlaps_one p weights relations below.elements d a.0 b.0 a.1 b.1) ∙ sym b.2
-one_quantity p weights relations st d below h Columns q r a b =
-    let rows = rows_one p weights relations below.elements d a.0 b.0 a.2 b.2 in
-    let columns = columns_one below.elements (lists_factor_free p weights relations st d below h) (words_of b.0) a.1 b.1
+one_quantity ideal st d below h PlainWords q r a b = a ∙ sym b
+one_quantity ideal st d below h Rows q r a b =
+    a.2 ∙ ap (λ (os : List Overlap). length (of_degree ideal.weights d ideal.relations) + length os)
+    (overlaps_one ideal below.elements d a.0 b.0 a.1 b.1) ∙ sym b.2
+one_quantity ideal st d below h Columns q r a b =
+    let rows = rows_one ideal below.elements d a.0 b.0 a.2 b.2 in
+    let columns = columns_one below.elements (lists_factor_free ideal st d below h) (words_of b.0) a.1 b.1
     (subst (λ (hs : List (List Term)). AreColumns below.elements (words_of hs) a.1) rows a.3) b.3 in
     a.4 ∙ ap length columns ∙ sym b.4
-one_quantity p weights relations st d below h Entries q r a b =
-    let e = closed_one below.elements (lists_factor_free p weights relations st d below h) p weights relations d a.0 b.0 a.1 b.1 a.2 b.2 a.3 b.3 in
+one_quantity ideal st d below h Entries q r a b =
+    let e = closed_one below.elements (lists_factor_free ideal st d below h) ideal d a.0 b.0 a.1 b.1 a.2 b.2 a.3 b.3 in
     a.4 ∙ ap₂ (λ (fs : List (List Term)) (rs : List (Option (List Term))). terms_in fs + terms_in (reducers_in rs)) e.0 e.1 ∙ sym b.4
-one_quantity p weights relations st d below h Cells q r a b =
-    let e = closed_one below.elements (lists_factor_free p weights relations st d below h) p weights relations d a.0 b.0 a.1 b.1 a.2 b.2 a.3 b.3 in
+one_quantity ideal st d below h Cells q r a b =
+    let e = closed_one below.elements (lists_factor_free ideal st d below h) ideal d a.0 b.0 a.1 b.1 a.2 b.2 a.3 b.3 in
     a.4 ∙ ap₂ (λ (fs : List (List Term)) (rs : List (Option (List Term))). length fs * contested_in rs) e.0 e.1 ∙ sym b.4
-one_quantity p weights relations st d below h Terms q r a b =
-    a.2 ∙ ap (λ (fs : List (List Term)). terms_in below.elements + terms_in fs) (bases_are_one p weights relations d a.0 b.0 a.1 b.1) ∙ sym b.2
-one_quantity p weights relations st d below h NormalWords q r a b =
-    let basis = bases_are_one p weights relations d a.0 b.0 a.2 b.2 in
-    let own = subst (λ (fs : List (List Term)). AreNormalWords weights (below.elements ++ fs) d a.1) basis a.3 in
+one_quantity ideal st d below h Terms q r a b =
+    a.2 ∙ ap (λ (fs : List (List Term)). terms_in below.elements + terms_in fs) (bases_are_one ideal d a.0 b.0 a.1 b.1) ∙ sym b.2
+one_quantity ideal st d below h NormalWords q r a b =
+    let basis = bases_are_one ideal d a.0 b.0 a.2 b.2 in
+    let own = subst (λ (fs : List (List Term)). AreNormalWords ideal.weights (below.elements ++ fs) d a.1) basis a.3 in
     a.4 ∙ ap length (words_same a.1 b.1 _ (λ w. (own.exactly w).0) (λ w. (own.exactly w).1) (λ w. (b.3.exactly w).0)
     (λ w. (b.3.exactly w).1) own.falling b.3.falling) ∙ sym b.4

@@ -16,7 +16,7 @@ use Rattle.linear_algebra.specs.Spans.{sum_of}
 use Rattle.linear_algebra.specs.Mod.{Residue}
 use Rattle.linear_algebra.proofs.Elimination.{IsInSpan-trans}
 use Rattle.linear_algebra.proofs.ModField.{same_residue}
-use Rattle.ideal_laws.specs.Ideal.{IsElement, IsInIdeal}
+use Rattle.ideal_laws.specs.Ideal.{Ideal, IsElement, IsInIdeal}
 use Rattle.ideal_laws.specs.Closure.{obstruction_row}
 use Rattle.ideal_laws.specs.Laws.{IsSetting, IsSpanned, Part, part_terms, relation}
 use Rattle.ideal_laws.specs.Overlaps.{AreLower, IsGenerator, reducer, of_relation, obstruction, OverlapsSuffice}
@@ -46,27 +46,26 @@ before_suffix : (x v : List ℕ) → take (length x) (x ++ v) ≡ x
 before_suffix [] v = refl
 before_suffix (a ∷ x) v = ap (λ (r : List ℕ). a ∷ r) (before_suffix x v)
 
-module _ (p : ℕ) (weights : List ℕ) (relations : List (List Term)) (st : IsSetting p weights relations) (d : ℕ) (G : List (List Term))
-    (lower : AreLower p weights relations d G) where
+module _ (ideal : Ideal) (st : IsSetting ideal) (d : ℕ) (G : List (List Term)) (lower : AreLower ideal d G) where
   abbrev K : Field
-  K = vectors.K p st.modulus
+  K = vectors.K ideal.modulus st.modulus
 
   abbrev V : Type 0
-  V = List ℕ → Residue p
+  V = List ℕ → Residue ideal.modulus
 
   abbrev vec : List Term → V
-  vec f = vectors.vector_of p st.modulus f
+  vec f = vectors.vector_of ideal.modulus st.modulus f
 
   abbrev Gen : List Term → Type 0
-  Gen = IsGenerator p weights relations G d
+  Gen = IsGenerator ideal G d
 
   abbrev Lower : List ℕ → V → Type 0
-  Lower w v = IsLowerProduct p weights relations st d d w v
+  Lower w v = IsLowerProduct ideal st d d w v
 
-  lower_of : (g : List Term) → Contains G g → IsLower p weights relations st d g
+  lower_of : (g : List Term) → Contains G g → IsLower ideal st d g
   lower_of g m = let h = (lower g).0 m in record { degree = h.0; below = h.1; reduced = h.2 }
 
-  listed_lower : (g : List Term) → IsLower p weights relations st d g → Contains G g
+  listed_lower : (g : List Term) → IsLower ideal st d g → Contains G g
   listed_lower g l = (lower g).1 (l.degree, l.below, l.reduced)
 
   -- where a lead stands in a word of the degree there is a product
@@ -74,9 +73,9 @@ module _ (p : ℕ) (weights : List ℕ) (relations : List (List Term)) (st : IsS
     pub vector : V
     pub product_of : Lower w vector
     pub place : length product_of.left ≡ k
-    pub inside : IsInIdeal p weights relations d (product (take k w) g (drop (k + length m) w))
+    pub inside : IsInIdeal ideal d (product (take k w) g (drop (k + length m) w))
 
-  occurring : (w : List ℕ) → IsOver (length weights) w → degree_of weights w ≡ d → (g : List Term) (m : List ℕ) (k : ℕ) → Contains G g →
+  occurring : (w : List ℕ) → IsOver (length ideal.weights) w → degree_of ideal.weights w ≡ d → (g : List Term) (m : List ℕ) (k : ℕ) → Contains G g →
       lead_of g ≡ Some m → OccursAt m w k → HasProduct w g m k
   occurring w over deg g m k among e o =
       let u = take k w in
@@ -92,18 +91,18 @@ module _ (p : ℕ) (weights : List ℕ) (relations : List (List Term)) (st : IsS
         is_lead = e;
         left = u;
         right = v;
-        left_over = All-take (λ n. n < length weights) k w over;
-        right_over = All-drop (λ n. n < length weights) (k + length m) w over;
+        left_over = All-take (λ n. n < length ideal.weights) k w over;
+        right_over = All-drop (λ n. n < length ideal.weights) (k + length m) w over;
         word = joined;
-        degree = ap (λ (n : ℕ). degree_of weights u + n + degree_of weights v) (sym (lower_degree p weights relations st d g m l e))
-            ∙ sym (degree_of-round weights u m v) ∙ ap (degree_of weights) (sym joined) ∙ deg;
+        degree = ap (λ (n : ℕ). degree_of ideal.weights u + n + degree_of ideal.weights v) (sym (lower_degree ideal st d g m l e))
+            ∙ sym (degree_of-round ideal.weights u m v) ∙ ap (degree_of ideal.weights) (sym joined) ∙ deg;
         is = refl;
       } in
       record {
         vector = vec (product u g v);
         product_of = h;
         place = length-take-le k w (omega (arith, o.within));
-        inside = lower_inside p weights relations st d d w (vec (product u g v)) h;
+        inside = lower_inside ideal st d d w (vec (product u g v)) h;
       }
 
   -- the vector of a generator
@@ -112,7 +111,7 @@ module _ (p : ℕ) (weights : List ℕ) (relations : List (List Term)) (st : IsS
     pub generator : Gen element
     pub is : v ≡ vec element
 
-  generator_listed : (v : V) → vectors_of.IsGenerator p weights relations st d v → IsVectorOf v
+  generator_listed : (v : V) → vectors_of.IsGenerator ideal st d v → IsVectorOf v
   generator_listed v (vectors_of.reducer w h least) =
       let whole : w ≡ h.left ++ (h.lead ++ h.right) = h.word ∙ append_assoc h.left h.lead h.right in
       let sizes = ap length h.word ∙ length-append (h.left ++ h.lead) h.right in
@@ -122,8 +121,8 @@ module _ (p : ℕ) (weights : List ℕ) (relations : List (List Term)) (st : IsS
       let here : take (length h.lead) (drop (length h.left) w) ≡ h.lead =
       ap (λ (r : List ℕ). take (length h.lead) (drop (length h.left) r)) whole
       ∙ ap (take (length h.lead)) (after_prefix h.left (h.lead ++ h.right)) ∙ before_suffix h.lead h.right in
-      let over = lower_over p weights relations st d w v h in
-      let deg = lower_word p weights relations st d d w v h in
+      let over = lower_over ideal st d w v h in
+      let deg = lower_word ideal st d d w v h in
       record {
         element = product h.left h.element h.right;
         generator = reducer w (product h.left h.element h.right) over deg (record {
@@ -143,7 +142,7 @@ module _ (p : ℕ) (weights : List ℕ) (relations : List (List Term)) (st : IsS
       let i = listed_lower q.first q.first_lower in
       let j = listed_lower q.second q.second_lower in
       record {
-        element = obstruction_row p q.first q.behind q.before q.second;
+        element = obstruction_row ideal.modulus q.first q.behind q.before q.second;
         generator = obstruction i.0 j.0 q.before q.shared q.behind (record {
           first = q.first;
           second = q.second;
@@ -162,55 +161,61 @@ module _ (p : ℕ) (weights : List ℕ) (relations : List (List Term)) (st : IsS
   in_list : (i : ℕ) (g : List Term) → slice_get G i ≡ Some g → Contains G g
   in_list i g e = (i, slice_get_within G i g e, get_or_from_slice_get G i g g e)
 
-  generator_member : (g : List Term) → Gen g → IsMemberVector p st.modulus weights relations st d (vec g)
+  generator_member : (g : List Term) → Gen g → IsMemberVector ideal st.modulus st d (vec g)
   generator_member g (reducer w f over deg r) =
-      span_from_ideal p st.modulus weights relations d g (subst (IsInIdeal p weights relations d) (sym r.is)
+      span_from_ideal ideal st.modulus d g (subst (IsInIdeal ideal d) (sym r.is)
       (occurring w over deg r.element r.lead r.at r.among r.is_lead r.here).inside)
-  generator_member g (of_relation r among h) = span_from_ideal p st.modulus weights relations d r
-      (neighbour_inside p weights relations st d r (relation r among h))
+  generator_member g (of_relation r among h) = span_from_ideal ideal st.modulus d r
+      (neighbour_inside ideal st d r (relation r among h))
   generator_member g (obstruction left right a c b o) =
-      subst (λ (n : ℕ). IsMemberVector p st.modulus weights relations st n (vec (obstruction_row p o.first b a o.second))) o.degree
-      (obstruction_member p weights relations st d o.first o.second (lower_of o.first (in_list left o.first o.at_left))
+      subst (λ (n : ℕ). IsMemberVector ideal st.modulus st n (vec (obstruction_row ideal.modulus o.first b a o.second))) o.degree
+      (obstruction_member ideal st d o.first o.second (lower_of o.first (in_list left o.first o.at_left))
       (lower_of o.second (in_list right o.second o.at_right)) a c b o.first_lead o.second_lead o.some_before o.some_shared
       o.some_behind)
 
   -- the parts that vectors stand for
-  record HasParts (cs : List (Residue p × V)) : Type 0 where
+  record HasParts (cs : List (Residue ideal.modulus × V)) : Type 0 where
     pub parts : List Part
-    pub each : All (λ c. (c.factor < p) × Gen c.element) parts
+    pub each : All (λ c. (c.factor < ideal.modulus) × Gen c.element) parts
     pub sum : (w : List ℕ) → sum_of K (List ℕ) cs w ≡ vec (flat_map part_terms parts) w
 
-  parts_from : (cs : List (Residue p × V)) → All (λ c. vectors_of.IsGenerator p weights relations st d c.1) cs → HasParts cs
-  parts_from [] each = record { parts = []; each = All-nil (λ (c : Part). (c.factor < p) × Gen c.element); sum = λ w. same_residue p _ _ refl }
+  parts_from : (cs : List (Residue ideal.modulus × V)) → All (λ c. vectors_of.IsGenerator ideal st d c.1) cs → HasParts cs
+  parts_from [] each = record {
+    parts = [];
+    each = All-nil (λ (c : Part). (c.factor < ideal.modulus) × Gen c.element);
+    sum = λ w. same_residue ideal.modulus _ _
+        refl;
+  }
   parts_from (c ∷ cs) each =
-      let h = generator_listed c.1 (All-head (λ (e : Residue p × V). vectors_of.IsGenerator p weights relations st d e.1) c cs each) in
-      let r = parts_from cs (All-tail (λ (e : Residue p × V). vectors_of.IsGenerator p weights relations st d e.1) c cs each) in
+      let h = generator_listed c.1 (All-head (λ (e : Residue ideal.modulus × V). vectors_of.IsGenerator ideal st d e.1) c cs each) in
+      let r = parts_from cs (All-tail (λ (e : Residue ideal.modulus × V). vectors_of.IsGenerator ideal st d e.1) c cs each) in
       let part : Part = record { factor = c.0.0; element = h.element } in
       record {
         parts = part ∷ r.parts;
-        each = All-cons (λ (c : Part). (c.factor < p) × Gen c.element) part r.parts (c.0.1, h.generator) r.each;
-        sum = λ w. ap₂ K.add (ap₂ K.mul (same_residue p c.0 (vectors.of p st.modulus c.0.0) (sym (mod-eq_of_lt c.0.1))) (ap (λ (v : V). v w) h.is)) (r.sum w)
-            ∙ sym (vector_of-append p st.modulus (part_terms part) (flat_map part_terms r.parts) w
-            ∙ ap (λ (n : Residue p). K.add n (vec (flat_map part_terms r.parts) w)) (vector_of-scaled p st.modulus c.0.0 h.element w));
+        each = All-cons (λ (c : Part). (c.factor < ideal.modulus) × Gen c.element) part r.parts (c.0.1, h.generator) r.each;
+        sum = λ w. ap₂ K.add (ap₂ K.mul (same_residue ideal.modulus c.0 (vectors.of ideal.modulus st.modulus c.0.0) (sym (mod-eq_of_lt c.0.1)))
+            (ap (λ (v : V). v w) h.is)) (r.sum w)
+            ∙ sym (vector_of-append ideal.modulus st.modulus (part_terms part) (flat_map part_terms r.parts) w
+            ∙ ap (λ (n : Residue ideal.modulus). K.add n (vec (flat_map part_terms r.parts) w)) (vector_of-scaled ideal.modulus st.modulus c.0.0 h.element w));
       }
 
-  spanned_by : (f : List Term) → IsInIdeal p weights relations d f → IsSpanned p Gen f
+  spanned_by : (f : List Term) → IsInIdeal ideal d f → IsSpanned ideal.modulus Gen f
   spanned_by f i =
-      let s = ideal_spanned p weights relations st d f i in
+      let s = ideal_spanned ideal st d f i in
       let r = parts_from s.parts s.each in
-      record { parts = r.parts; each = r.each; sum = λ w. ap (λ (n : Residue p). n.0) (s.sum w ∙ r.sum w) }
+      record { parts = r.parts; each = r.each; sum = λ w. ap (λ (n : Residue ideal.modulus). n.0) (s.sum w ∙ r.sum w) }
 
-  from_spanned : (f : List Term) → IsElement p weights d f → IsSpanned p Gen f → IsInIdeal p weights relations d f
+  from_spanned : (f : List Term) → IsElement ideal.modulus ideal.weights d f → IsSpanned ideal.modulus Gen f → IsInIdeal ideal d f
   from_spanned f e s =
-      ideal_from_span p st.modulus weights relations d f e
-      (IsInSpan-trans K (List ℕ) (λ v. (g : List Term) × Gen g × (v ≡ vec g)) (IsProductVector p st.modulus weights relations d)
-      (λ v h. subst (IsMemberVector p st.modulus weights relations st d) (sym h.2) (generator_member h.0 h.1)) (vec f)
+      ideal_from_span ideal st.modulus d f e
+      (IsInSpan-trans K (List ℕ) (λ v. (g : List Term) × Gen g × (v ≡ vec g)) (IsProductVector ideal st.modulus d)
+      (λ v h. subst (IsMemberVector ideal st.modulus st d) (sym h.2) (generator_member h.0 h.1)) (vec f)
       (record {
-        parts = map (vector_part p weights relations st d) s.parts;
-        each = All-map (λ c. (g : List Term) × Gen g × (c.1 ≡ vec g)) (vector_part p weights relations st d) s.parts
+        parts = map (vector_part ideal st d) s.parts;
+        each = All-map (λ c. (g : List Term) × Gen g × (c.1 ≡ vec g)) (vector_part ideal st d) s.parts
             (λ k c within. (_, (s.each k c within).1, refl));
-        sum = λ w. same_vectors p st.modulus f _ s.sum w ∙ vector_of-parts p weights relations st d s.parts w;
+        sum = λ w. same_vectors ideal.modulus st.modulus f _ s.sum w ∙ vector_of-parts ideal st d s.parts w;
       }))
 
 pub overlaps_suffice : OverlapsSuffice
-overlaps_suffice p weights relations st d G lower f e = (spanned_by p weights relations st d G lower f, from_spanned p weights relations st d G lower f e)
+overlaps_suffice ideal st d G lower f e = (spanned_by ideal st d G lower f, from_spanned ideal st d G lower f e)

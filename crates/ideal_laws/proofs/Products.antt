@@ -10,7 +10,7 @@ use Rattle.words.proofs.Members.{Contains-cases, Contains-first, Contains-flat_m
 use Rattle.free_poly.specs.declared.term.Term.{Term}
 use Rattle.free_poly.specs.Terms.{HasDegree, product}
 use Rattle.free_poly.proofs.Products.{degree_of-round}
-use Rattle.ideal_laws.specs.Ideal.{IsMultiple, Multiple}
+use Rattle.ideal_laws.specs.Ideal.{IsMultiple, Multiple, ideal_over}
 use Rattle.ideal_laws.specs.Laws.{IsRelation}
 
 -- whether all words have this degree
@@ -57,7 +57,7 @@ module _ (weights : List ℕ) (aw : AreWeights weights) where
 
   -- each product of the degree is in the list
   pub product_listed : (p : ℕ) (relations : List (List Term)) → All (IsRelation p weights) relations → (d : ℕ) (m : Multiple) →
-      IsMultiple p weights relations d m
+      IsMultiple (ideal_over p weights relations) d m
       → Contains (products weights relations d) (product m.left m.relation m.right)
   product_listed p relations rels d m h =
       let sizes = degree_round m.relation (All-contains (IsRelation p weights) relations m.relation rels h.among).other h.degree in
@@ -77,7 +77,7 @@ module _ (weights : List ℕ) (aw : AreWeights weights) where
   -- a member of the list with the words round its relation
   pub record IsProduct (p : ℕ) (relations : List (List Term)) (d : ℕ) (g : List Term) : Type 0 where
     pub multiple : Multiple
-    pub is_multiple : IsMultiple p weights relations d multiple
+    pub is_multiple : IsMultiple (ideal_over p weights relations) d multiple
     pub is : g ≡ product multiple.left multiple.relation multiple.right
 
   -- the list has products of the degree alone

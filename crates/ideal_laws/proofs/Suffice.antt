@@ -20,7 +20,7 @@ use Rattle.linear_algebra.specs.Spans.{IsInSpan}
 use Rattle.linear_algebra.specs.Mod.{Residue}
 use Rattle.linear_algebra.proofs.Algebra.{mul_neg, IsInSpan-add, IsInSpan-scaled, IsInSpan-one}
 use Rattle.linear_algebra.proofs.Elimination.{IsInSpan-trans, same_span}
-use Rattle.ideal_laws.specs.Ideal.{IsElement, IsInIdeal, IsMinimal}
+use Rattle.ideal_laws.specs.Ideal.{Ideal, IsElement, IsInIdeal, IsMinimal}
 use Rattle.ideal_laws.specs.Closure.{obstruction_row}
 use Rattle.ideal_laws.specs.Laws.{IsNeighbour, before, behind, relation, IsSetting}
 use Rattle.ideal_laws.proofs.Differ.{IsBelow, smaller, row, IsRow, differ, lead_over, less, lower_degree, lower_word, obstruction_member, shift_lower}
@@ -34,46 +34,46 @@ use Rattle.ideal_laws.proofs.Shifted.{shifted, span_shifted, vector_of-product}
 use Rattle.ideal_laws.proofs.Vectors.{IsProductVector, ideal_from_span, same_vectors, span_from_ideal}
 use Rattle.ideal_laws.proofs.Vectors as vectors
 
-module _ (p : ℕ) (weights : List ℕ) (relations : List (List Term)) (st : IsSetting p weights relations) (d : ℕ) where
+module _ (ideal : Ideal) (st : IsSetting ideal) (d : ℕ) where
   abbrev K : Field
-  K = vectors.K p st.modulus
+  K = vectors.K ideal.modulus st.modulus
 
   abbrev V : Type 0
-  V = List ℕ → Residue p
+  V = List ℕ → Residue ideal.modulus
 
   abbrev vec : List Term → V
-  vec f = vectors.vector_of p st.modulus f
+  vec f = vectors.vector_of ideal.modulus st.modulus f
 
   abbrev Lower : List ℕ → V → Type 0
-  Lower w v = IsLowerProduct p weights relations st d d w v
+  Lower w v = IsLowerProduct ideal st d d w v
 
   -- the reducer of a word, a relation, or the row of an obstruction
   pub data IsGenerator (v : V) : Type 0 where
     reducer : (w : List ℕ) (h : Lower w v) → ((u : V) (k : Lower w u) → length h.left ≤ length k.left) → IsGenerator v
-    of_relation : (r : List Term) → Contains relations r → HasDegree weights d r → v ≡ vec r → IsGenerator v
-    obstruction : IsRow p weights relations st d v → IsGenerator v
+    of_relation : (r : List Term) → Contains ideal.relations r → HasDegree ideal.weights d r → v ≡ vec r → IsGenerator v
+    obstruction : IsRow ideal st d v → IsGenerator v
 
   abbrev Sp : V → Type 0
   Sp v = IsInSpan K (List ℕ) IsGenerator v
 
-  pub lower_over : (w : List ℕ) (v : V) → Lower w v → IsOver (length weights) w
-  lower_over w v h = subst (IsOver (length weights)) (sym h.word)
-      (All-append (λ n. n < length weights) (h.left ++ h.lead) h.right
-      (All-append (λ n. n < length weights) h.left h.lead h.left_over
-      (lead_over p weights relations st d h.element h.lead h.lower h.is_lead)) h.right_over)
+  pub lower_over : (w : List ℕ) (v : V) → Lower w v → IsOver (length ideal.weights) w
+  lower_over w v h = subst (IsOver (length ideal.weights)) (sym h.word)
+      (All-append (λ n. n < length ideal.weights) (h.left ++ h.lead) h.right
+      (All-append (λ n. n < length ideal.weights) h.left h.lead h.left_over
+      (lead_over ideal st d h.element h.lead h.lower h.is_lead)) h.right_over)
 
   -- a place and a length at which a lead of lower degree stands
   record StandsAt (w : List ℕ) (below : ℕ) (at : ℕ × ℕ) : Type 0 where
     pub earlier : at.0 < below
-    pub minimal : IsMinimal p weights relations (take at.1 (drop at.0 w))
-    pub small : degree_of weights (take at.1 (drop at.0 w)) < d
+    pub minimal : IsMinimal ideal (take at.1 (drop at.0 w))
+    pub small : degree_of ideal.weights (take at.1 (drop at.0 w)) < d
 
   stands_at : (w : List ℕ) (below : ℕ) (at : ℕ × ℕ) → StandsAt w below at ⊎ (StandsAt w below at → ⊥)
   stands_at w below at = elim (cases_lt at.0 below) [
     | inr no_earlier ↦ inr (λ h. omega (arith, no_earlier, h.earlier))
-    | inl earlier ↦ elim (cases_lt (degree_of weights (take at.1 (drop at.0 w))) d) [
+    | inl earlier ↦ elim (cases_lt (degree_of ideal.weights (take at.1 (drop at.0 w))) d) [
       | inr large ↦ inr (λ h. omega (arith, large, h.small))
-      | inl small ↦ elim (is_minimal p weights relations st (take at.1 (drop at.0 w))) [
+      | inl small ↦ elim (is_minimal ideal st (take at.1 (drop at.0 w))) [
         | inl m ↦ inl (record { earlier = earlier; minimal = m; small = small })
         | inr other ↦ inr (λ h. other h.minimal)
       ]
@@ -111,8 +111,8 @@ module _ (p : ℕ) (weights : List ℕ) (relations : List (List Term)) (st : IsS
       ∙ ap (take (length k.lead)) (after_prefix k.left (k.lead ++ k.right)) ∙ before_suffix k.lead k.right in
       record {
         earlier = lt;
-        minimal = subst (IsMinimal p weights relations) (sym here) (k.lower.reduced.minimal k.lead k.is_lead);
-        small = omega (arith, ap (degree_of weights) here, lower_degree p weights relations st d k.element k.lead k.lower k.is_lead, k.lower.below);
+        minimal = subst (IsMinimal ideal) (sym here) (k.lower.reduced.minimal k.lead k.is_lead);
+        small = omega (arith, ap (degree_of ideal.weights) here, lower_degree ideal st d k.element k.lead k.lower k.is_lead, k.lower.below);
       }
 
   take-short : (i : ℕ) (w : List ℕ) → length (take i w) ≤ i
@@ -126,27 +126,28 @@ module _ (p : ℕ) (weights : List ℕ) (relations : List (List Term)) (st : IsS
     pub product_of : Lower w vector
     pub early : length product_of.left ≤ i
 
-  product_at : (w : List ℕ) (below : ℕ) (at : ℕ × ℕ) → StandsAt w below at → IsOver (length weights) w → degree_of weights w ≡ d → HasProductAt w at.0
+  product_at : (w : List ℕ) (below : ℕ) (at : ℕ × ℕ) → StandsAt w below at → IsOver (length ideal.weights) w → degree_of ideal.weights w ≡ d
+      → HasProductAt w at.0
   product_at w below at s over deg =
       let u = take at.0 w in
       let m = take at.1 (drop at.0 w) in
       let v = drop at.1 (drop at.0 w) in
       let joined : w ≡ u ++ m ++ v = sym (append_assoc u m v ∙ ap (λ (r : List ℕ). u ++ r) (take-append-drop at.1 (drop at.0 w)) ∙ take-append-drop at.0 w) in
-      let g = minimal_led p weights relations st m s.minimal in
-      let back = All-drop (λ n. n < length weights) at.0 w over in
+      let g = minimal_led ideal st m s.minimal in
+      let back = All-drop (λ n. n < length ideal.weights) at.0 w over in
       record {
         vector = vec (product u g.0 v);
         product_of = record {
           element = g.0;
-          lower = record { degree = degree_of weights m; below = s.small; reduced = g.1 };
+          lower = record { degree = degree_of ideal.weights m; below = s.small; reduced = g.1 };
           lead = m;
           is_lead = g.2;
           left = u;
           right = v;
-          left_over = All-take (λ n. n < length weights) at.0 w over;
-          right_over = All-drop (λ n. n < length weights) at.1 (drop at.0 w) back;
+          left_over = All-take (λ n. n < length ideal.weights) at.0 w over;
+          right_over = All-drop (λ n. n < length ideal.weights) at.1 (drop at.0 w) back;
           word = joined;
-          degree = sym (degree_of-round weights u m v) ∙ ap (degree_of weights) (sym joined) ∙ deg;
+          degree = sym (degree_of-round ideal.weights u m v) ∙ ap (degree_of ideal.weights) (sym joined) ∙ deg;
           is = refl;
         };
         early = take-short at.0 w;
@@ -169,27 +170,28 @@ module _ (p : ℕ) (weights : List ℕ) (relations : List (List Term)) (st : IsS
       ];
     }
     | found at m s ↦
-        let q = product_at w (length h.left) at s (lower_over w v h) (lower_word p weights relations st d d w v h) in
+        let q = product_at w (length h.left) at s (lower_over w v h) (lower_word ideal st d d w v h) in
         least_below n w q.vector q.product_of (omega (arith, q.early, s.earlier, le))
   ]
 
   abbrev columns : List (List ℕ)
-  columns = words_of_degree weights d
+  columns = words_of_degree ideal.weights d
 
   in_columns : (w : List ℕ) (v : V) → Lower w v → Contains columns w
-  in_columns w v h = subst (λ (n : ℕ). Contains (words_of_degree weights n) w) (lower_word p weights relations st d d w v h)
-      (listed_word weights st.are_weights w (lower_over w v h))
+  in_columns w v h = subst (λ (n : ℕ). Contains (words_of_degree ideal.weights n) w) (lower_word ideal st d d w v h)
+      (listed_word ideal.weights st.are_weights w (lower_over w v h))
 
   -- v is R less (R less v)
-  back_from : (r v : V) (y : List ℕ) → K.add (r y) (K.mul (K.neg K.one) (less p weights relations st r v y)) ≡ v y
+  back_from : (r v : V) (y : List ℕ) → K.add (r y) (K.mul (K.neg K.one) (less ideal st r v y)) ≡ v y
   back_from r v y =
-      let minus : (c : Residue p) → K.mul (K.neg K.one) c ≡ K.neg c = λ c. K.mul_comm (K.neg K.one) c ∙ mul_neg K c K.one ∙ ap K.neg (K.mul_one c) in
+      let minus : (c : Residue ideal.modulus) → K.mul (K.neg K.one) c ≡ K.neg c = λ c. K.mul_comm (K.neg K.one) c ∙ mul_neg K c K.one
+      ∙ ap K.neg (K.mul_one c) in
       let part = K.add (r y) (K.neg (v y)) in
       let whole : K.add part (v y) ≡ r y = K.add_assoc (r y) (K.neg (v y)) (v y)
       ∙ ap (K.add (r y)) (K.add_comm (K.neg (v y)) (v y) ∙ K.add_neg (v y)) ∙ K.add_zero (r y) in
-      ap (λ (n : Residue p). K.add (r y) (K.mul (K.neg K.one) (K.add (r y) n))) (minus (v y)) ∙ ap (K.add (r y)) (minus part)
-      ∙ ap (λ (n : Residue p). K.add n (K.neg part)) (sym whole)
-      ∙ ap (λ (n : Residue p). K.add n (K.neg part)) (K.add_comm part (v y)) ∙ K.add_assoc (v y) part (K.neg part)
+      ap (λ (n : Residue ideal.modulus). K.add (r y) (K.mul (K.neg K.one) (K.add (r y) n))) (minus (v y)) ∙ ap (K.add (r y)) (minus part)
+      ∙ ap (λ (n : Residue ideal.modulus). K.add n (K.neg part)) (sym whole)
+      ∙ ap (λ (n : Residue ideal.modulus). K.add n (K.neg part)) (K.add_comm part (v y)) ∙ K.add_assoc (v y) part (K.neg part)
       ∙ ap (K.add (v y)) (K.add_neg part) ∙ K.add_zero (v y)
 
   -- each product is a sum of generators, by the words from the least one on
@@ -201,8 +203,8 @@ module _ (p : ℕ) (weights : List ℕ) (relations : List (List Term)) (st : IsS
         | inr n ↦ rest w n v h
         | inl e ↦
             let r = least_below (length h.left) w v h (omega arith) in
-            let falling = subst (AllPairs IsLetterwiseGreater) is (words_of_degree-falling weights st.are_weights d) in
-            let below : (u : V) → IsBelow p weights relations st d w u → Sp u = λ u b. elim b [
+            let falling = subst (AllPairs IsLetterwiseGreater) is (words_of_degree-falling ideal.weights st.are_weights d) in
+            let below : (u : V) → IsBelow ideal st d w u → Sp u = λ u b. elim b [
               | row q ↦ IsInSpan-one K (List ℕ) IsGenerator u (obstruction q)
               | smaller y g k ↦ elim (Contains-append_cases pre (x ∷ xs) y (subst (λ (ws : List (List ℕ)). Contains ws y) is (in_columns y u k))) [
                 | inl j ↦ absurd (letterwise-apart w w (letterwise-trans w y w g
@@ -213,63 +215,63 @@ module _ (p : ℕ) (weights : List ℕ) (relations : List (List Term)) (st : IsS
                 ]
               ]
             ] in
-            let gap = IsInSpan-trans K (List ℕ) (IsBelow p weights relations st d w) IsGenerator below
-            (less p weights relations st r.vector v) (differ p weights relations st d w r.vector v r.product_of h (r.least v h)) in
-            same_span K (List ℕ) IsGenerator (λ y. K.add (r.vector y) (K.mul (K.neg K.one) (less p weights relations st r.vector v y))) v (back_from r.vector v)
-            (IsInSpan-add K (List ℕ) IsGenerator r.vector (λ y. K.mul (K.neg K.one) (less p weights relations st r.vector v y))
+            let gap = IsInSpan-trans K (List ℕ) (IsBelow ideal st d w) IsGenerator below
+            (less ideal st r.vector v) (differ ideal st d w r.vector v r.product_of h (r.least v h)) in
+            same_span K (List ℕ) IsGenerator (λ y. K.add (r.vector y) (K.mul (K.neg K.one) (less ideal st r.vector v y))) v (back_from r.vector v)
+            (IsInSpan-add K (List ℕ) IsGenerator r.vector (λ y. K.mul (K.neg K.one) (less ideal st r.vector v y))
             (IsInSpan-one K (List ℕ) IsGenerator r.vector (reducer w r.product_of r.least))
-            (IsInSpan-scaled K (List ℕ) IsGenerator (K.neg K.one) (less p weights relations st r.vector v) gap))
+            (IsInSpan-scaled K (List ℕ) IsGenerator (K.neg K.one) (less ideal st r.vector v) gap))
       ]
 
   pub product_spanned : (w : List ℕ) (v : V) → Lower w v → Sp v
   product_spanned w v h = products_spanned columns [] refl w (in_columns w v h) v h
 
   -- words round a member of lower degree
-  round_spanned : (e : ℕ) → e < d → (u v : List ℕ) → IsOver (length weights) u → IsOver (length weights) v →
-      degree_of weights u + e + degree_of weights v ≡ d → (f : List Term) → IsInIdeal p weights relations e f → Sp (vec (product u f v))
+  round_spanned : (e : ℕ) → e < d → (u v : List ℕ) → IsOver (length ideal.weights) u → IsOver (length ideal.weights) v →
+      degree_of ideal.weights u + e + degree_of ideal.weights v ≡ d → (f : List Term) → IsInIdeal ideal e f → Sp (vec (product u f v))
   round_spanned e lt u v hu hv deg f i =
-      subst Sp (sym (vector_of-product p st.modulus u v f))
-      (IsInSpan-trans K (List ℕ) (λ q. (w : List ℕ) × Lower w q) IsGenerator (λ q h. product_spanned h.0 q h.1) (shifted p st.modulus u v (vec f))
-      (span_shifted p st.modulus u v (IsLowerAmong p weights relations st d e (words_of_degree weights e)) (λ q. (w : List ℕ) × Lower w q)
-      (λ g q. (u ++ q.0 ++ v, shift_lower p weights relations st d e u v q.0 g hu hv deg q.2)) (vec f) (represented p weights relations st d e lt f i)))
+      subst Sp (sym (vector_of-product ideal.modulus st.modulus u v f))
+      (IsInSpan-trans K (List ℕ) (λ q. (w : List ℕ) × Lower w q) IsGenerator (λ q h. product_spanned h.0 q h.1) (shifted ideal.modulus st.modulus u v (vec f))
+      (span_shifted ideal.modulus st.modulus u v (IsLowerAmong ideal st d e (words_of_degree ideal.weights e)) (λ q. (w : List ℕ) × Lower w q)
+      (λ g q. (u ++ q.0 ++ v, shift_lower ideal st d e u v q.0 g hu hv deg q.2)) (vec f) (represented ideal st d e lt f i)))
 
-  neighbour_spanned : (g : List Term) → IsNeighbour p weights relations d g → Sp (vec g)
-  neighbour_spanned g (before x f lt le i) = round_spanned (d - weight_of weights x)
-      (omega (arith, le, (weight_of-bounds weights st.are_weights x).0)) (x ∷ []) []
-      (All-cons (λ n. n < length weights) x [] lt (All-nil (λ n. n < length weights))) (All-nil (λ n. n < length weights))
+  neighbour_spanned : (g : List Term) → IsNeighbour ideal d g → Sp (vec g)
+  neighbour_spanned g (before x f lt le i) = round_spanned (d - weight_of ideal.weights x)
+      (omega (arith, le, (weight_of-bounds ideal.weights st.are_weights x).0)) (x ∷ []) []
+      (All-cons (λ n. n < length ideal.weights) x [] lt (All-nil (λ n. n < length ideal.weights))) (All-nil (λ n. n < length ideal.weights))
       (omega (arith, le)) f i
-  neighbour_spanned g (behind x f lt le i) = round_spanned (d - weight_of weights x)
-      (omega (arith, le, (weight_of-bounds weights st.are_weights x).0)) [] (x ∷ []) (All-nil (λ n. n < length weights))
-      (All-cons (λ n. n < length weights) x [] lt (All-nil (λ n. n < length weights))) (omega (arith, le)) f i
+  neighbour_spanned g (behind x f lt le i) = round_spanned (d - weight_of ideal.weights x)
+      (omega (arith, le, (weight_of-bounds ideal.weights st.are_weights x).0)) [] (x ∷ []) (All-nil (λ n. n < length ideal.weights))
+      (All-cons (λ n. n < length ideal.weights) x [] lt (All-nil (λ n. n < length ideal.weights))) (omega (arith, le)) f i
   neighbour_spanned g (relation r among h) = IsInSpan-one K (List ℕ) IsGenerator (vec r) (of_relation r among h refl)
 
-  pub ideal_spanned : (f : List Term) → IsInIdeal p weights relations d f → Sp (vec f)
+  pub ideal_spanned : (f : List Term) → IsInIdeal ideal d f → Sp (vec f)
   ideal_spanned f i =
-      let s = spanned p weights relations st d f i in
-      IsInSpan-trans K (List ℕ) (λ q. (g : List Term) × IsNeighbour p weights relations d g × (q ≡ vec g)) IsGenerator
+      let s = spanned ideal st d f i in
+      IsInSpan-trans K (List ℕ) (λ q. (g : List Term) × IsNeighbour ideal d g × (q ≡ vec g)) IsGenerator
       (λ q h. subst Sp (sym h.2) (neighbour_spanned h.0 h.1)) (vec f)
       (record {
-        parts = map (vector_part p weights relations st d) s.parts;
-        each = All-map (λ c. (g : List Term) × IsNeighbour p weights relations d g × (c.1 ≡ vec g)) (vector_part p weights relations st d)
+        parts = map (vector_part ideal st d) s.parts;
+        each = All-map (λ c. (g : List Term) × IsNeighbour ideal d g × (c.1 ≡ vec g)) (vector_part ideal st d)
             s.parts (λ k c within. (_, (s.each k c within).1, refl));
-        sum = λ w. same_vectors p st.modulus f _ s.sum w ∙ vector_of-parts p weights relations st d s.parts w;
+        sum = λ w. same_vectors ideal.modulus st.modulus f _ s.sum w ∙ vector_of-parts ideal st d s.parts w;
       })
 
-  generator_member : (v : V) → IsGenerator v → IsMemberVector p st.modulus weights relations st d v
-  generator_member v (reducer w h least) = subst (IsMemberVector p st.modulus weights relations st d) (sym h.is)
-      (span_from_ideal p st.modulus weights relations d _ (lower_inside p weights relations st d d w v h))
-  generator_member v (of_relation r among h e) = subst (IsMemberVector p st.modulus weights relations st d) (sym e)
-      (span_from_ideal p st.modulus weights relations d r (neighbour_inside p weights relations st d r (relation r among h)))
+  generator_member : (v : V) → IsGenerator v → IsMemberVector ideal st.modulus st d v
+  generator_member v (reducer w h least) = subst (IsMemberVector ideal st.modulus st d) (sym h.is)
+      (span_from_ideal ideal st.modulus d _ (lower_inside ideal st d d w v h))
+  generator_member v (of_relation r among h e) = subst (IsMemberVector ideal st.modulus st d) (sym e)
+      (span_from_ideal ideal st.modulus d r (neighbour_inside ideal st d r (relation r among h)))
   generator_member v (obstruction q) =
-      subst (IsMemberVector p st.modulus weights relations st d) (sym q.is)
-      (subst (λ (n : ℕ). IsMemberVector p st.modulus weights relations st n (vec (obstruction_row p q.first q.behind q.before q.second))) q.degree
-      (obstruction_member p weights relations st d q.first q.second q.first_lower q.second_lower q.before q.shared q.behind q.first_lead
+      subst (IsMemberVector ideal st.modulus st d) (sym q.is)
+      (subst (λ (n : ℕ). IsMemberVector ideal st.modulus st n (vec (obstruction_row ideal.modulus q.first q.behind q.before q.second))) q.degree
+      (obstruction_member ideal st d q.first q.second q.first_lower q.second_lower q.before q.shared q.behind q.first_lead
       q.second_lead q.some_before q.some_shared q.some_behind))
 
   -- the ideal in a degree is the span of reducers, relations and obstruction rows
-  pub suffices : (f : List Term) → IsElement p weights d f → IsInIdeal p weights relations d f ↔ Sp (vec f)
+  pub suffices : (f : List Term) → IsElement ideal.modulus ideal.weights d f → IsInIdeal ideal d f ↔ Sp (vec f)
   suffices f e = (
     ideal_spanned f,
-    λ s. ideal_from_span p st.modulus weights relations d f e (IsInSpan-trans K (List ℕ) IsGenerator
-        (IsProductVector p st.modulus weights relations d) generator_member (vec f) s),
+    λ s. ideal_from_span ideal st.modulus d f e (IsInSpan-trans K (List ℕ) IsGenerator
+        (IsProductVector ideal st.modulus d) generator_member (vec f) s),
   )

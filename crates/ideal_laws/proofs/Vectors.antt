@@ -12,7 +12,7 @@ use Rattle.linear_algebra.specs.Fields.{Field}
 use Rattle.linear_algebra.specs.Spans.{sum_of, IsInSpan}
 use Rattle.linear_algebra.specs.Mod.{Residue, residue}
 use Rattle.linear_algebra.proofs.ModField.{residues, same_residue}
-use Rattle.ideal_laws.specs.Ideal.{IsElement, IsInIdeal, IsMultiple, Multiple, terms_of}
+use Rattle.ideal_laws.specs.Ideal.{Ideal, IsElement, IsInIdeal, IsMultiple, Multiple, terms_of}
 
 module _ (p : ℕ) (fm : IsFieldModulus p) where
   abbrev pub K : Field
@@ -46,52 +46,55 @@ module _ (p : ℕ) (fm : IsFieldModulus p) where
       vector_of-append (terms_of m) (flat_map terms_of ms) w
       ∙ ap₂ K.add (vector_of-scaled m.factor (product m.left m.relation m.right) w) (vector_of-multiples ms w)
 
-  module _ (weights : List ℕ) (relations : List (List Term)) (d : ℕ) where
-    -- the vector of u * r * v of this degree
-    pub record IsProductVector (v : List ℕ → Residue p) : Type 0 where
-      pub multiple : Multiple
-      pub is_multiple : IsMultiple p weights relations d multiple
-      pub is : v ≡ vector_of (product multiple.left multiple.relation multiple.right)
+module _ (ideal : Ideal) (fm : IsFieldModulus ideal.modulus) (d : ℕ) where
+  -- the vector of u * r * v of this degree
+  pub record IsProductVector (v : List ℕ → Residue ideal.modulus) : Type 0 where
+    pub multiple : Multiple
+    pub is_multiple : IsMultiple ideal d multiple
+    pub is : v ≡ vector_of ideal.modulus fm (product multiple.left multiple.relation multiple.right)
 
-    each_part : (ms : List Multiple) → All (IsMultiple p weights relations d) ms → All (λ c. IsProductVector c.1) (map part ms)
-    each_part ms each = All-map (λ c. IsProductVector c.1) part ms (λ k m within. record { multiple = _; is_multiple = each k m within; is = refl })
+  each_part : (ms : List Multiple) → All (IsMultiple ideal d) ms → All (λ c. IsProductVector c.1) (map (part ideal.modulus fm) ms)
+  each_part ms each = All-map (λ c. IsProductVector c.1) (part ideal.modulus fm) ms
+      (λ k m within. record { multiple = _; is_multiple = each k m within; is = refl })
 
-    pub span_from_ideal : (f : List Term) → IsInIdeal p weights relations d f → IsInSpan K (List ℕ) IsProductVector (vector_of f)
-    span_from_ideal f i = record {
-      parts = map part i.multiples;
-      each = each_part i.multiples i.each;
-      sum = λ w. same_vectors f (flat_map terms_of i.multiples) i.sum w ∙ vector_of-multiples i.multiples w;
-    }
+  pub span_from_ideal : (f : List Term) → IsInIdeal ideal d f → IsInSpan (K ideal.modulus fm) (List ℕ) IsProductVector (vector_of ideal.modulus fm f)
+  span_from_ideal f i = record {
+    parts = map (part ideal.modulus fm) i.multiples;
+    each = each_part i.multiples i.each;
+    sum = λ w. same_vectors ideal.modulus fm f (flat_map terms_of i.multiples) i.sum w ∙ vector_of-multiples ideal.modulus fm i.multiples w;
+  }
 
-    -- the multiples that parts stand for
-    record HasMultiples (cs : List (Residue p × (List ℕ → Residue p))) : Type 0 where
-      pub multiples : List Multiple
-      pub each : All (IsMultiple p weights relations d) multiples
-      pub sum : (w : List ℕ) → sum_of K (List ℕ) cs w ≡ vector_of (flat_map terms_of multiples) w
+  -- the multiples that parts stand for
+  record HasMultiples (cs : List (Residue ideal.modulus × (List ℕ → Residue ideal.modulus))) : Type 0 where
+    pub multiples : List Multiple
+    pub each : All (IsMultiple ideal d) multiples
+    pub sum : (w : List ℕ) → sum_of (K ideal.modulus fm) (List ℕ) cs w ≡ vector_of ideal.modulus fm (flat_map terms_of multiples) w
 
-    multiples_from : (cs : List (Residue p × (List ℕ → Residue p))) → All (λ c. IsProductVector c.1) cs → HasMultiples cs
-    multiples_from [] each = record { multiples = []; each = All-nil (IsMultiple p weights relations d); sum = λ w. same_residue p _ _ refl }
-    multiples_from (c ∷ cs) each =
-        let h = All-head (λ (e : Residue p × (List ℕ → Residue p)). IsProductVector e.1) c cs each in
-        let r = multiples_from cs (All-tail (λ (e : Residue p × (List ℕ → Residue p)). IsProductVector e.1) c cs each) in
-        let m : Multiple = record { factor = c.0.0; left = h.multiple.left; relation = h.multiple.relation; right = h.multiple.right } in
-        record {
-          multiples = m ∷ r.multiples;
-          each = All-cons (IsMultiple p weights relations d) m r.multiples
-              (record {
-                residue = c.0.1;
-                left_over = h.is_multiple.left_over;
-                right_over = h.is_multiple.right_over;
-                among = h.is_multiple.among;
-                degree = h.is_multiple.degree;
-              }) r.each;
-          sum = λ w. ap₂ K.add (ap₂ K.mul (same_residue p c.0 (of c.0.0) (sym (mod-eq_of_lt c.0.1))) (ap (λ (v : List ℕ → Residue p). v w) h.is)) (r.sum w)
-              ∙ sym (vector_of-append (terms_of m) (flat_map terms_of r.multiples) w
-              ∙ ap (λ (n : Residue p). K.add n (vector_of (flat_map terms_of r.multiples) w))
-              (vector_of-scaled c.0.0 (product m.left m.relation m.right) w));
-        }
+  multiples_from : (cs : List (Residue ideal.modulus × (List ℕ → Residue ideal.modulus))) → All (λ c. IsProductVector c.1) cs → HasMultiples cs
+  multiples_from [] each = record { multiples = []; each = All-nil (IsMultiple ideal d); sum = λ w. same_residue ideal.modulus _ _ refl }
+  multiples_from (c ∷ cs) each =
+      let h = All-head (λ (e : Residue ideal.modulus × (List ℕ → Residue ideal.modulus)). IsProductVector e.1) c cs each in
+      let r = multiples_from cs (All-tail (λ (e : Residue ideal.modulus × (List ℕ → Residue ideal.modulus)). IsProductVector e.1) c cs each) in
+      let m : Multiple = record { factor = c.0.0; left = h.multiple.left; relation = h.multiple.relation; right = h.multiple.right } in
+      record {
+        multiples = m ∷ r.multiples;
+        each = All-cons (IsMultiple ideal d) m r.multiples
+            (record {
+              residue = c.0.1;
+              left_over = h.is_multiple.left_over;
+              right_over = h.is_multiple.right_over;
+              among = h.is_multiple.among;
+              degree = h.is_multiple.degree;
+            }) r.each;
+        sum = λ w. ap₂ (K ideal.modulus fm).add (ap₂ (K ideal.modulus fm).mul (same_residue ideal.modulus c.0 (of ideal.modulus fm c.0.0)
+            (sym (mod-eq_of_lt c.0.1))) (ap (λ (v : List ℕ → Residue ideal.modulus). v w) h.is)) (r.sum w)
+            ∙ sym (vector_of-append ideal.modulus fm (terms_of m) (flat_map terms_of r.multiples) w
+            ∙ ap (λ (n : Residue ideal.modulus). (K ideal.modulus fm).add n (vector_of ideal.modulus fm (flat_map terms_of r.multiples) w))
+            (vector_of-scaled ideal.modulus fm c.0.0 (product m.left m.relation m.right) w));
+      }
 
-    pub ideal_from_span : (f : List Term) → IsElement p weights d f → IsInSpan K (List ℕ) IsProductVector (vector_of f) → IsInIdeal p weights relations d f
-    ideal_from_span f e s =
-        let r = multiples_from s.parts s.each in
-        record { element = e; multiples = r.multiples; each = r.each; sum = λ w. ap (λ (n : Residue p). n.0) (s.sum w ∙ r.sum w) }
+  pub ideal_from_span : (f : List Term) → IsElement ideal.modulus ideal.weights d f
+      → IsInSpan (K ideal.modulus fm) (List ℕ) IsProductVector (vector_of ideal.modulus fm f) → IsInIdeal ideal d f
+  ideal_from_span f e s =
+      let r = multiples_from s.parts s.each in
+      record { element = e; multiples = r.multiples; each = r.each; sum = λ w. ap (λ (n : Residue ideal.modulus). n.0) (s.sum w ∙ r.sum w) }

@@ -3,7 +3,7 @@ use Rattle.std.specs.Prelude.{ℕ, ◌≡◌, ◌↔◌, List, [], ◌∷◌, Al
 use Rattle.words.specs.Order.{IsLetterwiseGreater}
 use Rattle.free_poly.specs.declared.term.Term.{Term}
 use Rattle.free_poly.specs.Poly.{IsMonic, lead_of}
-use Rattle.ideal_laws.specs.Ideal.{IsInIdeal, IsLeadingWord, IsMinimal}
+use Rattle.ideal_laws.specs.Ideal.{Ideal, IsInIdeal, IsLeadingWord, IsMinimal}
 
 -- the words other than the leading one
 abbrev pub below_lead : List Term → List Term
@@ -19,14 +19,13 @@ pub record HasGreaterLead (f g : List Term) : Type 0 where
   pub greater : IsLetterwiseGreater of_f of_g
 
 -- monic, with a minimal leading word, and no other word is a leading word
-pub record IsReduced (p : ℕ) (weights : List ℕ) (relations : List (List Term)) (d : ℕ) (f : List Term) : Type 0 where
-  pub inside : IsInIdeal p weights relations d f
+pub record IsReduced (ideal : Ideal) (d : ℕ) (f : List Term) : Type 0 where
+  pub inside : IsInIdeal ideal d f
   pub monic : IsMonic f
-  pub minimal : (w : List ℕ) → lead_of f ≡ Some w → IsMinimal p weights relations w
-  pub others : All (λ t. IsLeadingWord p weights relations d t.word → ⊥) (below_lead f)
+  pub minimal : (w : List ℕ) → lead_of f ≡ Some w → IsMinimal ideal w
+  pub others : All (λ t. IsLeadingWord ideal d t.word → ⊥) (below_lead f)
 
 -- exactly the reduced members, by falling leading word
-pub record IsReducedBasis (p : ℕ) (weights : List ℕ) (relations : List (List Term)) (d : ℕ)
-    (basis : List (List Term)) : Type 0 where
-  pub exactly : (f : List Term) → Contains basis f ↔ IsReduced p weights relations d f
+pub record IsReducedBasis (ideal : Ideal) (d : ℕ) (basis : List (List Term)) : Type 0 where
+  pub exactly : (f : List Term) → Contains basis f ↔ IsReduced ideal d f
   pub falling : AllPairs HasGreaterLead basis

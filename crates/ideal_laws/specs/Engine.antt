@@ -3,6 +3,7 @@ use Rattle.std.specs.Prelude.{ℕ, ◌<◌, ◌≤◌, List, [], ◌∷◌, cond
 use Rattle.words.specs.Words.{degree_of}
 use Rattle.free_poly.specs.declared.term.Term.{Term}
 use Rattle.ideal_laws.specs.Basis.{IsReducedBasis}
+use Rattle.ideal_laws.specs.Ideal.{ideal_over}
 
 -- a basis as callers see it: the weights of its letters, how many degrees are done, and the elements by degree
 pub record Elements : Type 0 where
@@ -20,4 +21,4 @@ of_degree weights d ((t ∷ ts) ∷ fs) = cond (degree_of weights t.word == d) (
 -- the elements are the reduced basis of each degree that is done
 abbrev pub IsReducedUpto : ℕ → List (List Term) → Elements → Type 0
 IsReducedUpto p relations basis = (d : ℕ) → 0 < d → d ≤ basis.done →
-    IsReducedBasis p basis.weights relations d (of_degree basis.weights d basis.elements)
+    IsReducedBasis (ideal_over p basis.weights relations) d (of_degree basis.weights d basis.elements)

@@ -7,6 +7,7 @@ use Rattle.free_poly.specs.Terms.{HasDegree, UsesLetters}
 use Rattle.free_poly.specs.Poly.{IsMonic}
 use Rattle.ideal_laws.specs.Basis.{HasGreaterLead}
 use Rattle.ideal_laws.specs.Engine.{Elements, IsReducedUpto}
+use Rattle.ideal_laws.specs.Ideal.{Ideal}
 
 -- the degree of the leading word, and 0 for 0
 abbrev pub lead_degree : List ℕ → List Term → ℕ
@@ -52,8 +53,8 @@ pub record IsStored (basis : Elements) (ends : List ℕ) : Type 0 where
   pub counted : (d : ℕ) → d ≤ basis.done → slice_index ends d ≡ count_upto basis.weights d basis.elements
 
 -- the reduced basis of the degrees below d, as a basis keeps it
-pub record IsBelow (p : ℕ) (weights : List ℕ) (relations : List (List Term)) (d : ℕ) (below : Elements) : Type 0 where
+pub record IsBelow (ideal : Ideal) (d : ℕ) (below : Elements) : Type 0 where
   pub kept : IsKept below
   pub next : below.done + 1 ≡ d
-  pub same_weights : below.weights ≡ weights
-  pub reduced : IsReducedUpto p relations below
+  pub same_weights : below.weights ≡ ideal.weights
+  pub reduced : IsReducedUpto ideal.modulus ideal.relations below

@@ -6,7 +6,7 @@ use Rattle.field_table.specs.Residues.{IsFieldModulus}
 use Rattle.free_poly.specs.declared.term.Term.{Term}
 use Rattle.free_poly.specs.Terms.{HasDegree, HasOneDegree, HasResidues, IsSame, UsesLetters, product, scaled}
 use Rattle.free_poly.specs.Poly.{IsPolynomial}
-use Rattle.ideal_laws.specs.Ideal.{IsElement, IsInIdeal, IsLeadingWord, IsMinimal}
+use Rattle.ideal_laws.specs.Ideal.{Ideal, IsElement, IsInIdeal, IsLeadingWord, IsMinimal}
 use Rattle.ideal_laws.specs.Basis.{IsReducedBasis}
 use Rattle.ideal_laws.specs.Dimension.{IsDimension, IsHilbertCoefficient}
 
@@ -21,10 +21,10 @@ pub record IsRelation (p : ℕ) (weights : List ℕ) (r : List Term) : Type 0 wh
   pub degree : All (λ t. t.word ≢ []) r
 
 -- what the laws are about: a field of residues, weights, and relations
-pub record IsSetting (p : ℕ) (weights : List ℕ) (relations : List (List Term)) : Type 0 where
-  pub modulus : IsFieldModulus p
-  pub are_weights : AreWeights weights
-  pub are_relations : All (IsRelation p weights) relations
+pub record IsSetting (ideal : Ideal) : Type 0 where
+  pub modulus : IsFieldModulus ideal.modulus
+  pub are_weights : AreWeights ideal.weights
+  pub are_relations : All (IsRelation ideal.modulus ideal.weights) ideal.relations
 
 -- exactly one value has P
 pub record IsOne {X : Type 0} (P : X → Type 0) : Type 0 where
@@ -34,47 +34,42 @@ pub record IsOne {X : Type 0} (P : X → Type 0) : Type 0 where
 
 -- each degree has exactly one reduced basis
 abbrev pub HasOneBasis : Type 0
-HasOneBasis = (p : ℕ) (weights : List ℕ) (relations : List (List Term)) → IsSetting p weights relations → (d : ℕ) →
-    IsOne (IsReducedBasis p weights relations d)
+HasOneBasis = (ideal : Ideal) → IsSetting ideal → (d : ℕ) → IsOne (IsReducedBasis ideal d)
 
 -- the words of a list are exactly the leading words of a degree, each once
-pub record AreLeadingWords (p : ℕ) (weights : List ℕ) (relations : List (List Term)) (d : ℕ)
-    (words : List (List ℕ)) : Type 0 where
-  pub exactly : (w : List ℕ) → Contains words w ↔ IsLeadingWord p weights relations d w
+pub record AreLeadingWords (ideal : Ideal) (d : ℕ) (words : List (List ℕ)) : Type 0 where
+  pub exactly : (w : List ℕ) → Contains words w ↔ IsLeadingWord ideal d w
   pub apart : AllPairs (λ v w. v ≢ w) words
 
 -- exactly one number is the dimension, and it is the number of leading words; so the coefficient is the number of the
 -- other words
-pub record HasDimension (p : ℕ) (weights : List ℕ) (relations : List (List Term)) (d : ℕ) : Type 0 where
+pub record HasDimension (ideal : Ideal) (d : ℕ) : Type 0 where
   pub leading : List (List ℕ)
   pub others : List (List ℕ)
-  pub are_leading : AreLeadingWords p weights relations d leading
-  pub split : (w : List ℕ) → Contains (words_of_degree weights d) w ↔ (Contains leading w ⊎ Contains others w)
-  pub are_others : (w : List ℕ) → Contains others w → IsLeadingWord p weights relations d w → ⊥
+  pub are_leading : AreLeadingWords ideal d leading
+  pub split : (w : List ℕ) → Contains (words_of_degree ideal.weights d) w ↔ (Contains leading w ⊎ Contains others w)
+  pub are_others : (w : List ℕ) → Contains others w → IsLeadingWord ideal d w → ⊥
   pub apart : AllPairs (λ v w. v ≢ w) others
-  pub dimension : (k : ℕ) → IsDimension p weights relations d k ↔ (k ≡ length leading)
-  pub coefficient : (h : ℕ) → IsHilbertCoefficient p weights relations d h ↔ (h ≡ length others)
+  pub dimension : (k : ℕ) → IsDimension ideal d k ↔ (k ≡ length leading)
+  pub coefficient : (h : ℕ) → IsHilbertCoefficient ideal d h ↔ (h ≡ length others)
 
 abbrev pub HasOneDimension : Type 0
-HasOneDimension = (p : ℕ) (weights : List ℕ) (relations : List (List Term)) → IsSetting p weights relations →
-    (d : ℕ) → HasDimension p weights relations d
+HasOneDimension = (ideal : Ideal) → IsSetting ideal → (d : ℕ) → HasDimension ideal d
 
 -- a word is a leading word exactly where some factor of it is minimal
 abbrev pub IsFactorLaw : Type 0
-IsFactorLaw = (p : ℕ) (weights : List ℕ) (relations : List (List Term)) → IsSetting p weights relations →
-    (w : List ℕ) → IsOver (length weights) w
-    → IsLeadingWord p weights relations (degree_of weights w) w
-    ↔ ((v : List ℕ) × IsFactor v w × IsMinimal p weights relations v)
+IsFactorLaw = (ideal : Ideal) → IsSetting ideal → (w : List ℕ) → IsOver (length ideal.weights) w
+    → IsLeadingWord ideal (degree_of ideal.weights w) w ↔ ((v : List ℕ) × IsFactor v w × IsMinimal ideal v)
 
 -- a neighbour of degree d: a letter before or behind a member of the degree that is left, or a relation of degree d
-pub data IsNeighbour (p : ℕ) (weights : List ℕ) (relations : List (List Term)) (d : ℕ) : List Term → Type 0 where
-  before : (x : ℕ) (f : List Term) → x < length weights → weight_of weights x ≤ d →
-      IsInIdeal p weights relations (d - weight_of weights x) f
-      → IsNeighbour p weights relations d (product (x ∷ []) f [])
-  behind : (x : ℕ) (f : List Term) → x < length weights → weight_of weights x ≤ d →
-      IsInIdeal p weights relations (d - weight_of weights x) f
-      → IsNeighbour p weights relations d (product [] f (x ∷ []))
-  relation : (r : List Term) → Contains relations r → HasDegree weights d r → IsNeighbour p weights relations d r
+pub data IsNeighbour (ideal : Ideal) (d : ℕ) : List Term → Type 0 where
+  before : (x : ℕ) (f : List Term) → x < length ideal.weights → weight_of ideal.weights x ≤ d →
+      IsInIdeal ideal (d - weight_of ideal.weights x) f
+      → IsNeighbour ideal d (product (x ∷ []) f [])
+  behind : (x : ℕ) (f : List Term) → x < length ideal.weights → weight_of ideal.weights x ≤ d →
+      IsInIdeal ideal (d - weight_of ideal.weights x) f
+      → IsNeighbour ideal d (product [] f (x ∷ []))
+  relation : (r : List Term) → Contains ideal.relations r → HasDegree ideal.weights d r → IsNeighbour ideal d r
 
 -- a residue times an element
 pub record Part : Type 0 where
@@ -92,7 +87,6 @@ pub record IsSpanned (p : ℕ) (P : List Term → Type 0) (f : List Term) : Type
 
 -- a degree of 1 or more is spanned by its neighbours
 abbrev pub IsNeighbourSpan : Type 0
-IsNeighbourSpan = (p : ℕ) (weights : List ℕ) (relations : List (List Term)) → IsSetting p weights relations →
-    (d : ℕ) → 0 < d →
-    (f : List Term) → IsElement p weights d f
-    → IsInIdeal p weights relations d f ↔ IsSpanned p (IsNeighbour p weights relations d) f
+IsNeighbourSpan = (ideal : Ideal) → IsSetting ideal → (d : ℕ) → 0 < d →
+    (f : List Term) → IsElement ideal.modulus ideal.weights d f
+    → IsInIdeal ideal d f ↔ IsSpanned ideal.modulus (IsNeighbour ideal d) f

@@ -7,6 +7,7 @@ use Rattle.words.specs.Words.{words_of_degree}
 use Rattle.free_poly.specs.declared.term.Term.{Term}
 use Rattle.free_poly.specs.Terms.{HasResidues, IsSame}
 use Rattle.free_poly.specs.Poly.{IsPolynomial}
+use Rattle.ideal_laws.specs.Ideal.{Ideal}
 use Rattle.ideal_laws.specs.declared.limits.LimitKind.{LimitKind}
 use Rattle.ideal_laws.specs.declared.limits.LimitKind.TheVariants.{PlainWords, Rows, Columns, Entries, Cells, Terms}
 use Rattle.ideal_laws.specs.declared.limits.LimitKind.TheVariants.{NormalWords}
@@ -34,19 +35,17 @@ pub record IsRowOf (p : ℕ) (weights : List ℕ) (G : List (List Term)) (d : �
   pub same : IsSame p row (obstruction_row p obstruction.first o.behind o.before obstruction.second)
 
 -- the relations of degree d, and then the rows of its obstructions
-pub record AreRows (p : ℕ) (weights : List ℕ) (relations G : List (List Term)) (d : ℕ)
-    (rows : List (List Term)) : Type 0 where
+pub record AreRows (ideal : Ideal) (G : List (List Term)) (d : ℕ) (rows : List (List Term)) : Type 0 where
   pub overlaps : List Overlap
   pub overlap_rows : List (List Term)
-  pub are_obstructions : AreObstructions weights G d overlaps
-  pub each : AllZip (IsRowOf p weights G d) overlaps overlap_rows
-  pub joined : rows ≡ of_degree weights d relations ++ overlap_rows
+  pub are_obstructions : AreObstructions ideal.weights G d overlaps
+  pub each : AllZip (IsRowOf ideal.modulus ideal.weights G d) overlaps overlap_rows
+  pub joined : rows ≡ of_degree ideal.weights d ideal.relations ++ overlap_rows
 
 -- the columns of the rows, each with its reducer or none
-pub record AreClosed (p : ℕ) (weights : List ℕ) (relations G : List (List Term)) (d : ℕ) (rows : List (List Term))
-    (columns : List (List ℕ))
+pub record AreClosed (ideal : Ideal) (G : List (List Term)) (d : ℕ) (rows : List (List Term)) (columns : List (List ℕ))
     (reducers : List (Option (List Term))) : Type 0 where
-  pub are_rows : AreRows p weights relations G d rows
+  pub are_rows : AreRows ideal G d rows
   pub are_columns : AreColumns G (words_of rows) columns
   pub are_reducers : AllZip (HasReducer G) columns reducers
 
@@ -75,35 +74,30 @@ pub record AreNormalWords (weights : List ℕ) (G : List (List Term)) (d : ℕ) 
   pub falling : AllPairs IsLetterwiseGreater words
 
 -- what each quantity of degree d is, over the reduced basis of the degrees below
-abbrev pub IsQuantity : ℕ → List ℕ → List (List Term) → Elements → ℕ → LimitKind → ℕ → Type 0
-IsQuantity p weights relations below d PlainWords q = q ≡ length (words_of_degree weights d)
-IsQuantity p weights relations below d Rows q = (overlaps : List Overlap)
-    × AreObstructions weights below.elements d overlaps
-    × (q ≡ length (of_degree weights d relations) + length overlaps)
-IsQuantity p weights relations below d Columns q =
-    (rows : List (List Term)) × (columns : List (List ℕ)) × AreRows p weights relations below.elements d rows
+abbrev pub IsQuantity : Ideal → Elements → ℕ → LimitKind → ℕ → Type 0
+IsQuantity ideal below d PlainWords q = q ≡ length (words_of_degree ideal.weights d)
+IsQuantity ideal below d Rows q = (overlaps : List Overlap) × AreObstructions ideal.weights below.elements d overlaps
+    × (q ≡ length (of_degree ideal.weights d ideal.relations) + length overlaps)
+IsQuantity ideal below d Columns q =
+    (rows : List (List Term)) × (columns : List (List ℕ)) × AreRows ideal below.elements d rows
     × AreColumns below.elements (words_of rows) columns × (q ≡ length columns)
-IsQuantity p weights relations below d Entries q =
+IsQuantity ideal below d Entries q =
     (rows : List (List Term)) × (columns : List (List ℕ)) × (reducers : List (Option (List Term)))
-    × AreClosed p weights relations below.elements d rows columns reducers
-    × (q ≡ terms_in rows + terms_in (reducers_in reducers))
-IsQuantity p weights relations below d Cells q =
+    × AreClosed ideal below.elements d rows columns reducers × (q ≡ terms_in rows + terms_in (reducers_in reducers))
+IsQuantity ideal below d Cells q =
     (rows : List (List Term)) × (columns : List (List ℕ)) × (reducers : List (Option (List Term)))
-    × AreClosed p weights relations below.elements d rows columns reducers
-    × (q ≡ length rows * contested_in reducers)
-IsQuantity p weights relations below d Terms q = (basis : List (List Term)) × IsReducedBasis p weights relations d basis
+    × AreClosed ideal below.elements d rows columns reducers × (q ≡ length rows * contested_in reducers)
+IsQuantity ideal below d Terms q = (basis : List (List Term)) × IsReducedBasis ideal d basis
     × (q ≡ terms_in below.elements + terms_in basis)
-IsQuantity p weights relations below d NormalWords q =
-    (basis : List (List Term)) × (words : List (List ℕ)) × IsReducedBasis p weights relations d basis
-    × AreNormalWords weights (below.elements ++ basis) d words × (q ≡ length words)
+IsQuantity ideal below d NormalWords q =
+    (basis : List (List Term)) × (words : List (List ℕ)) × IsReducedBasis ideal d basis
+    × AreNormalWords ideal.weights (below.elements ++ basis) d words × (q ≡ length words)
 
 -- over a reduced basis each quantity is at most one number
 abbrev pub HasOneQuantity : Type 0
-HasOneQuantity = (p : ℕ) (weights : List ℕ) (relations : List (List Term)) → IsSetting p weights relations →
-    (d : ℕ) (below : Elements) →
-    IsBelow p weights relations d below
-    → (kind : LimitKind) (q r : ℕ) → IsQuantity p weights relations below d kind q →
-    IsQuantity p weights relations below d kind r → q ≡ r
+HasOneQuantity = (ideal : Ideal) → IsSetting ideal → (d : ℕ) (below : Elements) → IsBelow ideal d below
+    → (kind : LimitKind) (q r : ℕ) → IsQuantity ideal below d kind q →
+    IsQuantity ideal below d kind r → q ≡ r
 
 -- what each quantity is
 abbrev pub Quantities : Type 1
@@ -132,18 +126,16 @@ NonePasses Q [] = Unit {0}
 NonePasses Q (l ∷ ls) = ((q : ℕ) × Q l.0 q × (q ≤ l.1)) × NonePasses Q ls
 
 -- in each degree from 1 to d none passes
-abbrev pub NonePassesUpto : ℕ → List ℕ → List (List Term) → List (LimitKind × ℕ) → ℕ → Type 0
-NonePassesUpto p weights relations limits d =
-    (e : ℕ) → 0 < e → e ≤ d → (below : Elements) × IsBelow p weights relations e below
-    × NonePasses (IsQuantity p weights relations below e) limits
+abbrev pub NonePassesUpto : Ideal → List (LimitKind × ℕ) → ℕ → Type 0
+NonePassesUpto ideal limits d = (e : ℕ) → 0 < e → e ≤ d → (below : Elements) × IsBelow ideal e below
+    × NonePasses (IsQuantity ideal below e) limits
 
 -- the first degree up to a bound in which a quantity passes, and the first one there
-pub record IsFirstRefused (p : ℕ) (weights : List ℕ) (relations : List (List Term)) (limits : List (LimitKind × ℕ))
-    (bound : ℕ)
+pub record IsFirstRefused (ideal : Ideal) (limits : List (LimitKind × ℕ)) (bound : ℕ)
     (kind : LimitKind) (d value : ℕ) : Type 0 where
   pub from : 0 < d
   pub upto : d ≤ bound
-  pub before : NonePassesUpto p weights relations limits (d - 1)
+  pub before : NonePassesUpto ideal limits (d - 1)
   pub below : Elements
-  pub is_below : IsBelow p weights relations d below
-  pub passes : IsFirstPassing (IsQuantity p weights relations below d) limits kind value
+  pub is_below : IsBelow ideal d below
+  pub passes : IsFirstPassing (IsQuantity ideal below d) limits kind value

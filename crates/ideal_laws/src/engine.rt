@@ -2,6 +2,7 @@ ghost use Rattle.std.specs.Prelude.{◌≡◌, ◌+◌, ◌++◌, ◌≤◌, ◌
 ghost use Rattle.std.specs.Thread.{IsSync};
 ghost use Rattle.free_poly.specs.declared.term.Term.{Term};
 ghost use Rattle.free_poly.specs.Terms.{HasResidues};
+ghost use Rattle.ideal_laws.specs.Ideal.{ideal_of};
 ghost use Rattle.ideal_laws.specs.declared.account.Account.{Account};
 ghost use Rattle.ideal_laws.specs.declared.limits.LimitKind.{LimitKind};
 ghost use Rattle.ideal_laws.specs.declared.presentation.Presentation.{Presentation};
@@ -82,17 +83,17 @@ pub trait DegreeEngine {
         requires reduced { IsReducedUpto field.now presentation.now.relations below.now }
         requires residues { All (HasResidues field.now) presentation.now.relations }
 
-        ensures elements { IfOk result (λ report. IsReducedBasis field.now presentation.now.alphabet.weights
-            presentation.now.relations d report.elements) }
+        ensures elements { IfOk result (λ report. IsReducedBasis (ideal_of field.now presentation.now) d
+            report.elements) }
         ensures few { IfOk result (λ report. length report.elements ≤ 16777216) }
         ensures account { IfOk result (λ report. may_account self.old field.now presentation.now below.now d
             report.account) }
-        ensures within { OnOk result (NonePasses (IsQuantity field.now presentation.now.alphabet.weights
-            presentation.now.relations below.now d) (kinds self.old)) }
+        ensures within { OnOk result (NonePasses (IsQuantity (ideal_of field.now presentation.now) below.now d)
+            (kinds self.old)) }
 
         ensures limit { (kind : LimitKind) (degree value : ℕ) → result ≡ Err (EngineFault.Limit kind degree value)
-            → (degree ≡ d) × IsFirstPassing (IsQuantity field.now presentation.now.alphabet.weights
-            presentation.now.relations below.now d) (kinds self.old) kind value }
+            → (degree ≡ d) × IsFirstPassing (IsQuantity (ideal_of field.now presentation.now) below.now d)
+            (kinds self.old) kind value }
 
         ensures kinds { kinds self.new ≡ kinds self.old }
         ensures accounts { (p : ℕ) (rs : Presentation) (b : Elements) (e : ℕ) (a : Account) →

@@ -1,5 +1,6 @@
 ghost use Rattle.std.specs.Prelude.{All};
 ghost use Rattle.free_poly.specs.Terms.{HasResidues};
+ghost use Rattle.ideal_laws.specs.Ideal.{ideal_of};
 ghost use Rattle.ideal_laws.specs.Laws.{HasOneBasis, HasOneDimension, IsFactorLaw, IsNeighbourSpan, IsSetting};
 ghost use Rattle.ideal_laws.specs.Overlaps.{ListsFactorFree, ListsLower, OverlapsSuffice};
 ghost use Rattle.ideal_laws.specs.Quantities.{HasOneQuantity};
@@ -38,7 +39,7 @@ pub fn quantities_law()
 /// A presentation with residues of a field is what the laws are about.
 pub fn setting_law(field: &Field, presentation: &Presentation)
     requires { All (HasResidues field.now) presentation.now.relations }
-    ensures { IsSetting field.now presentation.now.alphabet.weights presentation.now.relations }
+    ensures { IsSetting (ideal_of field.now presentation.now) }
 {
     let _modulus = field.modulus();
     let _weights = weights_of(&presentation.alphabet);

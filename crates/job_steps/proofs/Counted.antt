@@ -6,6 +6,7 @@ use Rattle.words.specs.Names.{Letters}
 use Rattle.free_poly.specs.declared.term.Term.{Term}
 use Rattle.ideal_laws.specs.Dimension.{IsHilbertCoefficient}
 use Rattle.ideal_laws.specs.Engine.{Elements, IsReducedUpto}
+use Rattle.ideal_laws.specs.Ideal.{ideal_over}
 use Rattle.ideal_laws.specs.Kept.{IsKept}
 use Rattle.ideal_laws.specs.Laws.{IsSetting}
 use Rattle.poly_writer.specs.Outputs.{IsSeriesText}
@@ -18,15 +19,15 @@ use Rattle.job_steps.specs.Printing.{IsCutSeries, IsSeriesDue, IsSeriesUndone, I
 use Rattle.job_steps.specs.Progress.{AreSmallBelow}
 
 module _ (law : CountsCoefficients) (p : ℕ) (letters : Letters) (relations : List (List Term)) (basis : Elements)
-    (st : IsSetting p letters.weights relations) (same : basis.weights ≡ letters.weights) (kept : IsKept basis)
+    (st : IsSetting (ideal_over p letters.weights relations)) (same : basis.weights ≡ letters.weights) (kept : IsKept basis)
     (reduced : IsReducedUpto p relations basis) (limit : ℕ) where
-  pub coefficient : (d n : ℕ) → d ≤ basis.done → IsCount basis.weights basis.elements d n → IsHilbertCoefficient p letters.weights relations d n
+  pub coefficient : (d n : ℕ) → d ≤ basis.done → IsCount basis.weights basis.elements d n → IsHilbertCoefficient (ideal_over p letters.weights relations) d n
   coefficient d n le c =
-      subst (λ (ws : List ℕ). IsHilbertCoefficient p ws relations d n) same
-      (law p relations basis (subst (λ (ws : List ℕ). IsSetting p ws relations) (sym same) st) kept reduced d n le c)
+      subst (λ (ws : List ℕ). IsHilbertCoefficient (ideal_over p ws relations) d n) same
+      (law p relations basis (subst (λ (ws : List ℕ). IsSetting (ideal_over p ws relations)) (sym same) st) kept reduced d n le c)
 
   small_from_counts : (d : ℕ) (numbers : List ℕ) → d ≤ basis.done + 1 → AreCounts basis.weights basis.elements limit d numbers →
-      AreSmallBelow p letters.weights relations limit d
+      AreSmallBelow (ideal_over p letters.weights relations) limit d
   small_from_counts d numbers le c e below =
       (get_or numbers e 0, coefficient e (get_or numbers e 0) (omega (arith, le, below)) (c.each e below), c.few e 0 (omega (arith, c.size, below)))
 
@@ -50,12 +51,12 @@ module _ (law : CountsCoefficients) (p : ℕ) (letters : Letters) (relations : L
       }
 
   -- degree 0 has one word
-  some_degree : 0 < limit → (d n : ℕ) → limit < n → IsHilbertCoefficient p letters.weights relations d n → 0 < d
+  some_degree : 0 < limit → (d n : ℕ) → limit < n → IsHilbertCoefficient (ideal_over p letters.weights relations) d n → 0 < d
   some_degree some d n large h = elim (cases_lt 0 d) [
     | inl above ↦ above
     | inr none ↦
         let zero_is : d ≡ 0 = omega (arith, none) in
-        let at = subst (λ (e : ℕ). IsHilbertCoefficient p letters.weights relations e n) zero_is h in
+        let at = subst (λ (e : ℕ). IsHilbertCoefficient (ideal_over p letters.weights relations) e n) zero_is h in
         absurd (omega (arith, at.rest, some, large))
   ]
 

@@ -10,6 +10,7 @@ use Rattle.words.specs.Names.{Letters}
 use Rattle.words.proofs.Members.{All-from_members}
 use Rattle.free_poly.specs.declared.term.Term.{Term}
 use Rattle.free_poly.specs.Terms.{HasResidues}
+use Rattle.ideal_laws.specs.Ideal.{ideal_over}
 use Rattle.ideal_laws.specs.declared.limits.LimitKind.{LimitKind}
 use Rattle.ideal_laws.specs.Basis.{IsReducedBasis}
 use Rattle.ideal_laws.specs.Engine.{Elements, IsReducedUpto, of_degree}
@@ -113,15 +114,16 @@ degree_lines names p weights d done xs a b is same other low within =
 -- a basis that has grown by a degree
 module _ (p : ℕ) (letters : Letters) (relations : List (List Term)) (limits : List (LimitKind × ℕ)) (old new : Elements)
     (same : old.weights ≡ letters.weights) (kept_weights : new.weights ≡ old.weights) (done : new.done ≡ old.done + 1)
-    (reduced : IsReducedUpto p relations new) (passes_none : NonePasses (IsQuantity p old.weights relations old (old.done + 1)) limits) where
+    (reduced : IsReducedUpto p relations new) (passes_none : NonePasses (IsQuantity (ideal_over p old.weights relations) old (old.done + 1)) limits) where
   abbrev added : List (List Term)
   added = of_degree new.weights new.done new.elements
 
-  pub is_next : IsNext p letters.weights relations limits old added
+  pub is_next : IsNext (ideal_over p letters.weights relations) limits old added
   is_next = record {
-    reduced = subst (λ (n : ℕ). IsReducedBasis p letters.weights relations n added) done
-        (subst (λ (ws : List ℕ). IsReducedBasis p ws relations new.done added) (kept_weights ∙ same) (reduced new.done (omega (arith, done)) (omega arith)));
-    passes_none = subst (λ (ws : List ℕ). NonePasses (IsQuantity p ws relations old (old.done + 1)) limits) same passes_none;
+    reduced = subst (λ (n : ℕ). IsReducedBasis (ideal_over p letters.weights relations) n added) done
+        (subst (λ (ws : List ℕ). IsReducedBasis (ideal_over p ws relations) new.done added) (kept_weights ∙ same)
+        (reduced new.done (omega (arith, done)) (omega arith)));
+    passes_none = subst (λ (ws : List ℕ). NonePasses (IsQuantity (ideal_over p ws relations) old (old.done + 1)) limits) same passes_none;
   }
 
   lines_are : (shows : Bool) → shows ≡ true → degree_text letters.names p new.done added ≡ lines_of shows letters.names p (old.done + 1) added
@@ -143,9 +145,9 @@ module _ (p : ℕ) (letters : Letters) (relations : List (List Term)) (limits : 
   undone_shown shows h k r f g Here Next WriteFault is next u = (u.0, (added, is_next, subst (GainsPart h k r) (lines_are shows is) u.1), next)
   undone_shown shows h k r f g Here Next NoMemory is next u = inr ((added, is_next, subst (GainsSome h k) (lines_are shows is) u), next)
 
-  pub residues_of : IsSetting p letters.weights relations → IsKept new → All (HasResidues p) new.elements
+  pub residues_of : IsSetting (ideal_over p letters.weights relations) → IsKept new → All (HasResidues p) new.elements
   residues_of st kept =
-      let below : IsBelow p letters.weights relations (new.done + 1) new =
+      let below : IsBelow (ideal_over p letters.weights relations) (new.done + 1) new =
       record { kept = kept; next = refl; same_weights = kept_weights ∙ same; reduced = reduced } in
-      All-from_members (HasResidues p) new.elements (λ g m. ((lists_lower p letters.weights relations st (new.done + 1) new below g).0
+      All-from_members (HasResidues p) new.elements (λ g m. ((lists_lower (ideal_over p letters.weights relations) st (new.done + 1) new below g).0
       m).2.inside.element.residues)

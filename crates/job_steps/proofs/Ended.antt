@@ -9,7 +9,7 @@ use Rattle.job_steps.specs.declared.print.PrintFault.{PrintFault}
 use Rattle.job_steps.specs.declared.print.PrintFault.TheVariants.{Limit, WriteFault, NoMemory}
 use Rattle.job_steps.specs.Gains.{GainsAll, GainsSome, HasPrinted, IsUndone}
 use Rattle.job_steps.specs.Printing.{IsCutSeries, IsSeriesDue, IsSeriesUndone, IsWholeSeries}
-use Rattle.job_steps.specs.Progress.{HasLinesBelow, IsBasisSoFar, IsBeginning, IsDue, IsPart, IsReach, IsText, Task, whole, crowded}
+use Rattle.job_steps.specs.Progress.{HasLinesBelow, IsBasisSoFar, IsBeginning, IsDue, IsPart, IsReach, IsText, Task, crowded, ideal_of_task, whole}
 use Rattle.job_steps.proofs.Gaining.{appended_none, beginning_self, part_behind, part_front, rose_from, some_behind, some_front}
 use Rattle.job_steps.proofs.Reaches.{part_upto, some_upto}
 
@@ -83,7 +83,7 @@ module _ (t : Task) (text : List ℕ) (so_far : IsBasisSoFar t t.bound text) whe
       appended = Appends-trans a b c text series w.appended v.appended;
     }
 
-    pub undone_series : IsSetting t.modulus t.letters.weights t.relations →
+    pub undone_series : IsSetting (ideal_of_task t) →
         (a b c : Option (List ℕ)) (r q : Option ℕ) (f g h : ℕ) (Holds : ℕ → Type 0) (fault : PrintFault) → Holds t.bound →
         GainsAll a b r q f g text
         → IsSeriesUndone t.modulus t.letters t.relations t.normal_words t.bound b c q g h fault → IsUndone t a c r f h Holds fault

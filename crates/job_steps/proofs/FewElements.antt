@@ -11,6 +11,7 @@ use Rattle.free_poly.specs.declared.term.Term.{Term}
 use Rattle.free_poly.specs.Poly.{IsMonic, lead_of, lead_or_none}
 use Rattle.free_poly.proofs.NormalForms.{letterwise-trans}
 use Rattle.free_poly.proofs.Totals.{letterwise-apart}
+use Rattle.ideal_laws.specs.Ideal.{Ideal}
 use Rattle.ideal_laws.specs.declared.limits.LimitKind.{LimitKind}
 use Rattle.ideal_laws.specs.declared.limits.LimitKind.TheVariants.{PlainWords, Rows, Columns, Entries, Cells, Terms, NormalWords}
 use Rattle.ideal_laws.specs.Basis.{HasGreaterLead, IsReduced, IsReducedBasis}
@@ -72,31 +73,30 @@ some_terms ([] ∷ fs) monic = absurd (monic [] (Contains-first [] fs))
 some_terms ((t ∷ f) ∷ fs) monic =
     omega (arith, some_terms fs (λ g m. monic g (Contains-more (t ∷ f) fs g m)), length-append (t ∷ f) (flat_map (λ (g : List Term). g) fs))
 
-module _ (p : ℕ) (weights : List ℕ) (relations : List (List Term)) (st : IsSetting p weights relations) (d : ℕ) (below : Elements)
-    (basis : List (List Term)) (is_basis : IsReducedBasis p weights relations d basis) where
-  lead_listed : (f : List Term) → Contains basis f → Contains (words_of_degree weights d) (lead_or_none f)
+module _ (ideal : Ideal) (st : IsSetting ideal) (d : ℕ) (below : Elements) (basis : List (List Term)) (is_basis : IsReducedBasis ideal d basis) where
+  lead_listed : (f : List Term) → Contains basis f → Contains (words_of_degree ideal.weights d) (lead_or_none f)
   lead_listed f m = at f ((is_basis.exactly f).0 m)
     where
-      at : (f : List Term) → IsReduced p weights relations d f → Contains (words_of_degree weights d) (lead_or_none f)
+      at : (f : List Term) → IsReduced ideal d f → Contains (words_of_degree ideal.weights d) (lead_or_none f)
       at [] h = absurd h.monic
-      at (t ∷ f) h = (lists_words weights st.are_weights d t.word).1 (
-        All-head (λ (s : Term). IsOver (length weights) s.word) t f h.inside.element.letters,
-        All-head (λ (s : Term). degree_of weights s.word ≡ d) t f h.inside.element.degree,
+      at (t ∷ f) h = (lists_words ideal.weights st.are_weights d t.word).1 (
+        All-head (λ (s : Term). IsOver (length ideal.weights) s.word) t f h.inside.element.letters,
+        All-head (λ (s : Term). degree_of ideal.weights s.word ≡ d) t f h.inside.element.degree,
       )
 
-  few_leads : length basis ≤ length (words_of_degree weights d)
+  few_leads : length basis ≤ length (words_of_degree ideal.weights d)
   few_leads = omega (
     arith,
     length-map basis lead_or_none,
-    no_longer (map lead_or_none basis) (words_of_degree weights d)
+    no_longer (map lead_or_none basis) (words_of_degree ideal.weights d)
         (AllPairs-map lead_or_none HasGreaterLead IsLetterwiseGreater
         (λ f g h. subst (λ (w : List ℕ). IsLetterwiseGreater w (lead_or_none g)) (sym (lead_or_none-is f h.of_f h.leads_f))
         (subst (IsLetterwiseGreater h.of_f) (sym (lead_or_none-is g h.of_g h.leads_g)) h.greater)) basis is_basis.falling)
-        (words_of_degree-falling weights st.are_weights d)
-        (λ w m. let c = Contains-map_cases lead_or_none basis w m in subst (Contains (words_of_degree weights d)) c.2 (lead_listed c.0 c.1)),
+        (words_of_degree-falling ideal.weights st.are_weights d)
+        (λ w m. let c = Contains-map_cases lead_or_none basis w m in subst (Contains (words_of_degree ideal.weights d)) c.2 (lead_listed c.0 c.1)),
   )
 
-  few_by : (kind : LimitKind) (number : ℕ) → BoundsElements kind number → (q : ℕ) → IsQuantity p weights relations below d kind q → q ≤ number →
+  few_by : (kind : LimitKind) (number : ℕ) → BoundsElements kind number → (q : ℕ) → IsQuantity ideal below d kind q → q ≤ number →
       length basis ≤ 16777216
   few_by PlainWords number bounds q h le = omega (arith, few_leads, h, le, bounds)
   few_by Rows number bounds q h le = absurd bounds
@@ -104,12 +104,12 @@ module _ (p : ℕ) (weights : List ℕ) (relations : List (List Term)) (st : IsS
   few_by Entries number bounds q h le = absurd bounds
   few_by Cells number bounds q h le = absurd bounds
   few_by Terms number bounds q h le =
-      let same = bases_are_one p weights relations d basis h.0 is_basis h.1 in
+      let same = bases_are_one ideal d basis h.0 is_basis h.1 in
       omega (arith, some_terms basis (λ f m. ((is_basis.exactly f).0 m).monic), ap terms_in same, h.2, le, bounds)
   few_by NormalWords number bounds q h le = absurd bounds
 
   pub few_elements : (limits : List (LimitKind × ℕ)) (l : LimitKind × ℕ) → Contains limits l → BoundsElements l.0 l.1 →
-      NonePasses (IsQuantity p weights relations below d) limits → length basis ≤ 16777216
+      NonePasses (IsQuantity ideal below d) limits → length basis ≤ 16777216
   few_elements limits l among bounds none =
-      let q = within_limit (IsQuantity p weights relations below d) limits l among none in
+      let q = within_limit (IsQuantity ideal below d) limits l among none in
       few_by l.0 l.1 bounds q.0 q.1 q.2

@@ -5,7 +5,7 @@ use Rattle.ideal_laws.specs.declared.limits.LimitKind.TheVariants.{NormalWords}
 use Rattle.job_steps.specs.declared.status.Status.{Status}
 use Rattle.job_steps.specs.declared.status.Status.TheVariants.{Done, Usage, Input, Limit, Chains, Products, ReadFault, WriteFault, NoMemory}
 use Rattle.job_steps.specs.Gains.{HasPrintedPart, HasPrintedSome}
-use Rattle.job_steps.specs.Progress.{IsReach, IsTaskText, IsText, Reach, Task, whole, refused, crowded}
+use Rattle.job_steps.specs.Progress.{IsReach, IsTaskText, IsText, Reach, Task, crowded, ideal_of_task, refused, whole}
 use Rattle.job_steps.specs.Reaches.{HasOneOutcome, HasOneReach, HasOneText, IsPosed}
 use Rattle.job_steps.specs.Statuses.{HasGainedPart, HasGainedSome, IsTaskOutcome}
 use Rattle.job_steps.proofs.Gaining.{beginning_trans, cut_of_beginning, no_room_for}
@@ -17,8 +17,9 @@ use Rattle.job_steps.proofs.Values.{some_quantity}
 
 pub has_one_reach : HasOneReach
 has_one_reach t h =
-    let some = some_reach t h.setting h.some h.letters h.degrees (some_quantity t.modulus t.letters.weights t.relations h.setting)
-    (λ d below basis is none. few_elements t.modulus t.letters.weights t.relations h.setting d below basis is t.limits h.limit h.among h.bounds none) in
+    let some = some_reach t h.setting h.some h.letters h.degrees (some_quantity (ideal_of_task t) h.setting)
+    (λ d below basis is none. few_elements (ideal_of_task t) h.setting d below basis is t.limits h.limit h.among h.bounds
+    none) in
     record { value = some.0; holds = some.1; only = λ reach is. one_reach t h.setting reach some.0 is some.1 }
 
 pub has_one_text : HasOneText

@@ -8,7 +8,7 @@ use Rattle.ideal_laws.proofs.Dimensions.{has_one_dimension}
 use Rattle.ideal_laws.proofs.OneBasis.{has_one_basis}
 use Rattle.poly_writer.specs.Outputs.{IsBasisText, IsSeriesText}
 use Rattle.poly_writer.specs.Texts.{basis_text, series_text}
-use Rattle.job_steps.specs.Progress.{IsBasisPart, IsOutput, IsPart, IsReach, IsTaskText, IsText, Reach, Task, whole, refused, crowded}
+use Rattle.job_steps.specs.Progress.{IsBasisPart, IsOutput, IsPart, IsReach, IsTaskText, IsText, Reach, Task, crowded, ideal_of_task, refused, whole}
 use Rattle.job_steps.proofs.Reaches.{none_and_refused, one_stop, one_text, small_and_large}
 
 -- a list of so many values, one for each number from s on
@@ -30,19 +30,20 @@ values_of z P some n =
     let v = values_from z P some n 0 in
     (v.0, v.1, λ k within. subst (λ (m : ℕ). P m (get_or v.0 k z)) (zero-add k) (v.2 k within))
 
-module _ (t : Task) (st : IsSetting t.modulus t.letters.weights t.relations) where
+module _ (t : Task) (st : IsSetting (ideal_of_task t)) where
   basis_text_of : (d : ℕ) → (text : List ℕ) × IsBasisText t.modulus t.letters t.relations d text
   basis_text_of d =
-      let v = values_of [] (λ k fs. IsReducedBasis t.modulus t.letters.weights t.relations (k + 1) fs)
-      (λ k. let one = has_one_basis t.modulus t.letters.weights t.relations st (k + 1) in (one.value, one.holds)) d in (
+      let v = values_of [] (λ k fs. IsReducedBasis (ideal_of_task t) (k + 1) fs)
+      (λ k. let one = has_one_basis (ideal_of_task t) st (k + 1) in (one.value, one.holds)) d in (
         basis_text t.letters.names t.modulus v.0,
         record { bases = v.0; count = v.1; each = v.2; printed = refl },
       )
 
   series_text_of : (d : ℕ) → (text : List ℕ) × IsSeriesText t.modulus t.letters t.relations d text
   series_text_of d =
-      let v = values_of 0 (IsHilbertCoefficient t.modulus t.letters.weights t.relations)
-      (λ k. let dim = has_one_dimension t.modulus t.letters.weights t.relations st k in (length dim.others, (dim.coefficient (length dim.others)).1 refl))
+      let v = values_of 0 (IsHilbertCoefficient (ideal_of_task t))
+      (λ k. let dim = has_one_dimension (ideal_of_task t) st k in
+      (length dim.others, (dim.coefficient (length dim.others)).1 refl))
       (d + 1) in
       (series_text v.0, record { numbers = v.0; count = v.1; each = v.2; printed = refl })
 
@@ -75,14 +76,14 @@ module _ (t : Task) (st : IsSetting t.modulus t.letters.weights t.relations) whe
   one_reach whole whole a b = refl
   one_reach whole (refused k d v) a b = absurd (none_and_refused t st d t.bound v k a.0 b b.upto)
   one_reach whole (crowded d v) a b =
-      absurd (small_and_large t.modulus t.letters.weights t.relations st t.normal_words d (t.bound + 1) v (a.1 b.1) b.3 (omega (arith, b.2)))
+      absurd (small_and_large (ideal_of_task t) st t.normal_words d (t.bound + 1) v (a.1 b.1) b.3 (omega (arith, b.2)))
   one_reach (refused k d v) whole a b = absurd (none_and_refused t st d t.bound v k b.0 a a.upto)
   one_reach (refused k d v) (refused l e w) a b =
       let s = one_stop t st (refused k d v) (refused l e w) k l d e v w a (refl, refl, refl) b (refl, refl, refl) in
       λ i. refused (s.0 i) (s.1 i) (s.2 i)
   one_reach (refused k d v) (crowded e w) a b = absurd (none_and_refused t st d t.bound v k b.0 a a.upto)
   one_reach (crowded d v) whole a b =
-      absurd (small_and_large t.modulus t.letters.weights t.relations st t.normal_words d (t.bound + 1) v (b.1 a.1) a.3 (omega (arith, a.2)))
+      absurd (small_and_large (ideal_of_task t) st t.normal_words d (t.bound + 1) v (b.1 a.1) a.3 (omega (arith, a.2)))
   one_reach (crowded d v) (refused l e w) a b = absurd (none_and_refused t st e t.bound w l a.0 b b.upto)
   one_reach (crowded d v) (crowded e w) a b =
       let s = one_stop t st (crowded d v) (crowded e w) NormalWords NormalWords d e v w a (refl, refl, refl) b (refl, refl, refl) in

@@ -8,6 +8,7 @@ use Rattle.words.specs.Names.{Letters}
 use Rattle.free_poly.specs.declared.term.Term.{Term}
 use Rattle.ideal_laws.specs.Basis.{IsReducedBasis}
 use Rattle.ideal_laws.specs.Engine.{Elements, IsReducedUpto}
+use Rattle.ideal_laws.specs.Ideal.{ideal_over}
 use Rattle.ideal_laws.specs.Kept.{IsKept}
 use Rattle.ideal_laws.specs.Quantities.{IsFirstPassing, IsQuantity, NonePasses}
 use Rattle.ideal_laws.proofs.Refused.{refused_next, upto_next}
@@ -17,7 +18,7 @@ use Rattle.job_steps.specs.declared.print.PrintFault.{PrintFault}
 use Rattle.job_steps.specs.declared.print.PrintFault.TheVariants.{Limit, WriteFault, NoMemory}
 use Rattle.job_steps.specs.Gains.{GainsAll, HasPrinted}
 use Rattle.job_steps.specs.Printing.{IsBasisUndone, IsNext, IsNextUndone, lines_of}
-use Rattle.job_steps.specs.Progress.{HasLinesBelow, IsBasisPart, IsBasisSoFar, IsBeginning, IsDue, IsPart, Task, refused}
+use Rattle.job_steps.specs.Progress.{HasLinesBelow, IsBasisPart, IsBasisSoFar, IsBeginning, IsDue, IsPart, Task, ideal_of_task, refused}
 use Rattle.job_steps.proofs.Gaining.{appended_none, beginning_self, part_behind, part_front, rose_from, some_behind, some_front}
 
 pub degree_texts-append : (names : List (List ℕ)) (p d : ℕ) (xs ys : List (List (List Term))) →
@@ -34,20 +35,20 @@ no_basis p letters relations = record { bases = []; count = refl; each = λ k wi
 
 module _ (p : ℕ) (letters : Letters) (relations : List (List Term)) where
   basis_next : (d : ℕ) (text : List ℕ) (elements : List (List Term)) → IsBasisText p letters relations d text →
-      IsReducedBasis p letters.weights relations (d + 1) elements
+      IsReducedBasis (ideal_over p letters.weights relations) (d + 1) elements
       → IsBasisText p letters relations (d + 1) (text ++ degree_text letters.names p (d + 1) elements)
   basis_next d text elements h new = record {
     bases = h.bases ++ elements ∷ [];
     count = omega (arith, length-append h.bases (elements ∷ []), h.count);
     each = λ k within. elim (cases_lt k d) [
       | inl earlier ↦
-          subst (IsReducedBasis p letters.weights relations (k + 1)) (sym
+          subst (IsReducedBasis (ideal_over p letters.weights relations) (k + 1)) (sym
           (get_or_append_left h.bases (elements ∷ []) [] k (omega (arith, earlier, h.count)))) (h.each k earlier)
       | inr last ↦
           let is : k ≡ d = omega (arith, last, within) in
           let at : length h.bases ≡ k = omega (arith, h.count, is) in
-          subst (IsReducedBasis p letters.weights relations (k + 1)) (sym (get_or_push h.bases elements [] k at))
-          (subst (λ (n : ℕ). IsReducedBasis p letters.weights relations (n + 1) elements) (sym is) new)
+          subst (IsReducedBasis (ideal_over p letters.weights relations) (k + 1)) (sym (get_or_push h.bases elements [] k at))
+          (subst (λ (n : ℕ). IsReducedBasis (ideal_over p letters.weights relations) (n + 1) elements) (sym is) new)
     ];
     printed =
         let from : d + 1 ≡ 1 + length h.bases = omega (arith, h.count) in
@@ -59,7 +60,7 @@ module _ (p : ℕ) (letters : Letters) (relations : List (List Term)) where
   }
 
   part_next : (shows : Bool) (d : ℕ) (text : List ℕ) (elements : List (List Term)) → IsPart shows (IsBasisText p letters relations d) text →
-      IsReducedBasis p letters.weights relations (d + 1) elements
+      IsReducedBasis (ideal_over p letters.weights relations) (d + 1) elements
       → IsPart shows (IsBasisText p letters relations (d + 1)) (text ++ lines_of shows letters.names p (d + 1) elements)
   part_next true d text elements h new = basis_next d text elements h new
   part_next false d text elements h new = append-nil text ∙ h
@@ -96,18 +97,20 @@ module _ (t : Task) (d : ℕ) (below : Elements) (text : List ℕ) (s : Stands t
   abbrev lines : List (List Term) → List ℕ
   lines elements = lines_of t.shows_basis t.letters.names t.modulus (below.done + 1) elements
 
-  pub so_far_next : (elements : List (List Term)) → IsNext t.modulus t.letters.weights t.relations t.limits below elements →
+  pub so_far_next : (elements : List (List Term)) → IsNext (ideal_of_task t) t.limits below elements →
       IsBasisSoFar t (d + 1) (text ++ lines elements)
   so_far_next elements next = record {
     upto = omega (arith, within);
-    passes_none = upto_next t.modulus t.letters.weights t.relations t.limits below s.kept s.weights s.reduced d s.done s.so_far.passes_none
-        (subst (λ (ws : List ℕ). NonePasses (IsQuantity t.modulus ws t.relations below (below.done + 1)) t.limits) (sym s.weights) next.passes_none);
+    passes_none = upto_next (ideal_of_task t) t.limits below s.kept s.weights s.reduced d s.done s.so_far.passes_none
+        (subst (λ (ws : List ℕ). NonePasses (IsQuantity (ideal_over t.modulus ws t.relations) below (below.done + 1)) t.limits) (sym s.weights)
+        next.passes_none);
     is_basis = subst (λ (n : ℕ). IsBasisPart t (d + 1) (text ++ lines_of t.shows_basis t.letters.names t.modulus (n + 1) elements)) (sym s.done)
         (part_next t.modulus t.letters t.relations t.shows_basis d text elements s.so_far.is_basis
-        (subst (λ (n : ℕ). IsReducedBasis t.modulus t.letters.weights t.relations (n + 1) elements) s.done next.reduced));
+        (subst (λ (n : ℕ). IsReducedBasis (ideal_of_task t) (n + 1) elements) s.done next.reduced));
   }
 
-  due_next : (elements : List (List Term)) → IsNext t.modulus t.letters.weights t.relations t.limits below elements → IsDue t (d + 1) (text ++ lines elements)
+  due_next : (elements : List (List Term)) → IsNext (ideal_of_task t) t.limits below elements
+      → IsDue t (d + 1) (text ++ lines elements)
   due_next elements next = inl (so_far_next elements next)
 
   lines_before : (e : ℕ) (gained : List ℕ) → e ≤ d + 1 → IsBeginning text gained → HasLinesBelow t e gained
@@ -120,9 +123,12 @@ module _ (t : Task) (d : ℕ) (below : Elements) (text : List ℕ) (s : Stands t
   undone_next a b c r q f g h Here Next Holds here next (Limit kind e value) w u =
       let at : d ≡ e - 1 = omega (arith, u.0, s.done) in
       let printed : HasPrinted t (refused kind e value) a c = record {
-        is_reach = refused_next t.modulus t.letters.weights t.relations t.limits below s.kept s.weights s.reduced d t.bound s.done within
-            s.so_far.passes_none kind e value
-            (u.0, subst (λ (ws : List ℕ). IsFirstPassing (IsQuantity t.modulus ws t.relations below (below.done + 1)) t.limits kind value) (sym s.weights) u.1);
+        is_reach = refused_next (ideal_of_task t) t.limits below s.kept s.weights s.reduced d t.bound s.done within
+            s.so_far.passes_none kind e value (
+              u.0,
+              subst (λ (ws : List ℕ). IsFirstPassing (IsQuantity (ideal_over t.modulus ws t.relations) below (below.done + 1)) t.limits kind value)
+                  (sym s.weights) u.1,
+            );
         text = text;
         is_text = subst (λ (n : ℕ). IsBasisPart t n text) at s.so_far.is_basis;
         appended = appended_none a b c text w.appended u.2;

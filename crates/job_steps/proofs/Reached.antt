@@ -5,6 +5,7 @@ use Rattle.std.specs.List.{range_with_len}
 use Rattle.std.proofs.lemmas.Bool.{cases_lt}
 use Rattle.std.proofs.lemmas.List.FromFn.{length-map-range_with_len}
 use Rattle.free_poly.specs.declared.term.Term.{Term}
+use Rattle.ideal_laws.specs.Ideal.{Ideal, ideal_over}
 use Rattle.ideal_laws.specs.declared.limits.LimitKind.{LimitKind}
 use Rattle.ideal_laws.specs.Basis.{IsReducedBasis}
 use Rattle.ideal_laws.specs.Dimension.{IsHilbertCoefficient}
@@ -15,7 +16,7 @@ use Rattle.ideal_laws.specs.Quantities.{IsFirstPassing, IsFirstRefused, IsQuanti
 use Rattle.ideal_laws.proofs.Dimensions.{has_one_dimension}
 use Rattle.ideal_laws.proofs.Grown.{grown, next_from_reduced, reduced_grown, stored_grown, stored_none}
 use Rattle.ideal_laws.proofs.OneBasis.{has_one_basis}
-use Rattle.job_steps.specs.Progress.{AreSmallBelow, IsFirstLargeCoefficient, IsReach, PassesNone, Reach, Task, whole, refused, crowded}
+use Rattle.job_steps.specs.Progress.{AreSmallBelow, IsFirstLargeCoefficient, IsReach, PassesNone, Reach, Task, crowded, ideal_of_task, refused, whole}
 
 -- where each quantity has a value, none passes or one is the first
 passing : (Q : Quantities) → ((kind : LimitKind) → (q : ℕ) × Q kind q) → (limits : List (LimitKind × ℕ)) →
@@ -29,13 +30,13 @@ passing Q some (l ∷ ls) = let q = some l.0 in elim (cases_lt l.1 q.0) [
   ]
 ]
 
-module _ (p : ℕ) (weights : List ℕ) (relations : List (List Term)) (st : IsSetting p weights relations) (limit : ℕ) where
-  coefficient_of : (d : ℕ) → (h : ℕ) × IsHilbertCoefficient p weights relations d h
-  coefficient_of d = let dim = has_one_dimension p weights relations st d in (length dim.others, (dim.coefficient (length dim.others)).1 refl)
+module _ (ideal : Ideal) (st : IsSetting ideal) (limit : ℕ) where
+  coefficient_of : (d : ℕ) → (h : ℕ) × IsHilbertCoefficient ideal d h
+  coefficient_of d = let dim = has_one_dimension ideal st d in (length dim.others, (dim.coefficient (length dim.others)).1 refl)
 
   -- all coefficients are small, or one is the first large one
-  small_or_large : (d : ℕ) → AreSmallBelow p weights relations limit d
-      ⊎ ((e : ℕ) × (value : ℕ) × (e < d) × IsFirstLargeCoefficient p weights relations limit e value)
+  small_or_large : (d : ℕ) → AreSmallBelow ideal limit d
+      ⊎ ((e : ℕ) × (value : ℕ) × (e < d) × IsFirstLargeCoefficient ideal limit e value)
   small_or_large zero = inl (λ e below. absurd (omega (arith, below)))
   small_or_large (suc d) = elim (small_or_large d) [
     | inr large ↦ inr (large.0, large.1, omega (arith, large.2), large.3)
@@ -44,17 +45,17 @@ module _ (p : ℕ) (weights : List ℕ) (relations : List (List Term)) (st : IsS
       | inr within ↦ inl (λ e below. elim (cases_lt e d) [
         | inl lower ↦ small e lower
         | inr last ↦ let is : d ≡ e = omega (arith, below, last) in
-            (h.0, subst (λ (n : ℕ). IsHilbertCoefficient p weights relations n h.0) is h.1, within)
+            (h.0, subst (λ (n : ℕ). IsHilbertCoefficient ideal n h.0) is h.1, within)
       ])
     ]
   ]
 
-module _ (t : Task) (st : IsSetting t.modulus t.letters.weights t.relations) (some : 0 < length t.letters.weights)
+module _ (t : Task) (st : IsSetting (ideal_of_task t)) (some : 0 < length t.letters.weights)
     (letters : length t.letters.weights ≤ 64) (degrees : t.bound ≤ 64)
-    (quantity : (d : ℕ) (below : Elements) → IsBelow t.modulus t.letters.weights t.relations d below → (kind : LimitKind) →
-    (q : ℕ) × IsQuantity t.modulus t.letters.weights t.relations below d kind q)
-    (few : (d : ℕ) (below : Elements) (basis : List (List Term)) → IsReducedBasis t.modulus t.letters.weights t.relations d basis →
-    NonePasses (IsQuantity t.modulus t.letters.weights t.relations below d) t.limits → length basis ≤ 16777216) where
+    (quantity : (d : ℕ) (below : Elements) → IsBelow (ideal_of_task t) d below → (kind : LimitKind) →
+    (q : ℕ) × IsQuantity (ideal_of_task t) below d kind q)
+    (few : (d : ℕ) (below : Elements) (basis : List (List Term)) → IsReducedBasis (ideal_of_task t) d basis →
+    NonePasses (IsQuantity (ideal_of_task t) below d) t.limits → length basis ≤ 16777216) where
   abbrev p : ℕ
   p = t.modulus
 
@@ -65,7 +66,7 @@ module _ (t : Task) (st : IsSetting t.modulus t.letters.weights t.relations) (so
   pub record ComesTo (d : ℕ) : Type 0 where
     pub passes_none : PassesNone t d
     pub below : Elements
-    pub is_below : IsBelow p weights t.relations (d + 1) below
+    pub is_below : IsBelow (ideal_of_task t) (d + 1) below
     pub ends : List ℕ
     pub stored : IsStored below ends
 
@@ -88,13 +89,14 @@ module _ (t : Task) (st : IsSetting t.modulus t.letters.weights t.relations) (so
         stored = stored;
       }
 
-  comes_further : (d : ℕ) → d < t.bound → (c : ComesTo d) → NonePasses (IsQuantity p weights t.relations c.below (d + 1)) t.limits → ComesTo (d + 1)
+  comes_further : (d : ℕ) → d < t.bound → (c : ComesTo d) → NonePasses (IsQuantity (ideal_of_task t) c.below (d + 1)) t.limits
+      → ComesTo (d + 1)
   comes_further d within c none =
-      let one = has_one_basis p weights t.relations st (d + 1) in
+      let one = has_one_basis (ideal_of_task t) st (d + 1) in
       let done : c.below.done ≡ d = omega (arith, c.is_below.next) in
-      let basis : IsReducedBasis p c.below.weights t.relations (c.below.done + 1) one.value =
-      subst (λ (n : ℕ). IsReducedBasis p c.below.weights t.relations n one.value) (sym c.is_below.next)
-      (subst (λ (ws : List ℕ). IsReducedBasis p ws t.relations (d + 1) one.value) (sym c.is_below.same_weights) one.holds) in
+      let basis : IsReducedBasis (ideal_over p c.below.weights t.relations) (c.below.done + 1) one.value =
+      subst (λ (n : ℕ). IsReducedBasis (ideal_over p c.below.weights t.relations) n one.value) (sym c.is_below.next)
+      (subst (λ (ws : List ℕ). IsReducedBasis (ideal_over p ws t.relations) (d + 1) one.value) (sym c.is_below.same_weights) one.holds) in
       let next = next_from_reduced p t.relations c.below one.value (few (d + 1) c.below one.value one.holds none) basis in
       let stored = stored_grown c.below one.value next c.ends c.stored (omega (arith, done, within, degrees)) in
       record {
@@ -103,8 +105,8 @@ module _ (t : Task) (st : IsSetting t.modulus t.letters.weights t.relations) (so
           | inr last ↦
               let is : d + 1 ≡ e = omega (arith, upto, last) in (
                 c.below,
-                subst (λ (n : ℕ). IsBelow p weights t.relations n c.below) is c.is_below,
-                subst (λ (n : ℕ). NonePasses (IsQuantity p weights t.relations c.below n) t.limits) is none,
+                subst (λ (n : ℕ). IsBelow (ideal_of_task t) n c.below) is c.is_below,
+                subst (λ (n : ℕ). NonePasses (IsQuantity (ideal_of_task t) c.below n) t.limits) is none,
               )
         ];
         below = grown c.below one.value;
@@ -119,11 +121,11 @@ module _ (t : Task) (st : IsSetting t.modulus t.letters.weights t.relations) (so
       }
 
   comes_or_refused : (d : ℕ) → d ≤ t.bound →
-      ComesTo d ⊎ ((kind : LimitKind) × (e : ℕ) × (value : ℕ) × IsFirstRefused p weights t.relations t.limits t.bound kind e value)
+      ComesTo d ⊎ ((kind : LimitKind) × (e : ℕ) × (value : ℕ) × IsFirstRefused (ideal_of_task t) t.limits t.bound kind e value)
   comes_or_refused zero upto = inl begins
   comes_or_refused (suc d) upto = elim (comes_or_refused d (omega (arith, upto))) [
     | inr first ↦ inr first
-    | inl c ↦ elim (passing (IsQuantity p weights t.relations c.below (d + 1)) (quantity (d + 1) c.below c.is_below) t.limits) [
+    | inl c ↦ elim (passing (IsQuantity (ideal_of_task t) c.below (d + 1)) (quantity (d + 1) c.below c.is_below) t.limits) [
       | inl none ↦ let is : d + 1 ≡ suc d = omega arith in inl (subst ComesTo is (comes_further d (omega (arith, upto)) c none))
       | inr first ↦
           let before : d + 1 - 1 ≡ d = omega arith in
@@ -148,7 +150,7 @@ module _ (t : Task) (st : IsSetting t.modulus t.letters.weights t.relations) (so
     where
       apart : (b : Bool) → b ≡ false → b ≡ true → ⊥
       apart b e f = cc
-  with_series true shows none = elim (small_or_large p weights t.relations st t.normal_words (t.bound + 1)) [
+  with_series true shows none = elim (small_or_large (ideal_of_task t) st t.normal_words (t.bound + 1)) [
     | inl small ↦ (whole, (none, λ _. small))
     | inr large ↦ (crowded large.0 large.1, (none, shows, omega (arith, large.2), large.3))
   ]

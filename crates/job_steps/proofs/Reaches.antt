@@ -5,6 +5,7 @@ use Rattle.std.proofs.lemmas.Bool.{cases_lt}
 use Rattle.std.proofs.lemmas.List.{append-nil, nil_from_length}
 use Rattle.std.specs.declared.option.Option.{Option}
 use Rattle.free_poly.specs.declared.term.Term.{Term}
+use Rattle.ideal_laws.specs.Ideal.{Ideal}
 use Rattle.ideal_laws.specs.declared.limits.LimitKind.{LimitKind}
 use Rattle.ideal_laws.specs.Dimension.{IsHilbertCoefficient}
 use Rattle.ideal_laws.specs.Engine.{Elements}
@@ -22,7 +23,7 @@ use Rattle.job_steps.specs.declared.print.PrintFault.{PrintFault}
 use Rattle.job_steps.specs.declared.print.PrintFault.TheVariants.{Limit, WriteFault, NoMemory}
 use Rattle.job_steps.specs.Gains.{GainsPart, GainsSome, HasPrintedPart, HasPrintedSome, IsUndone}
 use Rattle.job_steps.specs.Printing.{IsBasisUndone}
-use Rattle.job_steps.specs.Progress.{IsBasisPart, IsBasisSoFar, HasLinesBelow, IsBeginning, IsDue, IsFirstLargeCoefficient, IsOutput, IsPart, IsReach}
+use Rattle.job_steps.specs.Progress.{HasLinesBelow, IsBasisPart, IsBasisSoFar, IsBeginning, IsDue, IsFirstLargeCoefficient, IsOutput, IsPart, IsReach, ideal_of_task}
 use Rattle.job_steps.specs.Progress.{IsStoppedBy, IsTaskText, IsText, AreSmallBelow, PassesNone, Reach, Task, whole, refused, crowded}
 use Rattle.job_steps.proofs.Gaining.{beginning_self, beginning_trans}
 use Rattle.job_steps.proofs.Printed.{degree_texts-append}
@@ -43,23 +44,23 @@ same_of z xs ys long same =
     let none : r.0 ≡ [] = nil_from_length r.0 (omega (arith, long, ap length r.1, length-append xs r.0)) in
     sym (append-nil xs) ∙ ap (λ l. xs ++ l) (sym none) ∙ sym r.1
 
-module _ (p : ℕ) (weights : List ℕ) (relations : List (List Term)) (st : IsSetting p weights relations) where
-  before_itself : (f : List Term) → StandsBefore weights f f → ⊥
+module _ (ideal : Ideal) (st : IsSetting ideal) where
+  before_itself : (f : List Term) → StandsBefore ideal.weights f f → ⊥
   before_itself f (inl lower) = omega (arith, lower)
   before_itself f (inr same) = greater_strict f same.1
 
-  before_trans : (f g h : List Term) → StandsBefore weights f g → StandsBefore weights g h → StandsBefore weights f h
+  before_trans : (f g h : List Term) → StandsBefore ideal.weights f g → StandsBefore ideal.weights g h → StandsBefore ideal.weights f h
   before_trans f g h (inl a) (inl b) = inl (omega (arith, a, b))
   before_trans f g h (inl a) (inr b) = inl (omega (arith, a, b.0))
   before_trans f g h (inr a) (inl b) = inl (omega (arith, a.0, b))
   before_trans f g h (inr a) (inr b) = inr (a.0 ∙ b.0, greater_trans f g h a.1 b.1)
 
   -- the basis of the degrees below is one
-  one_below : (d : ℕ) (b c : Elements) → IsBelow p weights relations d b → IsBelow p weights relations d c → b ≡ c
+  one_below : (d : ℕ) (b c : Elements) → IsBelow ideal d b → IsBelow ideal d c → b ≡ c
   one_below d b c hb hc =
-      let lb = lists_lower p weights relations st d b hb in
-      let lc = lists_lower p weights relations st d c hc in
-      let elements = same_lists (StandsBefore weights) before_itself before_trans b.elements c.elements
+      let lb = lists_lower ideal st d b hb in
+      let lc = lists_lower ideal st d c hc in
+      let elements = same_lists (StandsBefore ideal.weights) before_itself before_trans b.elements c.elements
       (subst (λ (ws : List ℕ). AllPairs (StandsBefore ws) b.elements) hb.same_weights hb.kept.ordered)
       (subst (λ (ws : List ℕ). AllPairs (StandsBefore ws) c.elements) hc.same_weights hc.kept.ordered)
       (λ g m. (lc g).1 ((lb g).0 m)) (λ g m. (lb g).1 ((lc g).0 m)) in
@@ -67,16 +68,16 @@ module _ (p : ℕ) (weights : List ℕ) (relations : List (List Term)) (st : IsS
       let done : b.done ≡ c.done = omega (arith, hb.next, hc.next) in
       λ i. record { weights = weights_are i; done = done i; elements = elements i }
 
-  one_coefficient : (d h k : ℕ) → IsHilbertCoefficient p weights relations d h → IsHilbertCoefficient p weights relations d k → h ≡ k
-  one_coefficient d h k a b = let dim = has_one_dimension p weights relations st d in (dim.coefficient h).0 a ∙ sym ((dim.coefficient k).0 b)
+  one_coefficient : (d h k : ℕ) → IsHilbertCoefficient ideal d h → IsHilbertCoefficient ideal d k → h ≡ k
+  one_coefficient d h k a b = let dim = has_one_dimension ideal st d in (dim.coefficient h).0 a ∙ sym ((dim.coefficient k).0 b)
 
-  pub small_and_large : (limit d e value : ℕ) → AreSmallBelow p weights relations limit e → IsFirstLargeCoefficient p weights relations limit d value →
+  pub small_and_large : (limit d e value : ℕ) → AreSmallBelow ideal limit e → IsFirstLargeCoefficient ideal limit d value →
       d < e → ⊥
   small_and_large limit d e value small large within =
       let s = small d within in
       omega (arith, s.2, large.large, one_coefficient d s.0 large.coefficient s.1 large.is_coefficient)
 
-  first_large : (limit d e v w : ℕ) → IsFirstLargeCoefficient p weights relations limit d v → IsFirstLargeCoefficient p weights relations limit e w → d ≡ e
+  first_large : (limit d e v w : ℕ) → IsFirstLargeCoefficient ideal limit d v → IsFirstLargeCoefficient ideal limit e w → d ≡ e
   first_large limit d e v w a b = elim (cases_lt d e) [
     | inl less ↦ absurd (small_and_large limit d e v b.before a less)
     | inr le ↦ elim (cases_lt e d) [
@@ -101,22 +102,24 @@ one_passing Q (x ∷ xs) one k l v w (inl a) (inr b) = absurd (omega (arith, a.2
 one_passing Q (x ∷ xs) one k l v w (inr a) (inl b) = absurd (omega (arith, a.2, b.2, one x.0 a.0 b.0 a.1 b.1))
 one_passing Q (x ∷ xs) one k l v w (inr a) (inr b) = one_passing Q xs one k l v w a.3 b.3
 
-module _ (t : Task) (st : IsSetting t.modulus t.letters.weights t.relations) where
+module _ (t : Task) (st : IsSetting (ideal_of_task t)) where
   abbrev p : ℕ
   p = t.modulus
 
   abbrev weights : List ℕ
   weights = t.letters.weights
 
-  pub none_and_refused : (d e value : ℕ) (kind : LimitKind) → PassesNone t e → IsFirstRefused p weights t.relations t.limits t.bound kind d value → d ≤ e → ⊥
+  pub none_and_refused : (d e value : ℕ) (kind : LimitKind) → PassesNone t e → IsFirstRefused (ideal_of_task t) t.limits t.bound kind d value
+      → d ≤ e → ⊥
   none_and_refused d e value kind none first le =
       let n = none d first.from le in
-      let same = one_below p weights t.relations st d n.0 first.below n.1 first.is_below in
-      none_and_first (IsQuantity p weights t.relations first.below d) t.limits (one_quantity p weights t.relations st d first.below first.is_below) kind value
-      (subst (λ (b : Elements). NonePasses (IsQuantity p weights t.relations b d) t.limits) same n.2) first.passes
+      let same = one_below (ideal_of_task t) st d n.0 first.below n.1 first.is_below in
+      none_and_first (IsQuantity (ideal_of_task t) first.below d) t.limits
+      (one_quantity (ideal_of_task t) st d first.below first.is_below) kind value
+      (subst (λ (b : Elements). NonePasses (IsQuantity (ideal_of_task t) b d) t.limits) same n.2) first.passes
 
-  first_refused : (d e v w : ℕ) (k l : LimitKind) → IsFirstRefused p weights t.relations t.limits t.bound k d v →
-      IsFirstRefused p weights t.relations t.limits t.bound l e w → d ≡ e
+  first_refused : (d e v w : ℕ) (k l : LimitKind) → IsFirstRefused (ideal_of_task t) t.limits t.bound k d v →
+      IsFirstRefused (ideal_of_task t) t.limits t.bound l e w → d ≡ e
   first_refused d e v w k l a b = elim (cases_lt d e) [
     | inl less ↦ absurd (none_and_refused d (e - 1) v k b.before a (omega (arith, less)))
     | inr le ↦ elim (cases_lt e d) [
@@ -126,17 +129,18 @@ module _ (t : Task) (st : IsSetting t.modulus t.letters.weights t.relations) whe
   ]
 
   -- with its kind and value
-  refused_one : (d v w : ℕ) (k l : LimitKind) → IsFirstRefused p weights t.relations t.limits t.bound k d v →
-      IsFirstRefused p weights t.relations t.limits t.bound l d w → (k ≡ l) × (v ≡ w)
+  refused_one : (d v w : ℕ) (k l : LimitKind) → IsFirstRefused (ideal_of_task t) t.limits t.bound k d v →
+      IsFirstRefused (ideal_of_task t) t.limits t.bound l d w → (k ≡ l) × (v ≡ w)
   refused_one d v w k l a b =
-      let same = one_below p weights t.relations st d a.below b.below a.is_below b.is_below in
-      one_passing (IsQuantity p weights t.relations b.below d) t.limits (one_quantity p weights t.relations st d b.below b.is_below) k l v w
-      (subst (λ (e : Elements). IsFirstPassing (IsQuantity p weights t.relations e d) t.limits k v) same a.passes) b.passes
+      let same = one_below (ideal_of_task t) st d a.below b.below a.is_below b.is_below in
+      one_passing (IsQuantity (ideal_of_task t) b.below d) t.limits (one_quantity (ideal_of_task t) st d b.below b.is_below) k
+      l v w
+      (subst (λ (e : Elements). IsFirstPassing (IsQuantity (ideal_of_task t) e d) t.limits k v) same a.passes) b.passes
 
   bases_at : (d e : ℕ) (x y : List ℕ) → d ≤ e → (a : IsBasisText p t.letters t.relations d x) (b : IsBasisText p t.letters t.relations e y)
       → (k : ℕ) → k < length a.bases → get_or a.bases k [] ≡ get_or b.bases k []
   bases_at d e x y le a b k within =
-      bases_are_one p weights t.relations (k + 1) (get_or a.bases k []) (get_or b.bases k []) (a.each k (omega (arith, within, a.count)))
+      bases_are_one (ideal_of_task t) (k + 1) (get_or a.bases k []) (get_or b.bases k []) (a.each k (omega (arith, within, a.count)))
       (b.each k (omega (arith, within, a.count, le)))
 
   basis_begins : (d e : ℕ) (x y : List ℕ) → d ≤ e → IsBasisText p t.letters t.relations d x → IsBasisText p t.letters t.relations e y → IsBeginning x y
@@ -155,7 +159,7 @@ module _ (t : Task) (st : IsSetting t.modulus t.letters.weights t.relations) whe
   series_one : (d : ℕ) (x y : List ℕ) → IsSeriesText p t.letters t.relations d x → IsSeriesText p t.letters t.relations d y → x ≡ y
   series_one d x y a b =
       let same : (k : ℕ) → k < length a.numbers → get_or a.numbers k 0 ≡ get_or b.numbers k 0 =
-      λ k within. one_coefficient p weights t.relations st k (get_or a.numbers k 0) (get_or b.numbers k 0)
+      λ k within. one_coefficient (ideal_of_task t) st k (get_or a.numbers k 0) (get_or b.numbers k 0)
       (a.each k (omega (arith, within, a.count))) (b.each k (omega (arith, within, a.count))) in
       a.printed ∙ ap series_text (same_of 0 a.numbers b.numbers (a.count ∙ sym b.count) same) ∙ sym b.printed
 
@@ -182,23 +186,23 @@ module _ (t : Task) (st : IsSetting t.modulus t.letters.weights t.relations) whe
   pub one_text : (r s : Reach) (x y : List ℕ) → IsReach t r → IsText t r x → IsReach t s → IsText t s y → x ≡ y
   one_text whole whole x y ra a rb b = output_one t.bound x y a b
   one_text whole (refused k d v) x y ra a rb b = absurd (none_and_refused d t.bound v k ra.0 rb rb.upto)
-  one_text whole (crowded d v) x y ra a rb b = absurd (small_and_large p weights t.relations st t.normal_words d (t.bound + 1) v (ra.1 rb.1)
+  one_text whole (crowded d v) x y ra a rb b = absurd (small_and_large (ideal_of_task t) st t.normal_words d (t.bound + 1) v (ra.1 rb.1)
       rb.3 (omega (arith, rb.2)))
   one_text (refused k d v) whole x y ra a rb b = absurd (none_and_refused d t.bound v k rb.0 ra ra.upto)
   one_text (refused k d v) (refused l e w) x y ra a rb b = basis_part_one (e - 1) x y
       (subst (λ (n : ℕ). IsBasisPart t (n - 1) x) (first_refused d e v w k l ra rb) a) b
   one_text (refused k d v) (crowded e w) x y ra a rb b = absurd (none_and_refused d t.bound v k rb.0 ra ra.upto)
-  one_text (crowded d v) whole x y ra a rb b = absurd (small_and_large p weights t.relations st t.normal_words d (t.bound + 1) v (rb.1 ra.1)
+  one_text (crowded d v) whole x y ra a rb b = absurd (small_and_large (ideal_of_task t) st t.normal_words d (t.bound + 1) v (rb.1 ra.1)
       ra.3 (omega (arith, ra.2)))
   one_text (crowded d v) (refused l e w) x y ra a rb b = absurd (none_and_refused e t.bound w l ra.0 rb rb.upto)
   one_text (crowded d v) (crowded e w) x y ra a rb b = output_one (e - 1) x y
-      (subst (λ (n : ℕ). IsOutput t (n - 1) x) (first_large p weights t.relations st t.normal_words d e v w ra.3 rb.3) a) b
+      (subst (λ (n : ℕ). IsOutput t (n - 1) x) (first_large (ideal_of_task t) st t.normal_words d e v w ra.3 rb.3) a) b
 
   -- nothing stops a task that comes to its end
   pub whole_is_not_stopped : IsReach t whole → (s : Reach) (kind : LimitKind) (d value : ℕ) → IsReach t s → IsStoppedBy s kind d value → ⊥
   whole_is_not_stopped ra whole kind d value rb by = by
   whole_is_not_stopped ra (refused k e v) kind d value rb by = none_and_refused e t.bound v k ra.0 rb rb.upto
-  whole_is_not_stopped ra (crowded e v) kind d value rb by = small_and_large p weights t.relations st t.normal_words e (t.bound + 1) v
+  whole_is_not_stopped ra (crowded e v) kind d value rb by = small_and_large (ideal_of_task t) st t.normal_words e (t.bound + 1) v
       (ra.1 rb.1) rb.3 (omega (arith, rb.2))
 
   -- a task is stopped by one limit
@@ -209,12 +213,16 @@ module _ (t : Task) (st : IsSetting t.modulus t.letters.weights t.relations) whe
   one_stop (crowded d1 v1) whole k l d e v w ra a rb b = absurd b
   one_stop (refused k1 d1 v1) (refused k2 d2 v2) k l d e v w ra a rb b =
       let degree = first_refused d1 d2 v1 v2 k1 k2 ra rb in
-      let same = refused_one d2 v1 v2 k1 k2 (subst (λ (n : ℕ). IsFirstRefused p weights t.relations t.limits t.bound k1 n v1) degree ra) rb in
+      let same = refused_one d2 v1 v2 k1 k2 (subst (λ (n : ℕ). IsFirstRefused (ideal_of_task t) t.limits t.bound k1 n v1) degree ra) rb in
       (sym a.0 ∙ same.0 ∙ b.0, sym a.1 ∙ degree ∙ b.1, sym a.2 ∙ same.1 ∙ b.2)
   one_stop (refused k1 d1 v1) (crowded d2 v2) k l d e v w ra a rb b = absurd (none_and_refused d1 t.bound v1 k1 rb.0 ra ra.upto)
   one_stop (crowded d1 v1) (refused k2 d2 v2) k l d e v w ra a rb b = absurd (none_and_refused d2 t.bound v2 k2 ra.0 rb rb.upto)
-  one_stop (crowded d1 v1) (crowded d2 v2) k l d e v w ra a rb b =
-      (sym a.0 ∙ b.0, sym a.1 ∙ first_large p weights t.relations st t.normal_words d1 d2 v1 v2 ra.3 rb.3 ∙ b.1, sym a.2 ∙ (ra.3.kept ∙ sym rb.3.kept) ∙ b.2)
+  one_stop (crowded d1 v1) (crowded d2 v2) k l d e v w ra a rb b = (
+    sym a.0 ∙ b.0,
+    sym a.1 ∙ first_large (ideal_of_task t) st t.normal_words d1 d2 v1 v2 ra.3 rb.3 ∙ b.1,
+    sym a.2
+        ∙ (ra.3.kept ∙ sym rb.3.kept) ∙ b.2,
+  )
 
   output_begins : (d e : ℕ) (x y : List ℕ) → IsBasisSoFar t d x → IsOutput t e y → IsBeginning x y
   output_begins d e x y a b =

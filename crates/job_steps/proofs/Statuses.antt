@@ -5,7 +5,7 @@ use Rattle.bg_io.specs.Ends.{IsCutShort}
 use Rattle.ideal_laws.specs.Laws.{IsSetting}
 use Rattle.job_steps.specs.declared.status.Status.{Status}
 use Rattle.job_steps.specs.declared.status.Status.TheVariants.{Done, Usage, Input, Limit, Chains, Products, ReadFault, WriteFault, NoMemory}
-use Rattle.job_steps.specs.Progress.{Task}
+use Rattle.job_steps.specs.Progress.{Task, ideal_of_task}
 use Rattle.job_steps.specs.Status.{PrintsNothing}
 use Rattle.job_steps.specs.Statuses.{HasGained, IsAnswered, IsAnsweredInParts, IsOwn, IsTaskEnd, IsTaskOutcome, IsTaskStatus, IsThis}
 use Rattle.job_steps.proofs.Reaches.{one_stop, whole_is_not_stopped}
@@ -47,7 +47,7 @@ task_outcome_status t WriteFault text h = absurd h
 task_outcome_status t NoMemory text h = absurd h
 
 -- what comes to its end is stopped by no limit, and what is stopped is stopped by one
-module _ (t : Task) (st : IsSetting t.modulus t.letters.weights t.relations) where
+module _ (t : Task) (st : IsSetting (ideal_of_task t)) where
   done_is_one : (status : Status) → IsTaskStatus t Done → IsTaskStatus t status → Done ≡ status
   done_is_one Done a b = refl
   done_is_one (Usage fault) a b = absurd b

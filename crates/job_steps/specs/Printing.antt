@@ -4,6 +4,7 @@ use Rattle.std.specs.Io.KnownBytes.{Appends}
 use Rattle.words.specs.Names.{Letters}
 use Rattle.free_poly.specs.declared.term.Term.{Term}
 use Rattle.bg_io.specs.Ends.{Rose}
+use Rattle.ideal_laws.specs.Ideal.{Ideal, ideal_over}
 use Rattle.ideal_laws.specs.declared.limits.LimitKind.{LimitKind}
 use Rattle.ideal_laws.specs.declared.limits.LimitKind.TheVariants.{NormalWords}
 use Rattle.ideal_laws.specs.declared.presentation.Presentation.{Presentation}
@@ -38,16 +39,15 @@ lines_of true names p d elements = degree_text names p d elements
 lines_of false names p d elements = []
 
 -- the reduced basis of the next degree, in which no quantity passes
-pub record IsNext (p : ℕ) (weights : List ℕ) (relations : List (List Term)) (limits : List (LimitKind × ℕ))
-    (below : Elements)
+pub record IsNext (ideal : Ideal) (limits : List (LimitKind × ℕ)) (below : Elements)
     (elements : List (List Term)) : Type 0 where
-  pub reduced : IsReducedBasis p weights relations (below.done + 1) elements
-  pub passes_none : NonePasses (IsQuantity p weights relations below (below.done + 1)) limits
+  pub reduced : IsReducedBasis ideal (below.done + 1) elements
+  pub passes_none : NonePasses (IsQuantity ideal below (below.done + 1)) limits
 
 -- such elements with their lines, of which something holds
 abbrev pub OfNext : ℕ → Letters → List (List Term) → List (LimitKind × ℕ) → Elements → Bool → (List ℕ → Type 0) → Type 0
 OfNext p letters relations limits below shows Holds =
-    (elements : List (List Term)) × IsNext p letters.weights relations limits below elements
+    (elements : List (List Term)) × IsNext (ideal_over p letters.weights relations) limits below elements
     × Holds (lines_of shows letters.names p (below.done + 1) elements)
 
 -- why the next degree was not printed, and what holds where it was not computed and where it was
@@ -55,7 +55,8 @@ abbrev pub IsNextUndone : ℕ → Letters → List (List Term) → List (LimitKi
     → Option (List ℕ) →
     Option ℕ → ℕ → ℕ → Type 0 → Type 0 → PrintFault → Type 0
 IsNextUndone p letters relations limits below shows held more room before now Here Next (Limit kind d value) =
-    (d ≡ below.done + 1) × IsFirstPassing (IsQuantity p letters.weights relations below (below.done + 1)) limits
+    (d ≡ below.done + 1) × IsFirstPassing (IsQuantity (ideal_over p letters.weights relations) below (below.done + 1))
+    limits
     kind value × Appends held more [] × Here
 IsNextUndone p letters relations limits below shows held more room before now Here Next WriteFault =
     Rose before now × OfNext p letters relations limits below shows (GainsPart held more room) × Next
@@ -77,14 +78,14 @@ IsBasisUndone t held more room before now Holds NoMemory =
 -- all coefficients, none of which is above the limit
 pub record IsWholeSeries (p : ℕ) (letters : Letters) (relations : List (List Term)) (limit bound : ℕ)
     (text : List ℕ) : Type 0 where
-  pub small : AreSmallBelow p letters.weights relations limit (bound + 1)
+  pub small : AreSmallBelow (ideal_over p letters.weights relations) limit (bound + 1)
   pub printed : IsSeriesText p letters relations bound text
 
 -- the coefficients below the first degree with one that is above the limit
 pub record IsCutSeries (p : ℕ) (letters : Letters) (relations : List (List Term)) (limit bound d value : ℕ)
     (text : List ℕ) : Type 0 where
   pub upto : d ≤ bound
-  pub large : IsFirstLargeCoefficient p letters.weights relations limit d value
+  pub large : IsFirstLargeCoefficient (ideal_over p letters.weights relations) limit d value
   pub printed : IsSeriesText p letters relations (d - 1) text
 
 -- what is to be printed of the coefficients

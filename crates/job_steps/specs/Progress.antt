@@ -2,6 +2,7 @@
 use Rattle.std.specs.Prelude.{ℕ, ◌≡◌, ◌⊎◌, ◌+◌, ◌-◌, ◌<◌, ◌≤◌, Bool, true, false, List, [], ◌++◌}
 use Rattle.words.specs.Names.{Letters}
 use Rattle.free_poly.specs.declared.term.Term.{Term}
+use Rattle.ideal_laws.specs.Ideal.{Ideal, ideal_over}
 use Rattle.ideal_laws.specs.declared.limits.LimitKind.{LimitKind}
 use Rattle.ideal_laws.specs.declared.limits.LimitKind.TheVariants.{NormalWords}
 use Rattle.ideal_laws.specs.Dimension.{IsHilbertCoefficient}
@@ -20,6 +21,10 @@ pub record Task : Type 0 where
   pub shows_basis : Bool
   pub shows_series : Bool
 
+-- the ideal that a task asks of
+abbrev pub ideal_of_task : Task → Ideal
+ideal_of_task t = ideal_over t.modulus t.letters.weights t.relations
+
 -- a task comes to its end, or to the first quantity that passes its limit: one of the engine, or the normal words of
 -- a degree
 pub data Reach : Type 0 where
@@ -28,30 +33,29 @@ pub data Reach : Type 0 where
   crowded : (degree value : ℕ) → Reach
 
 -- in the degrees below d the coefficients are at most the limit
-abbrev pub AreSmallBelow : ℕ → List ℕ → List (List Term) → ℕ → ℕ → Type 0
-AreSmallBelow p weights relations limit d = (e : ℕ) → e < d → (h : ℕ) × IsHilbertCoefficient p weights relations e h
-    × (h ≤ limit)
+abbrev pub AreSmallBelow : Ideal → ℕ → ℕ → Type 0
+AreSmallBelow ideal limit d = (e : ℕ) → e < d → (h : ℕ) × IsHilbertCoefficient ideal e h × (h ≤ limit)
 
 -- d is the first degree with a greater coefficient, and the kept value is the limit plus 1
-pub record IsFirstLargeCoefficient (p : ℕ) (weights : List ℕ) (relations : List (List Term))
-    (limit d value : ℕ) : Type 0 where
-  pub before : AreSmallBelow p weights relations limit d
+pub record IsFirstLargeCoefficient (ideal : Ideal) (limit d value : ℕ) : Type 0 where
+  pub before : AreSmallBelow ideal limit d
   pub coefficient : ℕ
-  pub is_coefficient : IsHilbertCoefficient p weights relations d coefficient
+  pub is_coefficient : IsHilbertCoefficient ideal d coefficient
   pub large : limit < coefficient
   pub kept : value ≡ limit + 1
 
 -- in no degree up to d a quantity of the engine passes its limit
 abbrev pub PassesNone : Task → ℕ → Type 0
-PassesNone t d = NonePassesUpto t.modulus t.letters.weights t.relations t.limits d
+PassesNone t d = NonePassesUpto (ideal_of_task t) t.limits d
 
 -- the task comes so far
 abbrev pub IsReach : Task → Reach → Type 0
 IsReach t whole = PassesNone t t.bound × (t.shows_series ≡ true →
-    AreSmallBelow t.modulus t.letters.weights t.relations t.normal_words (t.bound + 1))
-IsReach t (refused kind d value) = IsFirstRefused t.modulus t.letters.weights t.relations t.limits t.bound kind d value
+    AreSmallBelow (ideal_of_task t) t.normal_words (t.bound + 1))
+IsReach t (refused kind d value) = IsFirstRefused (ideal_of_task t) t.limits t.bound
+    kind d value
 IsReach t (crowded d value) = PassesNone t t.bound × (t.shows_series ≡ true) × (d ≤ t.bound)
-    × IsFirstLargeCoefficient t.modulus t.letters.weights t.relations t.normal_words d value
+    × IsFirstLargeCoefficient (ideal_of_task t) t.normal_words d value
 
 -- it is stopped by this limit
 abbrev pub IsStoppedBy : Reach → LimitKind → ℕ → ℕ → Type 0

@@ -4,7 +4,7 @@ use Rattle.ideal_laws.specs.declared.limits.LimitKind.{LimitKind}
 use Rattle.ideal_laws.specs.declared.limits.LimitKind.TheVariants.{PlainWords, Terms}
 use Rattle.ideal_laws.specs.Laws.{IsOne, IsSetting}
 use Rattle.job_steps.specs.declared.status.Status.{Status}
-use Rattle.job_steps.specs.Progress.{IsReach, IsTaskText, Task}
+use Rattle.job_steps.specs.Progress.{IsReach, IsTaskText, Task, ideal_of_task}
 use Rattle.job_steps.specs.Statuses.{IsTaskOutcome}
 
 -- a limit that each degree passes whose reduced basis has more elements than a basis keeps
@@ -15,7 +15,7 @@ BoundsElements kind number = ⊥
 
 -- a field, from 1 to 64 letters, relations, at most 64 degrees, and a limit on the elements of a degree
 pub record IsPosed (t : Task) : Type 0 where
-  pub setting : IsSetting t.modulus t.letters.weights t.relations
+  pub setting : IsSetting (ideal_of_task t)
   pub some : 0 < length t.letters.weights
   pub letters : length t.letters.weights ≤ 64
   pub degrees : t.bound ≤ 64

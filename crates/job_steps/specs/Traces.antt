@@ -4,6 +4,7 @@ use Rattle.std.specs.Io.KnownBytes.{Appends}
 use Rattle.words.specs.Words.{IsOver}
 use Rattle.free_poly.specs.declared.term.Term.{Term}
 use Rattle.bg_io.specs.Ends.{Rose}
+use Rattle.ideal_laws.specs.Ideal.{ideal_of}
 use Rattle.ideal_laws.specs.declared.account.Account.{Account}
 use Rattle.ideal_laws.specs.declared.presentation.Presentation.{Presentation}
 use Rattle.ideal_laws.specs.Basis.{IsReducedBasis}
@@ -12,7 +13,7 @@ use Rattle.ideal_laws.specs.Kept.{IsBelow}
 use Rattle.ideal_laws.specs.Laws.{IsSetting}
 use Rattle.poly_writer.specs.Texts.{trace_text}
 use Rattle.job_steps.specs.Gains.{GainsSome, HasPrintedPart, HasPrintedSome}
-use Rattle.job_steps.specs.Progress.{IsPart, IsReach, IsStoppedBy, Reach, Task, last_degree}
+use Rattle.job_steps.specs.Progress.{IsPart, IsReach, IsStoppedBy, Reach, Task, ideal_of_task, last_degree}
 use Rattle.job_steps.specs.declared.status.Status.{Status}
 use Rattle.job_steps.specs.declared.status.Status.TheVariants.{Done, Limit, WriteFault, NoMemory}
 
@@ -29,8 +30,8 @@ pub record IsPrintable (letters : ℕ) (account : Account) : Type 0 where
 abbrev pub ArePrintable : Accounts → ℕ → Presentation → Type 0
 ArePrintable May p given =
     (below : Elements) (d : ℕ) (elements : List (List Term)) (account : Account) → d ≤ 64 →
-    IsSetting p given.alphabet.weights given.relations → IsBelow p given.alphabet.weights given.relations d below
-    → IsReducedBasis p given.alphabet.weights given.relations d elements → May p given below d account →
+    IsSetting (ideal_of p given) → IsBelow (ideal_of p given) d below
+    → IsReducedBasis (ideal_of p given) d elements → May p given below d account →
     IsPrintable (length given.alphabet.weights) account
 
 -- an account that the engine may give of degree d of a task
@@ -39,7 +40,7 @@ pub record IsAccountOf (May : Accounts) (t : Task) (d : ℕ) (account : Account)
   pub letters : given.alphabet ≡ t.letters
   pub relations : given.relations ≡ t.relations
   pub below : Elements
-  pub is_below : IsBelow t.modulus t.letters.weights t.relations d below
+  pub is_below : IsBelow (ideal_of_task t) d below
   pub may : May t.modulus given below d account
 
 -- an account of each degree from d on

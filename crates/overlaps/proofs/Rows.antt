@@ -13,6 +13,7 @@ use Rattle.free_poly.proofs.Elements.{has_no_prefix_in_degree}
 use Rattle.free_poly.proofs.Products.{HasOneDegree-from, HasResidues-product}
 use Rattle.ideal_laws.specs.Closure.{IsObstruction, Overlap, obstruction_row, overlap_word}
 use Rattle.ideal_laws.specs.Engine.{Elements, of_degree}
+use Rattle.ideal_laws.specs.Ideal.{Ideal}
 use Rattle.ideal_laws.specs.Kept.{IsKept, lead_degree}
 use Rattle.ideal_laws.specs.Quantities.{AreRows, IsRowOf}
 use Rattle.overlaps.specs.declared.obstruction.Obstruction.{Obstruction}
@@ -101,21 +102,20 @@ each_is weights G d found h =
     }))
 
 -- their rows, behind the relations of the degree, are the rows of the degree
-pub are_rows : (p : ℕ) (weights : List ℕ) (relations G : List (List Term)) (d : ℕ) (found : List Obstruction) (rows : List (List Term)) →
-    AreListed weights G d found
-    → AllZip (IsRowFor p weights G) found rows → AreRows p weights relations G d (of_degree weights d relations ++ rows)
-are_rows p weights relations G d found rows h each = record {
+pub are_rows : (ideal : Ideal) (G : List (List Term)) (d : ℕ) (found : List Obstruction) (rows : List (List Term)) → AreListed ideal.weights G d found
+    → AllZip (IsRowFor ideal.modulus ideal.weights G) found rows → AreRows ideal G d (of_degree ideal.weights d ideal.relations ++ rows)
+are_rows ideal G d found rows h each = record {
   overlaps = h.overlaps;
   overlap_rows = rows;
   are_obstructions = h.are_obstructions;
   each = rows_of h.overlaps rows (λ o m. (h.are_obstructions.exactly o).0 m)
-      (subst (λ (xs : List Obstruction). AllZip (IsRowFor p weights G) xs rows) h.shown each);
+      (subst (λ (xs : List Obstruction). AllZip (IsRowFor ideal.modulus ideal.weights G) xs rows) h.shown each);
   joined = refl;
 }
   where
     rows_of : (os : List Overlap) (fs : List (List Term)) → ((o : Overlap) → Contains os o →
-        IsObstruction weights G d o.left o.right o.before o.shared o.behind)
-        → AllZip (IsRowFor p weights G) (map obstruction_of os) fs → AllZip (IsRowOf p weights G d) os fs
+        IsObstruction ideal.weights G d o.left o.right o.before o.shared o.behind)
+        → AllZip (IsRowFor ideal.modulus ideal.weights G) (map obstruction_of os) fs → AllZip (IsRowOf ideal.modulus ideal.weights G d) os fs
     rows_of [] [] all z = z
     rows_of [] (f ∷ fs) all z = absurd z
     rows_of (o ∷ os) [] all z = absurd z

@@ -5,12 +5,14 @@ use Rattle.free_poly.specs.declared.term.Term.{Term}
 use Rattle.ideal_laws.specs.Basis.{IsReducedBasis}
 use Rattle.ideal_laws.specs.Dimension.{IsHilbertCoefficient}
 use Rattle.poly_writer.specs.Texts.{basis_text, series_text}
+use Rattle.ideal_laws.specs.Ideal.{ideal_over}
 
 -- the printed reduced bases of degrees 1 to e
 pub record IsBasisText (p : ℕ) (letters : Letters) (relations : List (List Term)) (e : ℕ) (text : List ℕ) : Type 0 where
   pub bases : List (List (List Term))
   pub count : length bases ≡ e
-  pub each : (k : ℕ) → k < e → IsReducedBasis p letters.weights relations (k + 1) (slice_index_or bases k [])
+  pub each : (k : ℕ) → k < e → IsReducedBasis (ideal_over p letters.weights relations) (k + 1)
+      (slice_index_or bases k [])
   pub printed : text ≡ basis_text letters.names p bases
 
 -- the printed coefficients of degrees 0 to e
@@ -18,5 +20,6 @@ pub record IsSeriesText (p : ℕ) (letters : Letters) (relations : List (List Te
   where
     pub numbers : List ℕ
     pub count : length numbers ≡ e + 1
-    pub each : (k : ℕ) → k < e + 1 → IsHilbertCoefficient p letters.weights relations k (slice_index numbers k)
+    pub each : (k : ℕ) → k < e + 1 → IsHilbertCoefficient (ideal_over p letters.weights relations) k
+        (slice_index numbers k)
     pub printed : text ≡ series_text numbers

@@ -4,6 +4,7 @@ use Rattle.std.proofs.Common.{subst, sym, take}
 use Rattle.std.proofs.lemmas.Bool.{cases_lt}
 use Rattle.std.proofs.lemmas.List.{get_or_append_left, get_or_push, get_or-take, length-take}
 use Rattle.std.proofs.lemmas.List.Elements.{All-append, All-cons, All-nil}
+use Rattle.ideal_laws.specs.Ideal.{ideal_of}
 use Rattle.ideal_laws.specs.declared.presentation.Presentation.{Presentation}
 use Rattle.lead_index.specs.declared.lead.Lead.{Lead}
 use Rattle.right_modules.specs.Answered.{AreModuleNumbers, AreModuleOutside, IsFirstLarge, free_letters}
@@ -78,7 +79,7 @@ module _ (p : ℕ) (given : Presentation) (gens bound : ℕ) (leads : List Lead)
     size = h.size;
     each = λ d le.
         let r = h.each d (omega (arith, le)) in
-        (counts_module p given.alphabet.weights (free_letters given gens) given.relations tells.setting d r.0
+        (counts_module (ideal_of p given) (free_letters given gens) tells.setting d r.0
         (outside_from_normal d r.0 le r.1) (get_or numbers d 0)).1 r.2;
   }
 

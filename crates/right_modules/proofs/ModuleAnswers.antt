@@ -1,6 +1,7 @@
 -- What is told of a right module over the reduced basis of its ideal.
 use Rattle.std.proofs.Common.{◌≡◌, ◌+◌, ℕ, All, List, ap, arith, subst, sym}
 use Rattle.free_poly.specs.declared.term.Term.{Term}
+use Rattle.ideal_laws.specs.Ideal.{ideal_of, ideal_over}
 use Rattle.ideal_laws.specs.declared.engine.EngineFault.{EngineFault}
 use Rattle.ideal_laws.specs.declared.engine.EngineFault.TheVariants as engine
 use Rattle.ideal_laws.specs.declared.limits.LimitKind.{LimitKind}
@@ -39,19 +40,19 @@ shaped_from given gens free relations same letters h =
 -- the reduced basis up to a bound is what lies below the degree after it
 pub below_after : (p : ℕ) (given : Presentation) (bound : ℕ) (basis : Elements) → IsKept basis → basis.done ≡ bound
     → basis.weights ≡ given.alphabet.weights → IsReducedUpto p given.relations basis
-    → IsBelow p given.alphabet.weights given.relations (bound + 1) basis
+    → IsBelow (ideal_of p given) (bound + 1) basis
 below_after p given bound basis kept done weights reduced =
     record { kept = kept; next = ap (λ (n : ℕ). n + 1) done; same_weights = weights; reduced = reduced }
 
-module _ (p : ℕ) (given : Presentation) (gens bound : ℕ) (basis : Elements) (st : IsSetting p given.alphabet.weights given.relations)
-    (shaped : AreShaped given gens) (below : IsBelow p given.alphabet.weights given.relations (bound + 1) basis) where
+module _ (p : ℕ) (given : Presentation) (gens bound : ℕ) (basis : Elements) (st : IsSetting (ideal_of p given))
+    (shaped : AreShaped given gens) (below : IsBelow (ideal_of p given) (bound + 1) basis) where
   abbrev weights : List ℕ
   weights = given.alphabet.weights
 
   abbrev free : ℕ
   free = free_letters given gens
 
-  abbrev ms : IsModuleSetting p weights free given.relations
+  abbrev ms : IsModuleSetting (ideal_over p weights given.relations) free
   ms = record { setting = st; shaped = shaped }
 
   -- the elements that lead with a module word are the reduced module bases
@@ -59,9 +60,9 @@ module _ (p : ℕ) (given : Presentation) (gens bound : ℕ) (basis : Elements) 
   degrees_are degrees h = record {
     size = h.size;
     numbered = h.numbered;
-    each = λ k m lt. subst (IsModuleBasis p weights free given.relations (k + 1)) (sym (h.each k m lt))
-        (part_is_basis p weights free given.relations ms (k + 1) (of_degree basis.weights (k + 1) basis.elements)
-        (subst (λ (ws : List ℕ). IsReducedBasis p ws given.relations (k + 1) (of_degree basis.weights (k + 1) basis.elements)) below.same_weights
+    each = λ k m lt. subst (IsModuleBasis (ideal_over p weights given.relations) free (k + 1)) (sym (h.each k m lt))
+        (part_is_basis (ideal_over p weights given.relations) free ms (k + 1) (of_degree basis.weights (k + 1) basis.elements)
+        (subst (λ (ws : List ℕ). IsReducedBasis (ideal_over p ws given.relations) (k + 1) (of_degree basis.weights (k + 1) basis.elements)) below.same_weights
         (below.reduced (k + 1) (omega arith) (omega (arith, lt, below.next)))));
   }
 
@@ -69,10 +70,10 @@ module _ (p : ℕ) (given : Presentation) (gens bound : ℕ) (basis : Elements) 
   pub tells_outside : (leads : List Lead) → IsIndexOf basis.elements leads → TellsOutside p given gens bound leads
   tells_outside leads is =
       let index = indexes_leads basis below.kept leads is in
-      let lower = lists_lower p weights given.relations st (bound + 1) basis below in
+      let lower = lists_lower (ideal_over p weights given.relations) st (bound + 1) basis below in
       record {
         setting = ms;
         says = λ d w le m.
-            let normal = outside_where_normal p weights free given.relations ms (bound + 1) basis.elements lower d w (omega (arith, le)) m in
+            let normal = outside_where_normal (ideal_over p weights given.relations) free ms (bound + 1) basis.elements lower d w (omega (arith, le)) m in
             (λ not. (index.says w).1 (normal.0 not), λ h. normal.1 ((index.says w).0 h));
       }

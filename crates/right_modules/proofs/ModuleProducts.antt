@@ -8,7 +8,7 @@ use Rattle.words.proofs.Weights.{degree_of-positive}
 use Rattle.free_poly.specs.declared.term.Term.{Term}
 use Rattle.free_poly.specs.Terms.{HasDegree, product}
 use Rattle.free_poly.proofs.Products.{HasOneDegree-from, HasResidues-product, IsPolynomial-product, UsesLetters-product, degree_of-round}
-use Rattle.ideal_laws.specs.Ideal.{IsMultiple, Multiple}
+use Rattle.ideal_laws.specs.Ideal.{Ideal, IsMultiple, Multiple}
 use Rattle.ideal_laws.specs.Laws.{IsRelation, IsSetting}
 use Rattle.ideal_laws.proofs.Products.{listed_product, product_listed, products}
 use Rattle.right_modules.specs.Laws.{IsModuleSetting}
@@ -54,46 +54,46 @@ alone weights aw d u (t ∷ r) v ne h k =
     none [] z = refl
     none (x ∷ w) z = absurd (omega (arith, z, degree_of-positive weights aw (x ∷ w) (λ is. cc is)))
 
-module _ (p : ℕ) (weights : List ℕ) (free : ℕ) (relations : List (List Term)) (ms : IsModuleSetting p weights free relations) (d : ℕ) where
-  abbrev st : IsSetting p weights relations
+module _ (ideal : Ideal) (free : ℕ) (ms : IsModuleSetting ideal free) (d : ℕ) where
+  abbrev st : IsSetting ideal
   st = ms.setting
 
-  positive : 0 < p
+  positive : 0 < ideal.modulus
   positive = omega (arith, st.modulus.two_or_more)
 
   -- the products that are in the module
   abbrev pub module_products : List (List Term)
-  module_products = filter (has_module_words free) (products weights relations d)
+  module_products = filter (has_module_words free) (products ideal.weights ideal.relations d)
 
   -- a product of the module with the words round its relation
   pub record IsModuleProduct (g : List Term) : Type 0 where
     pub multiple : Multiple
-    pub is_multiple : IsModuleMultiple p weights free relations d multiple
+    pub is_multiple : IsModuleMultiple ideal free d multiple
     pub is : g ≡ product multiple.left multiple.relation multiple.right
 
   -- the relation of a multiple is one
-  pub relation_of : (m : Multiple) → IsMultiple p weights relations d m → IsRelation p weights m.relation
-  relation_of m i = All-contains (IsRelation p weights) relations m.relation st.are_relations i.among
+  pub relation_of : (m : Multiple) → IsMultiple ideal d m → IsRelation ideal.modulus ideal.weights m.relation
+  relation_of m i = All-contains (IsRelation ideal.modulus ideal.weights) ideal.relations m.relation st.are_relations i.among
 
   -- a product that is listed is one of the module
   pub listed_module : (g : List Term) → Contains module_products g → IsModuleProduct g
   listed_module g m =
-      let s = filter-says (has_module_words free) (products weights relations d) g m in
-      let q = listed_product weights st.are_weights p positive relations d g s.0 in
+      let s = filter-says (has_module_words free) (products ideal.weights ideal.relations d) g m in
+      let q = listed_product ideal.weights st.are_weights ideal.modulus positive ideal.relations d g s.0 in
       let r = relation_of q.multiple q.is_multiple in
-      elim (module_sorted p weights free relations d q.multiple q.is_multiple r
-      (All-contains (IsShaped free) relations q.multiple.relation ms.shaped q.is_multiple.among)) [
+      elim (module_sorted ideal free d q.multiple q.is_multiple r
+      (All-contains (IsShaped free) ideal.relations q.multiple.relation ms.shaped q.is_multiple.among)) [
         | inl k ↦ record { multiple = q.multiple; is_multiple = k.1; is = q.is }
         | inr none ↦ absurd (first_passes free _ (some_product q.multiple.left q.multiple.relation q.multiple.right r.other)
             (sym (ap (has_module_words free) q.is) ∙ s.1) none)
       ]
 
   -- and each of the module is listed
-  pub module_listed : (m : Multiple) → IsModuleMultiple p weights free relations d m → Contains module_products (product m.left m.relation m.right)
+  pub module_listed : (m : Multiple) → IsModuleMultiple ideal free d m → Contains module_products (product m.left m.relation m.right)
   module_listed m i =
-      in_filter (has_module_words free) (products weights relations d) (product m.left m.relation m.right)
-      (product_listed weights st.are_weights p relations st.are_relations d m i.multiple)
-      (has_module_words-is free _ (multiple_words p weights free relations d m (relation_of m i.multiple) i))
+      in_filter (has_module_words free) (products ideal.weights ideal.relations d) (product m.left m.relation m.right)
+      (product_listed ideal.weights st.are_weights ideal.modulus ideal.relations st.are_relations d m i.multiple)
+      (has_module_words-is free _ (multiple_words ideal free d m (relation_of m i.multiple) i))
 
   words_some : (u : List ℕ) (r : List Term) (v : List ℕ) → All (λ t. t.word ≢ []) r → All (λ t. t.word ≢ []) (product u r v)
   words_some u r v h =
@@ -106,20 +106,20 @@ module _ (p : ℕ) (weights : List ℕ) (free : ℕ) (relations : List (List Ter
       middle (x ∷ u) w v e = cc e
 
   -- the products as relations
-  pub product_setting : IsSetting p weights module_products
+  pub product_setting : IsSetting (record ideal { relations = module_products })
   product_setting = record {
     modulus = st.modulus;
     are_weights = st.are_weights;
-    are_relations = All-from_members (IsRelation p weights) module_products (λ g m.
+    are_relations = All-from_members (IsRelation ideal.modulus ideal.weights) module_products (λ g m.
         let q = listed_module g m in
         let u = q.multiple.left in let f = q.multiple.relation in let v = q.multiple.right in
         let i = q.is_multiple.multiple in
         let r = relation_of q.multiple i in
-        subst (IsRelation p weights) (sym q.is) (record {
-          form = IsPolynomial-product weights st.are_weights u f v r.one_degree r.form;
-          residues = HasResidues-product p u f v r.residues;
-          letters = UsesLetters-product (length weights) u f v i.left_over i.right_over r.letters;
-          one_degree = HasOneDegree-from weights d (product u f v) i.degree;
+        subst (IsRelation ideal.modulus ideal.weights) (sym q.is) (record {
+          form = IsPolynomial-product ideal.weights st.are_weights u f v r.one_degree r.form;
+          residues = HasResidues-product ideal.modulus u f v r.residues;
+          letters = UsesLetters-product (length ideal.weights) u f v i.left_over i.right_over r.letters;
+          one_degree = HasOneDegree-from ideal.weights d (product u f v) i.degree;
           other = some_product u f v r.other;
           degree = words_some u f v r.degree;
         }));

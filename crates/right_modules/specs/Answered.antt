@@ -2,6 +2,7 @@
 use Rattle.std.specs.Prelude.{ℕ, ◌≡◌, ◌+◌, ◌-◌, ◌<◌, ◌≤◌, List, [], All, filter, length, slice_index, slice_index_or}
 use Rattle.std.specs.Prelude.{take}
 use Rattle.free_poly.specs.declared.term.Term.{Term}
+use Rattle.ideal_laws.specs.Ideal.{ideal_of}
 use Rattle.ideal_laws.specs.declared.engine.EngineFault.{EngineFault}
 use Rattle.ideal_laws.specs.declared.engine.EngineFault.TheVariants as engine
 use Rattle.ideal_laws.specs.declared.presentation.Presentation.{Presentation}
@@ -29,8 +30,7 @@ AreShaped given gens = All (IsShaped (free_letters given gens)) given.relations
 
 -- the reduced module basis of a degree
 abbrev pub IsModuleBasisOf : ℕ → Presentation → ℕ → ℕ → List (List Term) → Type 0
-IsModuleBasisOf p given gens d basis = IsModuleBasis p given.alphabet.weights (free_letters given gens)
-    given.relations d basis
+IsModuleBasisOf p given gens d basis = IsModuleBasis (ideal_of p given) (free_letters given gens) d basis
 
 -- degrees 1 to the bound, in order, each with its reduced module basis
 pub record AreModuleDegrees (p : ℕ) (given : Presentation) (gens bound : ℕ) (degrees : List ModuleDegree) : Type 0 where
@@ -51,7 +51,7 @@ pub record ArePartsUpto (free : ℕ) (basis : Elements) (bound : ℕ) (degrees :
 pub record AreModuleNumbers (p : ℕ) (given : Presentation) (gens bound : ℕ) (numbers : List ℕ) : Type 0 where
   pub size : length numbers ≡ bound + 1
   pub each : (d : ℕ) → d ≤ bound
-      → IsModuleCoefficient p given.alphabet.weights (free_letters given gens) given.relations d (slice_index numbers d)
+      → IsModuleCoefficient (ideal_of p given) (free_letters given gens) d (slice_index numbers d)
 
 -- the first relation, counted from 1, of neither kind
 pub record IsFirstOther (free : ℕ) (relations : List (List Term)) (relation : ℕ) : Type 0 where
@@ -62,8 +62,7 @@ pub record IsFirstOther (free : ℕ) (relations : List (List Term)) (relation : 
 
 -- the words are exactly the module words of the degree outside the leading words of the module
 abbrev pub AreModuleOutside : ℕ → Presentation → ℕ → ℕ → List (List ℕ) → Type 0
-AreModuleOutside p given gens d words =
-    AreOutside p given.alphabet.weights (free_letters given gens) given.relations d words
+AreModuleOutside p given gens d words = AreOutside (ideal_of p given) (free_letters given gens) d words
 
 -- the first degree with more of these than the limit, and the limit plus 1
 pub record IsFirstLarge (p : ℕ) (given : Presentation) (gens limit bound d value : ℕ) : Type 0 where

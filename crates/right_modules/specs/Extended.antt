@@ -4,6 +4,7 @@ use Rattle.std.specs.Prelude.{◌++◌, AllPairs, Contains, length}
 use Rattle.std.specs.Prelude.{slice_index_or}
 use Rattle.std.specs.List.{flat_map}
 use Rattle.words.specs.Words.{weight_of}
+use Rattle.ideal_laws.specs.Ideal.{ideal_of}
 use Rattle.ideal_laws.specs.declared.presentation.Presentation.{Presentation}
 use Rattle.lead_index.specs.declared.lead.Lead.{Lead}
 use Rattle.lead_index.specs.Leads.{IsFree}
@@ -27,10 +28,10 @@ pub record AreHeld (weights : List ℕ) (free : ℕ) (leads : List Lead) (d : �
 -- up to the bound the module words that are no leading words of the module are those in which no word of the index
 -- stands
 pub record TellsOutside (p : ℕ) (given : Presentation) (gens bound : ℕ) (leads : List Lead) : Type 0 where
-  pub setting : IsModuleSetting p given.alphabet.weights (free_letters given gens) given.relations
+  pub setting : IsModuleSetting (ideal_of p given) (free_letters given gens)
   pub says : (d : ℕ) (w : List ℕ) → d ≤ bound → Contains
       (module_words given.alphabet.weights (free_letters given gens) d) w
-      → (IsModuleLead p given.alphabet.weights (free_letters given gens) given.relations d w → ⊥) ↔ IsFree leads w
+      → (IsModuleLead (ideal_of p given) (free_letters given gens) d w → ⊥) ↔ IsFree leads w
 
 -- whether a word of the index stands in the word
 abbrev pub stands : List Lead → List ℕ → Bool

@@ -4,7 +4,7 @@ use Rattle.free_poly.specs.declared.term.Term.{Term}
 use Rattle.free_poly.specs.Poly.{lead_of}
 use Rattle.ideal_laws.specs.Basis.{IsReduced}
 use Rattle.ideal_laws.specs.Closure.{IsNormal}
-use Rattle.ideal_laws.specs.Ideal.{IsLeadingWord}
+use Rattle.ideal_laws.specs.Ideal.{Ideal, IsLeadingWord}
 use Rattle.ideal_laws.specs.Laws.{IsOne, IsSetting}
 use Rattle.ideal_laws.specs.Overlaps.{AreLower}
 use Rattle.right_modules.specs.Module.{IsModuleLead, IsModuleWord, IsShaped}
@@ -12,48 +12,41 @@ use Rattle.right_modules.specs.ModuleBasis.{IsModuleBasis, IsModuleReduced}
 use Rattle.right_modules.specs.ModuleDimension.{IsModuleCoefficient, module_words}
 
 -- what the laws are about: a setting whose relations are of the one kind or the other
-pub record IsModuleSetting (p : ℕ) (weights : List ℕ) (free : ℕ) (relations : List (List Term)) : Type 0 where
-  pub setting : IsSetting p weights relations
-  pub shaped : All (IsShaped free) relations
+pub record IsModuleSetting (ideal : Ideal) (free : ℕ) : Type 0 where
+  pub setting : IsSetting ideal
+  pub shaped : All (IsShaped free) ideal.relations
 
 -- the reduced elements of the module are those of the ideal whose leading word is a module word
 abbrev pub IsIdealPart : Type 0
-IsIdealPart = (p : ℕ) (weights : List ℕ) (free : ℕ) (relations : List (List Term))
-    → IsModuleSetting p weights free relations
-    → (d : ℕ) (f : List Term) → IsModuleReduced p weights free relations d f
-    ↔ (IsReduced p weights relations d f × ((w : List ℕ) → lead_of f ≡ Some w → IsModuleWord free w))
+IsIdealPart = (ideal : Ideal) (free : ℕ) → IsModuleSetting ideal free
+    → (d : ℕ) (f : List Term) → IsModuleReduced ideal free d f
+    ↔ (IsReduced ideal d f × ((w : List ℕ) → lead_of f ≡ Some w → IsModuleWord free w))
 
 -- each degree has exactly one reduced module basis
 abbrev pub HasOneModuleBasis : Type 0
-HasOneModuleBasis = (p : ℕ) (weights : List ℕ) (free : ℕ) (relations : List (List Term))
-    → IsModuleSetting p weights free relations
-    → (d : ℕ) → IsOne (IsModuleBasis p weights free relations d)
+HasOneModuleBasis = (ideal : Ideal) (free : ℕ) → IsModuleSetting ideal free
+    → (d : ℕ) → IsOne (IsModuleBasis ideal free d)
 
 -- a module word is a leading word of the module exactly where it is one of the ideal
 abbrev pub HasModuleLeads : Type 0
-HasModuleLeads = (p : ℕ) (weights : List ℕ) (free : ℕ) (relations : List (List Term))
-    → IsModuleSetting p weights free relations
-    → (d : ℕ) (w : List ℕ) → IsModuleWord free w
-    → IsModuleLead p weights free relations d w ↔ IsLeadingWord p weights relations d w
+HasModuleLeads = (ideal : Ideal) (free : ℕ) → IsModuleSetting ideal free → (d : ℕ) (w : List ℕ) → IsModuleWord free w
+    → IsModuleLead ideal free d w ↔ IsLeadingWord ideal d w
 
 -- a list of exactly the module words of a degree that are no leading words of the module, each once
-pub record AreOutside (p : ℕ) (weights : List ℕ) (free : ℕ)
-    (relations : List (List Term)) (d : ℕ) (words : List (List ℕ)) : Type 0 where
+pub record AreOutside (ideal : Ideal) (free d : ℕ) (words : List (List ℕ)) : Type 0 where
   pub exactly : (w : List ℕ) → Contains words w
-      ↔ (Contains (module_words weights free d) w × (IsModuleLead p weights free relations d w → ⊥))
+      ↔ (Contains (module_words ideal.weights free d) w × (IsModuleLead ideal free d w → ⊥))
   pub apart : AllPairs (λ v w. v ≢ w) words
 
 -- the coefficient is one number, that of the module words that are no leading words of the module
 abbrev pub CountsModule : Type 0
-CountsModule = (p : ℕ) (weights : List ℕ) (free : ℕ) (relations : List (List Term))
-    → IsModuleSetting p weights free relations
-    → (d : ℕ) (words : List (List ℕ)) → AreOutside p weights free relations d words
-    → (h : ℕ) → IsModuleCoefficient p weights free relations d h ↔ (h ≡ length words)
+CountsModule = (ideal : Ideal) (free : ℕ) → IsModuleSetting ideal free
+    → (d : ℕ) (words : List (List ℕ)) → AreOutside ideal free d words
+    → (h : ℕ) → IsModuleCoefficient ideal free d h ↔ (h ≡ length words)
 
 -- they are those in which no leading word stands of the reduced elements of some degrees, that of the word among them
 abbrev pub IsOutsideWhereNormal : Type 0
-IsOutsideWhereNormal = (p : ℕ) (weights : List ℕ) (free : ℕ) (relations : List (List Term))
-    → IsModuleSetting p weights free relations
-    → (e : ℕ) (G : List (List Term)) → AreLower p weights relations e G
-    → (d : ℕ) (w : List ℕ) → d < e → Contains (module_words weights free d) w
-    → (IsModuleLead p weights free relations d w → ⊥) ↔ IsNormal G w
+IsOutsideWhereNormal = (ideal : Ideal) (free : ℕ) → IsModuleSetting ideal free
+    → (e : ℕ) (G : List (List Term)) → AreLower ideal e G
+    → (d : ℕ) (w : List ℕ) → d < e → Contains (module_words ideal.weights free d) w
+    → (IsModuleLead ideal free d w → ⊥) ↔ IsNormal G w

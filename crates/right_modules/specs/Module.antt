@@ -5,7 +5,7 @@ use Rattle.words.specs.Words.{IsFactor, IsOver, IsProperPrefix, degree_of}
 use Rattle.free_poly.specs.declared.term.Term.{Term}
 use Rattle.free_poly.specs.Terms.{IsSame, UsesLetters}
 use Rattle.free_poly.specs.Poly.{lead_of}
-use Rattle.ideal_laws.specs.Ideal.{IsElement, IsLeadingWord, IsMultiple, Multiple, terms_of}
+use Rattle.ideal_laws.specs.Ideal.{Ideal, IsElement, IsLeadingWord, IsMultiple, Multiple, terms_of}
 
 -- a generator, and then letters that are none
 abbrev pub IsModuleWord : ℕ → List ℕ → Type 0
@@ -44,33 +44,30 @@ abbrev pub ideal_relations : ℕ → List (List Term) → List (List Term)
 ideal_relations free relations = filter (has_free_words free) relations
 
 -- of degree d: a module relation with a free word behind it, or an ideal relation between a module word and a free word
-pub record IsModuleMultiple (p : ℕ) (weights : List ℕ) (free : ℕ)
-    (relations : List (List Term)) (d : ℕ) (m : Multiple) : Type 0 where
-  pub multiple : IsMultiple p weights relations d m
+pub record IsModuleMultiple (ideal : Ideal) (free d : ℕ) (m : Multiple) : Type 0 where
+  pub multiple : IsMultiple ideal d m
   pub before : ((m.left ≡ []) × IsModuleRelation free m.relation)
       ⊎ (IsModuleWord free m.left × IsIdealRelation free m.relation)
   pub behind : IsOver free m.right
 
 -- K(d): f is the sum of some of these
-pub record IsInModule (p : ℕ) (weights : List ℕ) (free : ℕ)
-    (relations : List (List Term)) (d : ℕ) (f : List Term) : Type 0 where
-  pub element : IsElement p weights d f
+pub record IsInModule (ideal : Ideal) (free d : ℕ) (f : List Term) : Type 0 where
+  pub element : IsElement ideal.modulus ideal.weights d f
   pub multiples : List Multiple
-  pub each : All (IsModuleMultiple p weights free relations d) multiples
-  pub sum : IsSame p f (flat_map terms_of multiples)
+  pub each : All (IsModuleMultiple ideal free d) multiples
+  pub sum : IsSame ideal.modulus f (flat_map terms_of multiples)
 
 -- LK(d): the leading word of a member other than 0
-pub record IsModuleLead (p : ℕ) (weights : List ℕ) (free : ℕ)
-    (relations : List (List Term)) (d : ℕ) (w : List ℕ) : Type 0 where
+pub record IsModuleLead (ideal : Ideal) (free d : ℕ) (w : List ℕ) : Type 0 where
   pub member : List Term
-  pub inside : IsInModule p weights free relations d member
+  pub inside : IsInModule ideal free d member
   pub lead : lead_of member ≡ Some w
 
 -- a leading word of the module, no proper prefix of which is one; and no factor behind its generator is a leading word
 -- of the ideal of the ideal relations
-pub record IsModuleMinimal (p : ℕ) (weights : List ℕ) (free : ℕ)
-    (relations : List (List Term)) (w : List ℕ) : Type 0 where
-  pub leading : IsModuleLead p weights free relations (degree_of weights w) w
-  pub no_prefix : (v : List ℕ) → IsProperPrefix v w → IsModuleLead p weights free relations (degree_of weights v) v → ⊥
+pub record IsModuleMinimal (ideal : Ideal) (free : ℕ) (w : List ℕ) : Type 0 where
+  pub leading : IsModuleLead ideal free (degree_of ideal.weights w) w
+  pub no_prefix : (v : List ℕ) → IsProperPrefix v w → IsModuleLead ideal free (degree_of ideal.weights v) v → ⊥
   pub no_factor : (x : ℕ) (u v : List ℕ) → w ≡ x ∷ u → IsFactor v u
-      → IsLeadingWord p weights (ideal_relations free relations) (degree_of weights v) v → ⊥
+      → IsLeadingWord (record ideal { relations = ideal_relations free ideal.relations }) (degree_of ideal.weights v) v
+      → ⊥

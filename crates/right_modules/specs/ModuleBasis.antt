@@ -4,6 +4,7 @@ use Rattle.free_poly.specs.declared.term.Term.{Term}
 use Rattle.free_poly.specs.Poly.{IsMonic, lead_of}
 use Rattle.ideal_laws.specs.Basis.{HasGreaterLead, below_lead}
 use Rattle.right_modules.specs.Module.{IsInModule, IsModuleLead, IsModuleMinimal, is_module_word}
+use Rattle.ideal_laws.specs.Ideal.{Ideal}
 
 -- whether the first word is a module word
 abbrev pub leads_module : ℕ → List Term → Bool
@@ -11,15 +12,13 @@ leads_module free [] = false
 leads_module free (t ∷ f) = is_module_word free t.word
 
 -- monic, with a minimal leading word, and no other word is a leading word of the module
-pub record IsModuleReduced (p : ℕ) (weights : List ℕ) (free : ℕ)
-    (relations : List (List Term)) (d : ℕ) (f : List Term) : Type 0 where
-  pub inside : IsInModule p weights free relations d f
+pub record IsModuleReduced (ideal : Ideal) (free d : ℕ) (f : List Term) : Type 0 where
+  pub inside : IsInModule ideal free d f
   pub monic : IsMonic f
-  pub minimal : (w : List ℕ) → lead_of f ≡ Some w → IsModuleMinimal p weights free relations w
-  pub others : All (λ t. IsModuleLead p weights free relations d t.word → ⊥) (below_lead f)
+  pub minimal : (w : List ℕ) → lead_of f ≡ Some w → IsModuleMinimal ideal free w
+  pub others : All (λ t. IsModuleLead ideal free d t.word → ⊥) (below_lead f)
 
 -- exactly the reduced members, by falling leading word
-pub record IsModuleBasis (p : ℕ) (weights : List ℕ) (free : ℕ)
-    (relations : List (List Term)) (d : ℕ) (basis : List (List Term)) : Type 0 where
-  pub exactly : (f : List Term) → Contains basis f ↔ IsModuleReduced p weights free relations d f
+pub record IsModuleBasis (ideal : Ideal) (free d : ℕ) (basis : List (List Term)) : Type 0 where
+  pub exactly : (f : List Term) → Contains basis f ↔ IsModuleReduced ideal free d f
   pub falling : AllPairs HasGreaterLead basis

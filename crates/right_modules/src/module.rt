@@ -1,5 +1,6 @@
 ghost use Rattle.std.specs.Prelude.{◌≡◌, ◌≤◌, ◌⊎◌, ◌↔◌, ℕ, All, IfOk, IsErrOf, OnOk, length};
 ghost use Rattle.free_poly.specs.Terms.{HasResidues};
+ghost use Rattle.ideal_laws.specs.Ideal.{ideal_of};
 ghost use Rattle.ideal_laws.specs.declared.account.Account.{Account};
 ghost use Rattle.ideal_laws.specs.declared.limits.LimitKind.{LimitKind};
 ghost use Rattle.ideal_laws.specs.declared.limits.LimitKind.TheVariants.{NormalWords};
@@ -103,19 +104,16 @@ pub fn module_basis<R: Threads + Sync, E: DegreeEngine>(
     ensures numbers { IfOk result (λ m. AreModuleNumbers field.now presentation.now gens bound m.numbers) }
     ensures few { IfOk result (λ m. All (λ n. n ≤ limits.now.normal_words) m.numbers) }
     ensures shaped { OnOk result (AreShaped presentation.now gens) }
-    ensures within { OnOk result (NonePassesUpto field.now presentation.now.alphabet.weights
-        presentation.now.relations (E.kinds engine.old) bound) }
+    ensures within { OnOk result (NonePassesUpto (ideal_of field.now presentation.now) (E.kinds engine.old) bound) }
 
     ensures shape { (relation : ℕ) → IsErrOf result (ModuleFault.Shape relation) →
         IsFirstOther (free_letters presentation.now gens) presentation.now.relations relation }
 
     // The shapes are asked first, then the engine's limits, and then the numbers of normal module words.
     ensures limit { (kind : LimitKind) (degree value : ℕ) → IsErrOf result (ModuleFault.Limit kind degree value)
-        → AreShaped presentation.now gens
-        × (IsFirstRefused field.now presentation.now.alphabet.weights presentation.now.relations
+        → AreShaped presentation.now gens × (IsFirstRefused (ideal_of field.now presentation.now)
         (E.kinds engine.old) bound kind degree value
-        ⊎ (NonePassesUpto field.now presentation.now.alphabet.weights presentation.now.relations
-        (E.kinds engine.old) bound × (kind ≡ NormalWords)
+        ⊎ (NonePassesUpto (ideal_of field.now presentation.now) (E.kinds engine.old) bound × (kind ≡ NormalWords)
         × IsFirstLarge field.now presentation.now gens limits.now.normal_words bound degree value)) }
 
     ensures kinds { E.kinds engine.new ≡ E.kinds engine.old }

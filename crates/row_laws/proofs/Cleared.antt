@@ -17,6 +17,7 @@ use Rattle.linear_algebra.specs.Mod.{Residue}
 use Rattle.linear_algebra.proofs.Algebra.{add_left_comm, mul_neg, mul_zero, zero_add, IsInSpan-add, IsInSpan-one, IsInSpan-scaled, IsInSpan-zero}
 use Rattle.linear_algebra.proofs.Elimination.{cleared, cleared_here}
 use Rattle.ideal_laws.specs.Closure.{HasReducer, IsReducer}
+use Rattle.ideal_laws.specs.Ideal.{Ideal}
 use Rattle.ideal_laws.specs.Laws.{IsSetting}
 use Rattle.ideal_laws.specs.Overlaps.{AreLower}
 use Rattle.ideal_laws.specs.Quantities.{reducers_in, contested_words}
@@ -26,19 +27,18 @@ use Rattle.row_laws.proofs.Parts as parts
 use Rattle.row_laws.proofs.Reducers.{reducer_above, reducer_there}
 use Rattle.row_laws.proofs.Spread.{spread}
 
-module _ (p : ℕ) (weights : List ℕ) (relations : List (List Term)) (st : IsSetting p weights relations) (d : ℕ) (G : List (List Term))
-    (lower : AreLower p weights relations d G) where
+module _ (ideal : Ideal) (st : IsSetting ideal) (d : ℕ) (G : List (List Term)) (lower : AreLower ideal d G) where
   abbrev K : Field
-  K = vectors.K p st.modulus
+  K = vectors.K ideal.modulus st.modulus
 
   abbrev V : Type 0
-  V = List ℕ → Residue p
+  V = List ℕ → Residue ideal.modulus
 
   abbrev N : Type 0
-  N = ℕ → Residue p
+  N = ℕ → Residue ideal.modulus
 
   abbrev vec : List Term → V
-  vec f = vectors.vector_of p st.modulus f
+  vec f = vectors.vector_of ideal.modulus st.modulus f
 
   -- 0 at all other words
   abbrev pub IsOn : List (List ℕ) → V → Type 0
@@ -47,8 +47,8 @@ module _ (p : ℕ) (weights : List ℕ) (relations : List (List Term)) (st : IsS
   -- words of the degree, whose reducers are on them
   pub record AreClosedWords (xs : List (List ℕ)) : Type 0 where
     pub falling : AllPairs IsLetterwiseGreater xs
-    pub over : (x : List ℕ) → Contains xs x → IsOver (length weights) x
-    pub degree : (x : List ℕ) → Contains xs x → degree_of weights x ≡ d
+    pub over : (x : List ℕ) → Contains xs x → IsOver (length ideal.weights) x
+    pub degree : (x : List ℕ) → Contains xs x → degree_of ideal.weights x ≡ d
     pub reducers_on : (x : List ℕ) (g : List Term) → Contains xs x → IsReducer G x g → IsOn xs (vec g)
 
   rest_closed : (x : List ℕ) (xs : List (List ℕ)) → AreClosedWords (x ∷ xs) → AreClosedWords xs
@@ -60,7 +60,7 @@ module _ (p : ℕ) (weights : List ℕ) (relations : List (List Term)) (st : IsS
       | inr none ↦ h.reducers_on y g (Contains-more x xs y m) r z none
       | inl there ↦ elim (Contains-cases x xs z there) [
         | inr later ↦ absurd (off later)
-        | inl is ↦ reducer_above p weights relations st d G lower y g (h.over y (Contains-more x xs y m)) (h.degree y (Contains-more x xs y m)) r z
+        | inl is ↦ reducer_above ideal st d G lower y g (h.over y (Contains-more x xs y m)) (h.degree y (Contains-more x xs y m)) r z
             (subst (λ (u : List ℕ). IsLetterwiseGreater u y) is (All-contains (IsLetterwiseGreater x) xs y
             (AllPairs-first IsLetterwiseGreater x xs h.falling) m))
       ]
@@ -68,21 +68,21 @@ module _ (p : ℕ) (weights : List ℕ) (relations : List (List Term)) (st : IsS
   }
 
   abbrev pub IsListedReducer : List (Option (List Term)) → V → Type 0
-  IsListedReducer = parts.IsListedReducer p st.modulus
+  IsListedReducer = parts.IsListedReducer ideal.modulus st.modulus
 
   -- entries at the contested columns, and a sum of multiples of reducers
   pub record IsLeft (xs : List (List ℕ)) (rs : List (Option (List Term))) (v : V) : Type 0 where
     pub entries : N
     pub rest : V
     pub spanned : IsInSpan K (List ℕ) (IsListedReducer rs) rest
-    pub sum : (y : List ℕ) → v y ≡ K.add (spread p st.modulus (contested_words xs rs) entries y) (rest y)
+    pub sum : (y : List ℕ) → v y ≡ K.add (spread ideal.modulus st.modulus (contested_words xs rs) entries y) (rest y)
 
-  with_first : Residue p → N → N
+  with_first : Residue ideal.modulus → N → N
   with_first a u zero = a
   with_first a u (suc k) = u k
 
-  spread-first : (x : List ℕ) (ws : List (List ℕ)) (a : Residue p) (u : N) (y : List ℕ) →
-      spread p st.modulus (x ∷ ws) (with_first a u) y ≡ K.add (cond (bytes_eq x y) a K.zero) (spread p st.modulus ws u y)
+  spread-first : (x : List ℕ) (ws : List (List ℕ)) (a : Residue ideal.modulus) (u : N) (y : List ℕ) →
+      spread ideal.modulus st.modulus (x ∷ ws) (with_first a u) y ≡ K.add (cond (bytes_eq x y) a K.zero) (spread ideal.modulus st.modulus ws u y)
   unfolding with_first
   spread-first x ws a u y = refl
 
@@ -132,8 +132,8 @@ module _ (p : ℕ) (weights : List ℕ) (relations : List (List Term)) (st : IsS
     entries = with_first (v x) r.entries;
     rest = r.rest;
     spanned = r.spanned;
-    sum = λ y. sym (ap (λ (n : Residue p). K.add n (r.rest y)) (spread-first x (contested_words xs rs) (v x) r.entries y)
-        ∙ K.add_assoc (cond (bytes_eq x y) (v x) K.zero) (spread p st.modulus (contested_words xs rs) r.entries y) (r.rest y)
+    sum = λ y. sym (ap (λ (n : Residue ideal.modulus). K.add n (r.rest y)) (spread-first x (contested_words xs rs) (v x) r.entries y)
+        ∙ K.add_assoc (cond (bytes_eq x y) (v x) K.zero) (spread ideal.modulus st.modulus (contested_words xs rs) r.entries y) (r.rest y)
         ∙ ap (K.add (cond (bytes_eq x y) (v x) K.zero)) (sym (r.sum y)) ∙ here_and_elsewhere x v y);
   }
 
@@ -141,12 +141,12 @@ module _ (p : ℕ) (weights : List ℕ) (relations : List (List Term)) (st : IsS
   cleared-on : (x : List ℕ) (xs : List (List ℕ)) (g : List Term) → IsReducer G x g → AreClosedWords (x ∷ xs) → (v : V) → IsOn (x ∷ xs) v →
       IsOn xs (cleared K (List ℕ) x (vec g) v)
   cleared-on x xs g r h v on y off = elim (listed (x ∷ xs) y) [
-    | inr none ↦ ap₂ (λ (m n : Residue p). K.add m (K.mul (K.neg (v x)) n)) (on y none) (h.reducers_on x g first r y none)
+    | inr none ↦ ap₂ (λ (m n : Residue ideal.modulus). K.add m (K.mul (K.neg (v x)) n)) (on y none) (h.reducers_on x g first r y none)
         ∙ zero_add K (K.mul (K.neg (v x)) K.zero) ∙ mul_zero K (K.neg (v x))
     | inl there ↦ elim (Contains-cases x xs y there) [
       | inr later ↦ absurd (off later)
       | inl is ↦ ap (cleared K (List ℕ) x (vec g) v) (sym is) ∙ cleared_here K (List ℕ) (v x) (vec g x)
-          (reducer_there p weights relations st d G lower x g (h.over x first) (h.degree x first) r)
+          (reducer_there ideal st d G lower x g (h.over x first) (h.degree x first) r)
     ]
   ]
     where
@@ -163,7 +163,7 @@ module _ (p : ℕ) (weights : List ℕ) (relations : List (List Term)) (st : IsS
         (IsInSpan-one K (List ℕ) (IsListedReducer (Some g ∷ rs)) (vec g) (g, Contains-first g (reducers_in rs), refl)))
         (more_listed g rs r.rest r.spanned);
     sum = λ y. sym (regained x (vec g) v y) ∙ ap (K.add (K.mul (v x) (vec g y))) (r.sum y)
-        ∙ add_left_comm K (K.mul (v x) (vec g y)) (spread p st.modulus (contested_words xs rs) r.entries y) (r.rest y);
+        ∙ add_left_comm K (K.mul (v x) (vec g y)) (spread ideal.modulus st.modulus (contested_words xs rs) r.entries y) (r.rest y);
   }
 
   pub left_of : (xs : List (List ℕ)) (rs : List (Option (List Term))) → AllZip (HasReducer G) xs rs → AreClosedWords xs → (v : V) → IsOn xs v → IsLeft xs rs v

@@ -11,6 +11,7 @@ use Rattle.words.proofs.Members.{AllPairs-first, AllPairs-nil, AllPairs-rest, Al
 use Rattle.words.proofs.Members.{Contains-flat_map_cases, Contains-map_cases, Contains-more, Contains-none}
 use Rattle.free_poly.specs.declared.term.Term.{Term}
 use Rattle.ideal_laws.specs.Closure.{HasReducer, IsInClosure, IsNormal, IsReducer, brought, given}
+use Rattle.ideal_laws.specs.Ideal.{Ideal}
 use Rattle.ideal_laws.specs.Laws.{IsSetting}
 use Rattle.ideal_laws.specs.Overlaps.{AreLower}
 use Rattle.ideal_laws.specs.Quantities.{AreRows, reducers_in, words_of, contested_words}
@@ -63,23 +64,22 @@ contested_falling (x ∷ xs) (None ∷ rs) h =
     (contested_falling xs rs (AllPairs-rest IsLetterwiseGreater x xs h))
 contested_falling (x ∷ xs) (Some g ∷ rs) h = contested_falling xs rs (AllPairs-rest IsLetterwiseGreater x xs h)
 
-module _ (p : ℕ) (weights : List ℕ) (relations : List (List Term)) (st : IsSetting p weights relations) (d : ℕ) (G : List (List Term))
-    (lower : AreLower p weights relations d G) where
-  pub in_degree : (w : List ℕ) → IsOver (length weights) w → degree_of weights w ≡ d → Contains (words_of_degree weights d) w
-  in_degree w over e = subst (λ (n : ℕ). Contains (words_of_degree weights n) w) e (listed_word weights st.are_weights w over)
+module _ (ideal : Ideal) (st : IsSetting ideal) (d : ℕ) (G : List (List Term)) (lower : AreLower ideal d G) where
+  pub in_degree : (w : List ℕ) → IsOver (length ideal.weights) w → degree_of ideal.weights w ≡ d → Contains (words_of_degree ideal.weights d) w
+  in_degree w over e = subst (λ (n : ℕ). Contains (words_of_degree ideal.weights n) w) e (listed_word ideal.weights st.are_weights w over)
 
   -- each word of the closure of the rows has the degree
-  pub closure_word : (rows : List (List Term)) → AreRows p weights relations G d rows → (w : List ℕ) → IsInClosure G (words_of rows) w →
-      Contains (words_of_degree weights d) w
+  pub closure_word : (rows : List (List Term)) → AreRows ideal G d rows → (w : List ℕ) → IsInClosure G (words_of rows) w →
+      Contains (words_of_degree ideal.weights d) w
   closure_word rows are w (given v m) =
       let t = Contains-map_cases (λ (s : Term). s.word) (flat_map (λ f. f) rows) w m in
       let f = Contains-flat_map_cases (λ f. f) rows t.0 t.1 in
-      subst (Contains (words_of_degree weights d)) t.2 (member_word p weights relations st d f.0
-      (row_member p weights relations st d G lower rows are f.0 f.1) t.0 f.2)
+      subst (Contains (words_of_degree ideal.weights d)) t.2 (member_word ideal st d f.0
+      (row_member ideal st d G lower rows are f.0 f.1) t.0 f.2)
   closure_word rows are w (brought v u reducer h r m) =
-      let says = words_of_degree-says weights st.are_weights d v (closure_word rows are v h) in
-      let e = (reducer_inside p weights relations st d G lower v reducer says.0 says.1 r).element in
+      let says = words_of_degree-says ideal.weights st.are_weights d v (closure_word rows are v h) in
+      let e = (reducer_inside ideal st d G lower v reducer says.0 says.1 r).element in
       let t = Contains-map_cases (λ (s : Term). s.word) reducer w m in
-      subst (Contains (words_of_degree weights d)) t.2
-      (in_degree t.0.word (All-contains (λ (s : Term). IsOver (length weights) s.word) reducer t.0 e.letters t.1)
-      (All-contains (λ (s : Term). degree_of weights s.word ≡ d) reducer t.0 e.degree t.1))
+      subst (Contains (words_of_degree ideal.weights d)) t.2
+      (in_degree t.0.word (All-contains (λ (s : Term). IsOver (length ideal.weights) s.word) reducer t.0 e.letters t.1)
+      (All-contains (λ (s : Term). degree_of ideal.weights s.word ≡ d) reducer t.0 e.degree t.1))

@@ -16,6 +16,7 @@ use Rattle.linear_algebra.specs.Mod.{Residue}
 use Rattle.linear_algebra.proofs.Algebra.{add_left_comm, mul_neg, zero_add, IsInSpan-add, IsInSpan-scaled}
 use Rattle.linear_algebra.proofs.ModField.{same_residue}
 use Rattle.ideal_laws.specs.Closure.{IsReducer}
+use Rattle.ideal_laws.specs.Ideal.{Ideal}
 use Rattle.ideal_laws.specs.Laws.{IsSetting}
 use Rattle.ideal_laws.specs.Overlaps.{AreLower}
 use Rattle.ideal_laws.specs.Quantities.{AreClosed, reducers_in, contested_words}
@@ -52,61 +53,62 @@ vector_of-less p fm f h y =
     ∙ ap ((vectors.K p fm).add (vectors.vector_of p fm f y)) (vector_of-scaled p fm (p - 1) h y
     ∙ ap (λ (n : Residue p). (vectors.K p fm).mul n (vectors.vector_of p fm h y)) neg)
 
-module _ (p : ℕ) (weights : List ℕ) (relations : List (List Term)) (st : IsSetting p weights relations) (d : ℕ) (G : List (List Term))
-    (lower : AreLower p weights relations d G)
+module _ (ideal : Ideal) (st : IsSetting ideal) (d : ℕ) (G : List (List Term)) (lower : AreLower ideal d G)
     (rows : List (List Term)) (columns : List (List ℕ)) (reducers : List (Option (List Term)))
-    (closed : AreClosed p weights relations G d rows columns reducers) where
+    (closed : AreClosed ideal G d rows columns reducers) where
   abbrev K : Field
-  K = vectors.K p st.modulus
+  K = vectors.K ideal.modulus st.modulus
 
   abbrev V : Type 0
-  V = List ℕ → Residue p
+  V = List ℕ → Residue ideal.modulus
 
   abbrev vec : List Term → V
-  vec f = vectors.vector_of p st.modulus f
+  vec f = vectors.vector_of ideal.modulus st.modulus f
 
   abbrev contested : List (List ℕ)
   contested = contested_words columns reducers
 
   abbrev IsOwnReducer : V → Type 0
-  IsOwnReducer = IsReducerOf p weights relations st d G lower (words_of_degree weights d)
+  IsOwnReducer = IsReducerOf ideal st d G lower (words_of_degree ideal.weights d)
 
   reducer_listed : (g : List Term) → Contains (reducers_in reducers) g → IsOwnReducer (vec g)
   reducer_listed g m =
       let r = reducer_says G columns reducers closed.are_reducers g m in
-      let there = closure_word p weights relations st d G lower rows closed.are_rows r.0 ((closed.are_columns.exactly r.0).0 r.1) in
-      let says = words_of_degree-says weights st.are_weights d r.0 there in
+      let there = closure_word ideal st d G lower rows closed.are_rows r.0 ((closed.are_columns.exactly r.0).0 r.1) in
+      let says = words_of_degree-says ideal.weights st.are_weights d r.0 there in
       record { word = r.0; within = there; over = says.0; degree = says.1; reducer = g; is_reducer = r.2; is = refl }
 
   -- residues at contested columns are 0 at a word that has a reducer
-  pub zero_at_reducible : (e : ℕ → Residue p) (x : List ℕ) (g : List Term) → IsReducer G x g → spread p st.modulus contested e x ≡ K.zero
-  zero_at_reducible e x g r = spread-absent p st.modulus contested e x (λ m.
+  pub zero_at_reducible : (e : ℕ → Residue ideal.modulus) (x : List ℕ) (g : List Term) → IsReducer G x g
+      → spread ideal.modulus st.modulus contested e x ≡ K.zero
+  zero_at_reducible e x g r = spread-absent ideal.modulus st.modulus contested e x (λ m.
       let normal = (contested_says G columns reducers closed.are_reducers x m).1 in
       normal r.element r.lead r.at r.among r.is_lead r.here)
 
   -- what a row has beside its contested row
-  module _ (f : List Term) (c : List ℕ) (h : IsContestedRow p columns reducers f c) where
+  module _ (f : List Term) (c : List ℕ) (h : IsContestedRow ideal.modulus columns reducers f c) where
     abbrev pub left : List Term
-    left = f ++ scaled (p - 1) (element_on contested c)
+    left = f ++ scaled (ideal.modulus - 1) (element_on contested c)
 
     pub left_spanned : IsInSpan K (List ℕ) IsOwnReducer (vec left)
     left_spanned = record {
-      parts = map (vector_part p weights relations st d) h.rest.parts;
-      each = All-map (λ c. IsOwnReducer c.1) (vector_part p weights relations st d) h.rest.parts (λ k c within. reducer_listed _ (h.rest.each k c within).1);
-      sum = λ w. same_vectors p st.modulus left _ h.rest.sum w ∙ vector_of-parts p weights relations st d h.rest.parts w;
+      parts = map (vector_part ideal st d) h.rest.parts;
+      each = All-map (λ c. IsOwnReducer c.1) (vector_part ideal st d) h.rest.parts (λ k c within. reducer_listed _ (h.rest.each k c within).1);
+      sum = λ w. same_vectors ideal.modulus st.modulus left _ h.rest.sum w ∙ vector_of-parts ideal st d h.rest.parts w;
     }
 
-    pub row_sum : (y : List ℕ) → vec f y ≡ K.add (spread p st.modulus contested (vector p st.modulus c) y) (vec left y)
+    pub row_sum : (y : List ℕ) → vec f y ≡ K.add (spread ideal.modulus st.modulus contested (vector ideal.modulus st.modulus c) y) (vec left y)
     row_sum y =
         let element = element_on contested c in
-        let rest = vector_of-less p st.modulus f element y in
-        sym (ap₂ K.add (sym (spread-element p st.modulus contested c y)) rest ∙ less_back K (vec element y) (vec f y))
+        let rest = vector_of-less ideal.modulus st.modulus f element y in
+        sym (ap₂ K.add (sym (spread-element ideal.modulus st.modulus contested c y)) rest ∙ less_back K (vec element y) (vec f y))
 
   -- two lists that one row leaves: what the row has beside them differs by a sum of reducers that is 0 at reducible
   -- words, so at all
-  module _ (f : List Term) (a b : List ℕ) (ha : IsContestedRow p columns reducers f a) (hb : IsContestedRow p columns reducers f b) where
+  module _ (f : List Term) (a b : List ℕ) (ha : IsContestedRow ideal.modulus columns reducers f a)
+      (hb : IsContestedRow ideal.modulus columns reducers f b) where
     abbrev onto : List ℕ → V
-    onto r = spread p st.modulus contested (vector p st.modulus r)
+    onto r = spread ideal.modulus st.modulus contested (vector ideal.modulus st.modulus r)
 
     abbrev gap : V
     gap y = K.add (vec (left f a ha) y) (K.mul (K.neg K.one) (vec (left f b hb) y))
@@ -115,33 +117,33 @@ module _ (p : ℕ) (weights : List ℕ) (relations : List (List Term)) (st : IsS
     gap_spanned = IsInSpan-add K (List ℕ) IsOwnReducer (vec (left f a ha)) (λ y. K.mul (K.neg K.one) (vec (left f b hb) y)) (left_spanned f a ha)
         (IsInSpan-scaled K (List ℕ) IsOwnReducer (K.neg K.one) (vec (left f b hb)) (left_spanned f b hb))
 
-    alone : (c : List ℕ) (h : IsContestedRow p columns reducers f c) (x : List ℕ) (g : List Term) → IsReducer G x g → vec (left f c h) x ≡ vec f x
-    alone c h x g r = sym (row_sum f c h x ∙ ap (λ (n : Residue p). K.add n (vec (left f c h) x))
-        (zero_at_reducible (vector p st.modulus c) x g r) ∙ zero_add K (vec (left f c h) x))
+    alone : (c : List ℕ) (h : IsContestedRow ideal.modulus columns reducers f c) (x : List ℕ) (g : List Term) → IsReducer G x g → vec (left f c h) x ≡ vec f x
+    alone c h x g r = sym (row_sum f c h x ∙ ap (λ (n : Residue ideal.modulus). K.add n (vec (left f c h) x))
+        (zero_at_reducible (vector ideal.modulus st.modulus c) x g r) ∙ zero_add K (vec (left f c h) x))
 
     none_at_reducible : (x : List ℕ) (g : List Term) → IsReducer G x g → gap x ≡ K.zero
-    none_at_reducible x g r = ap₂ (λ (m n : Residue p). K.add m (K.mul (K.neg K.one) n)) (alone a ha x g r) (alone b hb x g r)
+    none_at_reducible x g r = ap₂ (λ (m n : Residue ideal.modulus). K.add m (K.mul (K.neg K.one) n)) (alone a ha x g r) (alone b hb x g r)
         ∙ ap (K.add (vec f x)) (minus K (vec f x)) ∙ K.add_neg (vec f x)
 
-    same_at : (k : ℕ) → k < length contested → vector p st.modulus a k ≡ vector p st.modulus b k
+    same_at : (k : ℕ) → k < length contested → vector ideal.modulus st.modulus a k ≡ vector ideal.modulus st.modulus b k
     same_at k lt =
         let w = get_or contested k [] in
         let falling = contested_falling columns reducers closed.are_columns.falling in
         let says = contested_says G columns reducers closed.are_reducers w (Contains-get_or contested k [] lt) in
-        let there = closure_word p weights relations st d G lower rows closed.are_rows w ((closed.are_columns.exactly w).0 says.0) in
-        let none : gap w ≡ K.zero = zero_from_normal p weights relations st d G lower (words_of_degree weights d)
-        (words_of_degree-falling weights st.are_weights d) gap gap_spanned w there says.1
+        let there = closure_word ideal st d G lower rows closed.are_rows w ((closed.are_columns.exactly w).0 says.0) in
+        let none : gap w ≡ K.zero = zero_from_normal ideal st d G lower (words_of_degree ideal.weights d)
+        (words_of_degree-falling ideal.weights st.are_weights d) gap gap_spanned w there says.1
         (λ x g r greater. none_at_reducible x g r) w (inl refl) in
         let rests : vec (left f a ha) w ≡ vec (left f b hb) w = sym (less_back K (vec (left f b hb) w) (vec (left f a ha) w))
         ∙ ap (K.add (vec (left f b hb) w)) none ∙ K.add_zero (vec (left f b hb) w) in
         let both : onto a w ≡ onto b w =
-        sym (back_less K (onto a w) (vec (left f a ha) w)) ∙ ap₂ (λ (n r : Residue p). K.add n (K.mul (K.neg K.one) r))
+        sym (back_less K (onto a w) (vec (left f a ha) w)) ∙ ap₂ (λ (n r : Residue ideal.modulus). K.add n (K.mul (K.neg K.one) r))
         (sym (row_sum f a ha w) ∙ row_sum f b hb w) rests ∙ back_less K (onto b w) (vec (left f b hb) w) in
-        sym (spread-at p st.modulus contested (vector p st.modulus a) k falling lt) ∙ both
-        ∙ spread-at p st.modulus contested (vector p st.modulus b) k falling lt
+        sym (spread-at ideal.modulus st.modulus contested (vector ideal.modulus st.modulus a) k falling lt) ∙ both
+        ∙ spread-at ideal.modulus st.modulus contested (vector ideal.modulus st.modulus b) k falling lt
 
     pub one_row : a ≡ b
     one_row = ext_get_or 0 a b (ha.is_row.size ∙ sym hb.is_row.size) (λ k within.
         let lt : k < length contested = omega (arith, within, ha.is_row.size) in
-        sym (mod-eq_of_lt (ha.is_row.residues k 0 within)) ∙ ap (λ (x : Residue p). x.0) (same_at k lt)
+        sym (mod-eq_of_lt (ha.is_row.residues k 0 within)) ∙ ap (λ (x : Residue ideal.modulus). x.0) (same_at k lt)
         ∙ mod-eq_of_lt (hb.is_row.residues k 0 (omega (arith, lt, hb.is_row.size))))

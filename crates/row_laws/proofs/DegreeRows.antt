@@ -20,6 +20,7 @@ use Rattle.linear_algebra.proofs.Elimination.{same_span}
 use Rattle.words.specs.Words.{degree_of}
 use Rattle.ideal_laws.specs.Closure.{IsObstruction, Overlap, obstruction_row}
 use Rattle.ideal_laws.specs.Engine.{of_degree}
+use Rattle.ideal_laws.specs.Ideal.{Ideal}
 use Rattle.ideal_laws.specs.Laws.{IsRelation, IsSetting, relation}
 use Rattle.ideal_laws.specs.Overlaps.{AreLower}
 use Rattle.ideal_laws.specs.Quantities.{AreRows, IsRowOf}
@@ -84,85 +85,87 @@ term_there p fm f form residues t m gone =
     All-contains (λ s. s.coefficient ≢ 0) f t form.nonzero m
     (sym (mod-eq_of_lt small) ∙ ap (λ (n : ℕ). n % p) (sym found) ∙ ap (λ (r : Residue p). r.0) gone ∙ zero-mod p)
 
-module _ (p : ℕ) (weights : List ℕ) (relations : List (List Term)) (st : IsSetting p weights relations) (d : ℕ) where
-  abbrev vec : List Term → List ℕ → Residue p
-  vec f = vectors.vector_of p st.modulus f
+module _ (ideal : Ideal) (st : IsSetting ideal) (d : ℕ) where
+  abbrev vec : List Term → List ℕ → Residue ideal.modulus
+  vec f = vectors.vector_of ideal.modulus st.modulus f
 
-  abbrev pub IsMember : (List ℕ → Residue p) → Type 0
-  IsMember = IsMemberVector p st.modulus weights relations st d
+  abbrev pub IsMember : (List ℕ → Residue ideal.modulus) → Type 0
+  IsMember = IsMemberVector ideal st.modulus st d
 
   -- a polynomial with residues whose vector is a member
   pub record IsMemberRow (f : List Term) : Type 0 where
     pub form : IsPolynomial f
-    pub residues : HasResidues p f
+    pub residues : HasResidues ideal.modulus f
     pub member : IsMember (vec f)
 
   -- its words have the degree
-  pub member_word : (f : List Term) → IsMemberRow f → (t : Term) → Contains f t → Contains (words_of_degree weights d) t.word
-  member_word f h t m = elim (listed (words_of_degree weights d) t.word) [
+  pub member_word : (f : List Term) → IsMemberRow f → (t : Term) → Contains f t → Contains (words_of_degree ideal.weights d) t.word
+  member_word f h t m = elim (listed (words_of_degree ideal.weights d) t.word) [
     | inl there ↦ there
-    | inr off ↦ absurd (term_there p st.modulus f h.form h.residues t m (member_off p st.modulus weights relations st d (vec f) h.member t.word off))
+    | inr off ↦ absurd (term_there ideal.modulus st.modulus f h.form h.residues t m (member_off ideal st.modulus st d (vec f) h.member t.word off))
   ]
 
-  module _ (G : List (List Term)) (lower : AreLower p weights relations d G) where
-    lower_at : (i : ℕ) (g : List Term) → slice_get G i ≡ Some g → IsLower p weights relations st d g
+  module _ (G : List (List Term)) (lower : AreLower ideal d G) where
+    lower_at : (i : ℕ) (g : List Term) → slice_get G i ≡ Some g → IsLower ideal st d g
     lower_at i g e = let h = (lower g).0 (i, slice_get_within G i g e, get_or_from_slice_get G i g g e) in record { degree = h.0; below = h.1; reduced = h.2 }
 
     some_one : (o : Option (List Term)) (a b : List Term) → o ≡ Some a → o ≡ Some b → a ≡ b
     some_one o a b e f = cc
 
-    module _ (rows : List (List Term)) (are : AreRows p weights relations G d rows) where
-      one_degrees : All (HasOneDegree weights) relations
-      one_degrees = All-weaker (IsRelation p weights) (HasOneDegree weights) (λ r h. h.one_degree) relations st.are_relations
+    module _ (rows : List (List Term)) (are : AreRows ideal G d rows) where
+      one_degrees : All (HasOneDegree ideal.weights) ideal.relations
+      one_degrees = All-weaker (IsRelation ideal.modulus ideal.weights) (HasOneDegree ideal.weights) (λ r h. h.one_degree) ideal.relations st.are_relations
 
       pub row_member : (f : List Term) → Contains rows f → IsMemberRow f
-      row_member f m = elim (Contains-append_cases (of_degree weights d relations) are.overlap_rows f
+      row_member f m = elim (Contains-append_cases (of_degree ideal.weights d ideal.relations) are.overlap_rows f
           (subst (λ (fs : List (List Term)). Contains fs f) are.joined m)) [
             | inl n ↦
-                let r = of_degree-says weights d relations f one_degrees n in
-                let h = All-contains (IsRelation p weights) relations f st.are_relations r.0 in
+                let r = of_degree-says ideal.weights d ideal.relations f one_degrees n in
+                let h = All-contains (IsRelation ideal.modulus ideal.weights) ideal.relations f st.are_relations r.0 in
                 record {
                   form = h.form;
                   residues = h.residues;
-                  member = span_from_ideal p st.modulus weights relations d f
-                      (neighbour_inside p weights relations st d f (relation f r.0 r.1));
+                  member = span_from_ideal ideal st.modulus d f
+                      (neighbour_inside ideal st d f (relation f r.0 r.1));
                 }
             | inr n ↦
-                let b = beside_right (IsRowOf p weights G d) are.overlaps are.overlap_rows f are.each n in
+                let b = beside_right (IsRowOf ideal.modulus ideal.weights G d) are.overlaps are.overlap_rows f are.each n in
                 let h = b.1.related in
                 let o = h.obstruction in
-                let member = subst (λ (e : ℕ). IsMemberVector p st.modulus weights relations st e
-                (vec (obstruction_row p o.first b.0.behind b.0.before o.second))) o.degree
-                (obstruction_member p weights relations st d o.first o.second (lower_at b.0.left o.first o.at_left)
+                let member = subst (λ (e : ℕ). IsMemberVector ideal st.modulus st e
+                (vec (obstruction_row ideal.modulus o.first b.0.behind b.0.before o.second))) o.degree
+                (obstruction_member ideal st d o.first o.second (lower_at b.0.left o.first o.at_left)
                 (lower_at b.0.right o.second o.at_right) b.0.before b.0.shared b.0.behind o.first_lead o.second_lead o.some_before
                 o.some_shared o.some_behind) in
                 record {
                   form = h.form;
                   residues = h.residues;
-                  member = same_span _ (List ℕ) _ (vec (obstruction_row p o.first b.0.behind b.0.before o.second)) (vec f)
-                      (λ w. sym (same_vectors p st.modulus f (obstruction_row p o.first b.0.behind b.0.before o.second) h.same w)) member;
+                  member = same_span _ (List ℕ) _ (vec (obstruction_row ideal.modulus o.first b.0.behind b.0.before o.second)) (vec f)
+                      (λ w. sym (same_vectors ideal.modulus st.modulus f (obstruction_row ideal.modulus o.first b.0.behind b.0.before o.second) h.same w))
+                      member;
                 }
           ]
 
       -- a relation of the degree is a row
-      pub relation_row : (r : List Term) → Contains relations r → HasDegree weights d r → Contains rows r
+      pub relation_row : (r : List Term) → Contains ideal.relations r → HasDegree ideal.weights d r → Contains rows r
       relation_row r m h =
-          let other = (All-contains (IsRelation p weights) relations r st.are_relations m).other in
+          let other = (All-contains (IsRelation ideal.modulus ideal.weights) ideal.relations r st.are_relations m).other in
           subst (λ (fs : List (List Term)). Contains fs r) (sym are.joined)
-          (Contains-append_left (of_degree weights d relations) are.overlap_rows r (of_degree-has weights d relations r m other h))
+          (Contains-append_left (of_degree ideal.weights d ideal.relations) are.overlap_rows r (of_degree-has ideal.weights d ideal.relations r m other h))
 
       -- an obstruction has a row, which is its polynomial
-      pub obstruction_has : (left right : ℕ) (a c b : List ℕ) (o : IsObstruction weights G d left right a c b)
-          → (f : List Term) × Contains rows f × ((w : List ℕ) → vec f w ≡ vec (obstruction_row p o.first b a o.second) w)
+      pub obstruction_has : (left right : ℕ) (a c b : List ℕ) (o : IsObstruction ideal.weights G d left right a c b)
+          → (f : List Term) × Contains rows f × ((w : List ℕ) → vec f w ≡ vec (obstruction_row ideal.modulus o.first b a o.second) w)
       obstruction_has left right a c b o =
           let overlap : Overlap = record { left = left; right = right; before = a; shared = c; behind = b } in
-          let q = beside_left (IsRowOf p weights G d) are.overlaps are.overlap_rows overlap are.each ((are.are_obstructions.exactly overlap).1 o) in
+          let q = beside_left (IsRowOf ideal.modulus ideal.weights G d) are.overlaps are.overlap_rows overlap are.each
+          ((are.are_obstructions.exactly overlap).1 o) in
           let h = q.1.related in
           let first : h.obstruction.first ≡ o.first = some_one (slice_get G left) h.obstruction.first o.first h.obstruction.at_left o.at_left in
           let second : h.obstruction.second ≡ o.second = some_one (slice_get G right) h.obstruction.second o.second h.obstruction.at_right o.at_right in (
             q.0,
             subst (λ (fs : List (List Term)). Contains fs q.0) (sym are.joined)
-                (Contains-append_right (of_degree weights d relations) are.overlap_rows q.0 q.1.right),
-            λ w. same_vectors p st.modulus q.0 (obstruction_row p h.obstruction.first b a h.obstruction.second) h.same w
-                ∙ ap₂ (λ (x y : List Term). vec (obstruction_row p x b a y) w) first second,
+                (Contains-append_right (of_degree ideal.weights d ideal.relations) are.overlap_rows q.0 q.1.right),
+            λ w. same_vectors ideal.modulus st.modulus q.0 (obstruction_row ideal.modulus h.obstruction.first b a h.obstruction.second) h.same w
+                ∙ ap₂ (λ (x y : List Term). vec (obstruction_row ideal.modulus x b a y) w) first second,
           )

@@ -14,7 +14,7 @@ use Rattle.linear_algebra.specs.Fields.{Field}
 use Rattle.linear_algebra.specs.Mod.{Residue}
 use Rattle.linear_algebra.proofs.Algebra.{zero_add}
 use Rattle.linear_algebra.proofs.ModField.{same_residue}
-use Rattle.ideal_laws.specs.Ideal.{IsInIdeal, IsLeadingWord}
+use Rattle.ideal_laws.specs.Ideal.{Ideal, IsInIdeal, IsLeadingWord}
 use Rattle.ideal_laws.specs.Closure.{IsNormal}
 use Rattle.ideal_laws.specs.Laws.{IsSetting}
 use Rattle.ideal_laws.specs.Overlaps.{AreLower}
@@ -31,71 +31,71 @@ use Rattle.row_laws.proofs.Reducers.{above_lead}
 use Rattle.row_laws.proofs.Spread.{spread, spread-absent, spread-at}
 use Rattle.row_laws.proofs.Triangle.{zero_from_normal}
 
-module _ (p : ℕ) (weights : List ℕ) (relations : List (List Term)) (st : IsSetting p weights relations) (d : ℕ) (G : List (List Term))
-    (lower : AreLower p weights relations d G)
+module _ (ideal : Ideal) (st : IsSetting ideal) (d : ℕ) (G : List (List Term)) (lower : AreLower ideal d G)
     (rows : List (List Term)) (columns : List (List ℕ)) (reducers : List (Option (List Term)))
-    (closed : AreClosed p weights relations G d rows columns reducers)
-    (cells : List (List ℕ)) (are_cells : AreContestedRows p columns reducers rows cells) (echelon : List (List ℕ))
-    (rref : IsRref p (length (contested_words columns reducers)) cells echelon) where
+    (closed : AreClosed ideal G d rows columns reducers)
+    (cells : List (List ℕ)) (are_cells : AreContestedRows ideal.modulus columns reducers rows cells) (echelon : List (List ℕ))
+    (rref : IsRref ideal.modulus (length (contested_words columns reducers)) cells echelon) where
   abbrev K : Field
-  K = vectors.K p st.modulus
+  K = vectors.K ideal.modulus st.modulus
 
   abbrev contested : List (List ℕ)
   contested = contested_words columns reducers
 
   abbrev N : Type 0
-  N = ℕ → Residue p
+  N = ℕ → Residue ideal.modulus
 
-  abbrev onto : N → List ℕ → Residue p
-  onto e = spread p st.modulus contested e
+  abbrev onto : N → List ℕ → Residue ideal.modulus
+  onto e = spread ideal.modulus st.modulus contested e
 
   -- a row of the form that leads at the column with this word
   pub record IsLedBy (w : List ℕ) : Type 0 where
     pub row : ℕ × N
-    pub among : Contains (led_rows p (length contested) st.modulus cells echelon rref) row
+    pub among : Contains (led_rows ideal.modulus (length contested) st.modulus cells echelon rref) row
     pub word : get_or contested row.0 [] ≡ w
 
   falling : AllPairs IsLetterwiseGreater contested
   falling = contested_falling columns reducers closed.are_columns.falling
 
   entry_at : (e : N) (k : ℕ) (w : List ℕ) → k < length contested → get_or contested k [] ≡ w → e k ≡ onto e w
-  entry_at e k w lt word = sym (spread-at p st.modulus contested e k falling lt) ∙ ap (onto e) word
+  entry_at e k w lt word = sym (spread-at ideal.modulus st.modulus contested e k falling lt) ∙ ap (onto e) word
 
   same_word : (i k : ℕ) (w : List ℕ) → i ≡ k → get_or contested k [] ≡ w → get_or contested i [] ≡ w
   same_word i k w e word = ap (λ (n : ℕ). get_or contested n []) e ∙ word
 
   -- by the member that it leads: above the word the member is 0, so its sum of reducers is, and the rest leads at the
   -- word
-  pub normal_led : (w : List ℕ) → IsLeadingWord p weights relations d w → IsNormal G w → IsLedBy w
+  pub normal_led : (w : List ℕ) → IsLeadingWord ideal d w → IsNormal G w → IsLedBy w
   normal_led w l normal = by_first l.member l.inside l.lead
     where
-      by_first : (f : List Term) → IsInIdeal p weights relations d f → lead_of f ≡ Some w → IsLedBy w
+      by_first : (f : List Term) → IsInIdeal ideal d f → lead_of f ≡ Some w → IsLedBy w
       by_first [] i e = cc e
       by_first (t ∷ f) i e =
           let is : t.word ≡ w = cc e in
-          let v = vectors.vector_of p st.modulus (t ∷ f) in
-          let h = ideal_mixed p weights relations st d G lower rows columns reducers closed cells are_cells (t ∷ f) i in
-          let there : Contains (words_of_degree weights d) w = subst (Contains (words_of_degree weights d)) is
-          (in_degree p weights relations st d G lower t.word (All-head (λ (s : Term). IsOver (length weights) s.word) t f i.element.letters)
-          (All-head (λ (s : Term). degree_of weights s.word ≡ d) t f i.element.degree)) in
+          let v = vectors.vector_of ideal.modulus st.modulus (t ∷ f) in
+          let h = ideal_mixed ideal st d G lower rows columns reducers closed cells are_cells (t ∷ f) i in
+          let there : Contains (words_of_degree ideal.weights d) w = subst (Contains (words_of_degree ideal.weights d)) is
+          (in_degree ideal st d G lower t.word (All-head (λ (s : Term). IsOver (length ideal.weights) s.word) t f i.element.letters)
+          (All-head (λ (s : Term). degree_of ideal.weights s.word ≡ d) t f i.element.degree)) in
           let above : (y : List ℕ) → IsLetterwiseGreater y w → v y ≡ K.zero =
-          λ y g. same_residue p _ _ (ap (λ (n : ℕ). n % p) (above_lead (t ∷ f) w y i.element.form e g)) in
+          λ y g. same_residue ideal.modulus _ _ (ap (λ (n : ℕ). n % ideal.modulus) (above_lead (t ∷ f) w y i.element.form e g)) in
           let rest_zero : (y : List ℕ) → ((y ≡ w) ⊎ IsLetterwiseGreater y w) → h.rest y ≡ K.zero =
-          zero_from_normal p weights relations st d G lower (words_of_degree weights d) (words_of_degree-falling weights st.are_weights d)
+          zero_from_normal ideal st d G lower (words_of_degree ideal.weights d) (words_of_degree-falling ideal.weights st.are_weights d)
           h.rest h.spanned w there normal
-          (λ x g r greater. sym (h.sum x ∙ ap (λ (n : Residue p). K.add n (h.rest x))
-          (zero_at_reducible p weights relations st d G lower rows columns reducers closed h.entries x g r) ∙ zero_add K (h.rest x))
+          (λ x g r greater. sym (h.sum x ∙ ap (λ (n : Residue ideal.modulus). K.add n (h.rest x))
+          (zero_at_reducible ideal st d G lower rows columns reducers closed h.entries x g r) ∙ zero_add K (h.rest x))
           ∙ above x greater) in
           let same : (y : List ℕ) → ((y ≡ w) ⊎ IsLetterwiseGreater y w) → onto h.entries y ≡ v y = λ y from.
           sym (h.sum y ∙ ap (K.add (onto h.entries y)) (rest_zero y from) ∙ K.add_zero (onto h.entries y)) in
           let some : onto h.entries w ≡ K.zero → ⊥ = λ none.
-          term_there p st.modulus (t ∷ f) i.element.form i.element.residues t (Contains-first t f) (ap v {x = t.word} is ∙ sym (same w (inl refl)) ∙ none) in
+          term_there ideal.modulus st.modulus (t ∷ f) i.element.form i.element.residues t (Contains-first t f)
+          (ap v {x = t.word} is ∙ sym (same w (inl refl)) ∙ none) in
           elim (listed contested w) [
-            | inr off ↦ absurd (some (spread-absent p st.modulus contested h.entries w off))
+            | inr off ↦ absurd (some (spread-absent ideal.modulus st.modulus contested h.entries w off))
             | inl m ↦
                 let k = m.0 in
                 let word : get_or contested k [] ≡ w = get_or_default contested k [] w m.1 ∙ m.2 in
-                let q = first_leads p (length contested) st.modulus cells echelon rref h.entries h.combined k m.1
+                let q = first_leads ideal.modulus (length contested) st.modulus cells echelon rref h.entries h.combined k m.1
                 (λ none. some (sym (entry_at h.entries k w m.1 word) ∙ none))
                 (λ j lt.
                 let greater : IsLetterwiseGreater (get_or contested j []) w =

@@ -17,7 +17,7 @@ use Rattle.free_poly.proofs.Products.{degree_of-round}
 use Rattle.free_poly.proofs.Totals.{here, letterwise-apart}
 use Rattle.linear_algebra.specs.Fields.{Field}
 use Rattle.linear_algebra.proofs.ModField.{same_residue}
-use Rattle.ideal_laws.specs.Ideal.{IsInIdeal, IsMinimal}
+use Rattle.ideal_laws.specs.Ideal.{Ideal, IsInIdeal, IsMinimal}
 use Rattle.ideal_laws.specs.Basis.{HasGreaterLead, IsReduced}
 use Rattle.ideal_laws.specs.Closure.{IsReducer}
 use Rattle.ideal_laws.specs.Laws.{IsSetting}
@@ -54,21 +54,21 @@ pub above_lead : (f : List Term) (w y : List ℕ) → IsPolynomial f → lead_of
 above_lead [] w y h e g = refl
 above_lead (t ∷ f) w y h e g = let is : t.word ≡ w = cc e in above_all y t f h (subst (IsLetterwiseGreater y) (sym is) g)
 
-module _ (p : ℕ) (weights : List ℕ) (relations : List (List Term)) (st : IsSetting p weights relations) where
-  pub lead_degree : (n : ℕ) (f : List Term) (w : List ℕ) → IsReduced p weights relations n f → lead_of f ≡ Some w → degree_of weights w ≡ n
+module _ (ideal : Ideal) (st : IsSetting ideal) where
+  pub lead_degree : (n : ℕ) (f : List Term) (w : List ℕ) → IsReduced ideal n f → lead_of f ≡ Some w → degree_of ideal.weights w ≡ n
   lead_degree n [] w r e = cc e
-  lead_degree n (t ∷ f) w r e = let is : t.word ≡ w = cc e in ap (degree_of weights) (sym is)
-      ∙ All-head (λ s. degree_of weights s.word ≡ n) t f r.inside.element.degree
+  lead_degree n (t ∷ f) w r e = let is : t.word ≡ w = cc e in ap (degree_of ideal.weights) (sym is)
+      ∙ All-head (λ s. degree_of ideal.weights s.word ≡ n) t f r.inside.element.degree
 
   -- reduced elements with one leading word are one
-  pub reduced_one : (e : ℕ) (f g : List Term) (w : List ℕ) → IsReduced p weights relations e f → IsReduced p weights relations e g →
+  pub reduced_one : (e : ℕ) (f g : List Term) (w : List ℕ) → IsReduced ideal e f → IsReduced ideal e g →
       lead_of f ≡ Some w → lead_of g ≡ Some w → f ≡ g
   reduced_one e f g w hf hg lf lg =
-      let b = has_one_basis p weights relations st e in
+      let b = has_one_basis ideal st e in
       one_in_falling b.value b.holds.falling f g w ((b.holds.exactly f).1 hf) ((b.holds.exactly g).1 hg) lf lg
 
   -- a minimal word that is a factor of another is the other
-  minimal_one : (v w : List ℕ) → IsMinimal p weights relations v → IsMinimal p weights relations w → IsFactor v w → v ≡ w
+  minimal_one : (v w : List ℕ) → IsMinimal ideal v → IsMinimal ideal w → IsFactor v w → v ≡ w
   minimal_one v w hv hw i = elim (cases_Bool (bytes_eq v w)) [
     | inl is ↦ (bytes_eq-Decides v w).0 is
     | inr other ↦ absurd (hw.none_inside v (record { inside = i; other = apart other }) hv.leading)
@@ -77,7 +77,7 @@ module _ (p : ℕ) (weights : List ℕ) (relations : List (List Term)) (st : IsS
       apart : bytes_eq v w ≡ false → v ≢ w
       apart f e = let t : bytes_eq v w ≡ true = here v w e in cc
 
-  module _ (d : ℕ) (G : List (List Term)) (lower : AreLower p weights relations d G) where
+  module _ (d : ℕ) (G : List (List Term)) (lower : AreLower ideal d G) where
     -- elements whose leading words stand at one place are one
     element_one : (g h : List Term) (v w r : List ℕ) → Contains G g → Contains G h → lead_of g ≡ Some v → lead_of h ≡ Some w →
         take (length v) r ≡ v → take (length w) r ≡ w → g ≡ h
@@ -88,8 +88,8 @@ module _ (p : ℕ) (weights : List ℕ) (relations : List (List Term)) (st : IsS
           | inl longer ↦ sym (minimal_one w v (b.2.minimal w lh) (a.2.minimal v lg) (first_of w v r ew ev (omega (arith, longer))))
           | inr le ↦ minimal_one v w (a.2.minimal v lg) (b.2.minimal w lh) (first_of v w r ev ew le)
         ] in
-        let degree : b.0 ≡ a.0 = sym (lead_degree b.0 h w b.2 lh) ∙ ap (degree_of weights) (sym same) ∙ lead_degree a.0 g v a.2 lg in
-        reduced_one a.0 g h v a.2 (subst (λ (e : ℕ). IsReduced p weights relations e h) degree b.2) lg (lh ∙ ap Some (sym same))
+        let degree : b.0 ≡ a.0 = sym (lead_degree b.0 h w b.2 lh) ∙ ap (degree_of ideal.weights) (sym same) ∙ lead_degree a.0 g v a.2 lg in
+        reduced_one a.0 g h v a.2 (subst (λ (e : ℕ). IsReduced ideal e h) degree b.2) lg (lh ∙ ap Some (sym same))
 
     -- a word has at most one reducer
     pub reducer_one : (w : List ℕ) (f g : List Term) → IsReducer G w f → IsReducer G w g → f ≡ g
@@ -109,29 +109,29 @@ module _ (p : ℕ) (weights : List ℕ) (relations : List (List Term)) (st : IsS
     pub reducer_monic : (w : List ℕ) (f : List Term) → IsReducer G w f → IsMonic f
     reducer_monic w f r = subst IsMonic (sym r.is) (product-monic (take r.at w) r.element (drop (r.at + length r.lead) w) ((lower r.element).0 r.among).2.monic)
 
-    pub reducer_inside : (w : List ℕ) (f : List Term) → IsOver (length weights) w → degree_of weights w ≡ d → IsReducer G w f →
-        IsInIdeal p weights relations d f
+    pub reducer_inside : (w : List ℕ) (f : List Term) → IsOver (length ideal.weights) w → degree_of ideal.weights w ≡ d → IsReducer G w f → IsInIdeal ideal d f
     reducer_inside w f over deg r =
         let u = take r.at w in
         let v = drop (r.at + length r.lead) w in
         let h = (lower r.element).0 r.among in
-        let whole : degree_of weights u + h.0 + degree_of weights v ≡ d =
-        ap (λ (n : ℕ). degree_of weights u + n + degree_of weights v) (sym (lead_degree h.0 r.element r.lead h.2 r.is_lead))
-        ∙ sym (degree_of-round weights u r.lead v)
-        ∙ ap (degree_of weights) (sym (joined_at r.lead w r.at r.here)) ∙ deg in
-        subst (IsInIdeal p weights relations d) (sym r.is)
-        (subst (λ (n : ℕ). IsInIdeal p weights relations n (product u r.element v)) whole
-        (inside_product p weights st.are_weights relations h.0 u r.element v (All-take (λ n. n < length weights) r.at w over)
-        (All-drop (λ n. n < length weights) (r.at + length r.lead) w over) h.2.inside))
+        let whole : degree_of ideal.weights u + h.0 + degree_of ideal.weights v ≡ d =
+        ap (λ (n : ℕ). degree_of ideal.weights u + n + degree_of ideal.weights v) (sym (lead_degree h.0 r.element r.lead h.2 r.is_lead))
+        ∙ sym (degree_of-round ideal.weights u r.lead v)
+        ∙ ap (degree_of ideal.weights) (sym (joined_at r.lead w r.at r.here)) ∙ deg in
+        subst (IsInIdeal ideal d) (sym r.is)
+        (subst (λ (n : ℕ). IsInIdeal ideal n (product u r.element v)) whole
+        (inside_product ideal.modulus ideal.weights st.are_weights ideal.relations h.0 u r.element v (All-take (λ n. n < length ideal.weights) r.at w over)
+        (All-drop (λ n. n < length ideal.weights) (r.at + length r.lead) w over) h.2.inside))
 
     abbrev K : Field
-    K = vectors.K p st.modulus
+    K = vectors.K ideal.modulus st.modulus
 
     -- the reducer of a word of the degree is 1 there and 0 at greater words
-    module _ (w : List ℕ) (f : List Term) (over : IsOver (length weights) w) (deg : degree_of weights w ≡ d) (r : IsReducer G w f) where
-      pub reducer_there : vectors.vector_of p st.modulus f w ≡ K.one
-      reducer_there = same_residue p _ _ (ap (λ (n : ℕ). n % p) (monic_total f w (reducer_lead w f r)
+    module _ (w : List ℕ) (f : List Term) (over : IsOver (length ideal.weights) w) (deg : degree_of ideal.weights w ≡ d) (r : IsReducer G w f) where
+      pub reducer_there : vectors.vector_of ideal.modulus st.modulus f w ≡ K.one
+      reducer_there = same_residue ideal.modulus _ _ (ap (λ (n : ℕ). n % ideal.modulus) (monic_total f w (reducer_lead w f r)
           (reducer_inside w f over deg r).element.form (reducer_monic w f r)))
 
-      pub reducer_above : (y : List ℕ) → IsLetterwiseGreater y w → vectors.vector_of p st.modulus f y ≡ K.zero
-      reducer_above y g = same_residue p _ _ (ap (λ (n : ℕ). n % p) (above_lead f w y (reducer_inside w f over deg r).element.form (reducer_lead w f r) g))
+      pub reducer_above : (y : List ℕ) → IsLetterwiseGreater y w → vectors.vector_of ideal.modulus st.modulus f y ≡ K.zero
+      reducer_above y g = same_residue ideal.modulus _ _ (ap (λ (n : ℕ). n % ideal.modulus)
+          (above_lead f w y (reducer_inside w f over deg r).element.form (reducer_lead w f r) g))

@@ -16,7 +16,7 @@ use Rattle.free_poly.proofs.Products.{degree_of-round}
 use Rattle.free_poly.proofs.Totals.{letterwise-apart}
 use Rattle.linear_algebra.specs.Mod.{Residue}
 use Rattle.linear_algebra.proofs.Elimination.{same_span}
-use Rattle.ideal_laws.specs.Ideal.{IsInIdeal, IsLeadingWord, IsMinimal}
+use Rattle.ideal_laws.specs.Ideal.{Ideal, IsInIdeal, IsLeadingWord, IsMinimal}
 use Rattle.ideal_laws.specs.Basis.{HasGreaterLead, IsReduced, IsReducedBasis, below_lead}
 use Rattle.ideal_laws.specs.Closure.{IsNormal}
 use Rattle.ideal_laws.specs.Laws.{IsSetting}
@@ -50,52 +50,50 @@ below_all P (t ∷ f) w e h q =
     letterwise-apart t.word s.word (All-contains (λ s. IsLetterwiseGreater t.word s.word) f s
     (AllPairs-first (λ s t. IsLetterwiseGreater s.word t.word) t f h.falling) m) (is ∙ sym same)))
 
-module _ (p : ℕ) (weights : List ℕ) (relations : List (List Term)) (st : IsSetting p weights relations) (d : ℕ) (G : List (List Term))
-    (lower : AreLower p weights relations d G) where
+module _ (ideal : Ideal) (st : IsSetting ideal) (d : ℕ) (G : List (List Term)) (lower : AreLower ideal d G) where
   -- a normal word of the degree has no proper factor that is a leading word
-  normal_none_inside : (w : List ℕ) → IsOver (length weights) w → degree_of weights w ≡ d → IsNormal G w → (v : List ℕ) → IsProperFactor v w
-      → IsLeadingWord p weights relations (degree_of weights v) v → ⊥
+  normal_none_inside : (w : List ℕ) → IsOver (length ideal.weights) w → degree_of ideal.weights w ≡ d → IsNormal G w → (v : List ℕ) → IsProperFactor v w
+      → IsLeadingWord ideal (degree_of ideal.weights v) v → ⊥
   normal_none_inside w over deg normal v proper l =
       let i = proper.inside in
-      let whole = subst (IsOver (length weights)) i.joined over in
-      let over_v = All-back (λ x. x < length weights) i.before v (All-front (λ x. x < length weights) (i.before ++ v) i.after whole) in
-      let less : degree_of weights v < d = omega (
+      let whole = subst (IsOver (length ideal.weights)) i.joined over in
+      let over_v = All-back (λ x. x < length ideal.weights) i.before v (All-front (λ x. x < length ideal.weights) (i.before ++ v) i.after whole) in
+      let less : degree_of ideal.weights v < d = omega (
         arith,
         deg,
-        ap (degree_of weights) i.joined,
-        degree_of-round weights i.before v i.after,
+        ap (degree_of ideal.weights) i.joined,
+        degree_of-round ideal.weights i.before v i.after,
         ap length i.joined,
         length-append (i.before ++ v) i.after,
         length-append i.before v,
         shorter v w proper,
-        length-le-degree_of weights st.are_weights i.before,
-        length-le-degree_of weights st.are_weights i.after,
+        length-le-degree_of ideal.weights st.are_weights i.before,
+        length-le-degree_of ideal.weights st.are_weights i.after,
       ) in
-      let u = (factor_law p weights relations st v over_v).0 l in
-      let g = minimal_led p weights relations st u.0 u.2 in
+      let u = (factor_law ideal st v over_v).0 l in
+      let g = minimal_led ideal st u.0 u.2 in
       let j = u.1 in
-      let within_v : degree_of weights u.0 ≤ degree_of weights v = omega
-      (arith, ap (degree_of weights) j.joined, degree_of-round weights j.before u.0 j.after) in
-      let there = (lower g.0).1 (degree_of weights u.0, omega (arith, within_v, less), g.1) in
+      let within_v : degree_of ideal.weights u.0 ≤ degree_of ideal.weights v = omega
+      (arith, ap (degree_of ideal.weights) j.joined, degree_of-round ideal.weights j.before u.0 j.after) in
+      let there = (lower g.0).1 (degree_of ideal.weights u.0, omega (arith, within_v, less), g.1) in
       let k = factor_trans u.0 v w j i in
       normal g.0 u.0 (length k.before) there g.2 (occurs_from_factor u.0 w k)
 
   -- a leading word of a reduced element contains none of a lower one
-  reduced_normal : (f : List Term) (w : List ℕ) → IsReduced p weights relations d f → lead_of f ≡ Some w → IsNormal G w
+  reduced_normal : (f : List Term) (w : List ℕ) → IsReduced ideal d f → lead_of f ≡ Some w → IsNormal G w
   reduced_normal f w h e g v k m lead o =
       let low = (lower g).0 m in
-      let deg_v : degree_of weights v ≡ low.0 = lead_degree p weights relations st low.0 g v low.2 lead in
+      let deg_v : degree_of ideal.weights v ≡ low.0 = lead_degree ideal st low.0 g v low.2 lead in
       (h.minimal w e).none_inside v (record {
         inside = factor_from_occurs v w k o;
         other =
-            λ is. omega (arith, ap (degree_of weights) is, deg_v, lead_degree p weights relations st d f w h e, low.1);
+            λ is. omega (arith, ap (degree_of ideal.weights) is, deg_v, lead_degree ideal st d f w h e, low.1);
       })
-      (record { member = g; inside = subst (λ (n : ℕ). IsInIdeal p weights relations n g) (sym deg_v) low.2.inside; lead = lead })
+      (record { member = g; inside = subst (λ (n : ℕ). IsInIdeal ideal n g) (sym deg_v) low.2.inside; lead = lead })
 
-  module _ (rows : List (List Term)) (columns : List (List ℕ)) (reducers : List (Option (List Term)))
-      (closed : AreClosed p weights relations G d rows columns reducers)
-      (cells : List (List ℕ)) (are_cells : AreContestedRows p columns reducers rows cells) (echelon : List (List ℕ))
-      (rref : IsRref p (length (contested_words columns reducers)) cells echelon) where
+  module _ (rows : List (List Term)) (columns : List (List ℕ)) (reducers : List (Option (List Term))) (closed : AreClosed ideal G d rows columns reducers)
+      (cells : List (List ℕ)) (are_cells : AreContestedRows ideal.modulus columns reducers rows cells) (echelon : List (List ℕ))
+      (rref : IsRref ideal.modulus (length (contested_words columns reducers)) cells echelon) where
     abbrev contested : List (List ℕ)
     contested = contested_words columns reducers
 
@@ -103,23 +101,22 @@ module _ (p : ℕ) (weights : List ℕ) (relations : List (List Term)) (st : IsS
     m = length contested
 
     abbrev N : Type 0
-    N = ℕ → Residue p
+    N = ℕ → Residue ideal.modulus
 
     abbrev vec : List ℕ → N
-    vec r = row_vector p m st.modulus cells echelon rref r
+    vec r = row_vector ideal.modulus m st.modulus cells echelon rref r
 
     abbrev es : List (ℕ × N)
-    es = led_rows p m st.modulus cells echelon rref
+    es = led_rows ideal.modulus m st.modulus cells echelon rref
 
     falling : AllPairs IsLetterwiseGreater contested
     falling = contested_falling columns reducers closed.are_columns.falling
 
-    led_by : (w : List ℕ) → IsLeadingWord p weights relations d w → IsNormal G w →
-        IsLedBy p weights relations st d G lower rows columns reducers closed cells are_cells echelon rref w
-    led_by = normal_led p weights relations st d G lower rows columns reducers closed cells are_cells echelon rref
+    led_by : (w : List ℕ) → IsLeadingWord ideal d w → IsNormal G w → IsLedBy ideal st d G lower rows columns reducers closed cells are_cells echelon rref w
+    led_by = normal_led ideal st d G lower rows columns reducers closed cells are_cells echelon rref
 
     -- the element of a row
-    module _ (l : ℕ) (r : List ℕ) (n : Contains es (l, vec r)) (is_row : IsRow p m r) where
+    module _ (l : ℕ) (r : List ℕ) (n : Contains es (l, vec r)) (is_row : IsRow ideal.modulus m r) where
       abbrev f : List Term
       f = element_on contested r
 
@@ -127,11 +124,11 @@ module _ (p : ℕ) (weights : List ℕ) (relations : List (List Term)) (st : IsS
       w = get_or contested l []
 
       within : l < m
-      within = lead_within p m st.modulus cells echelon rref (l, vec r) n
+      within = lead_within ideal.modulus m st.modulus cells echelon rref (l, vec r) n
 
       firsts : (lead_of f ≡ Some w) × IsMonic f
-      firsts = element_on-first contested r l within (none_before p m st.modulus cells echelon rref l r n is_row)
-          (one_there p m st.modulus cells echelon rref l r n is_row)
+      firsts = element_on-first contested r l within (none_before ideal.modulus m st.modulus cells echelon rref l r n is_row)
+          (one_there ideal.modulus m st.modulus cells echelon rref l r n is_row)
 
       pub row_lead : lead_of f ≡ Some w
       row_lead = firsts.0
@@ -139,81 +136,82 @@ module _ (p : ℕ) (weights : List ℕ) (relations : List (List Term)) (st : IsS
       form : IsPolynomial f
       form = element_on-polynomial contested r falling
 
-      residues : All (λ t. t.coefficient < p) f
-      residues = element_on-residues p contested r is_row.residues
+      residues : All (λ t. t.coefficient < ideal.modulus) f
+      residues = element_on-residues ideal.modulus contested r is_row.residues
 
-      vector_is : (y : List ℕ) → vectors.vector_of p st.modulus f y ≡ spread p st.modulus contested (vec r) y
-      vector_is = spread-element p st.modulus contested r
+      vector_is : (y : List ℕ) → vectors.vector_of ideal.modulus st.modulus f y ≡ spread ideal.modulus st.modulus contested (vec r) y
+      vector_is = spread-element ideal.modulus st.modulus contested r
 
-      member : IsMember p weights relations st d (vectors.vector_of p st.modulus f)
-      member = same_span _ (List ℕ) _ (spread p st.modulus contested (vec r)) (vectors.vector_of p st.modulus f) (λ y. sym (vector_is y))
-          (combined_member p weights relations st d G lower rows columns reducers closed cells are_cells (vec r)
-          (row_combined p m st.modulus cells echelon rref (l, vec r) n))
+      member : IsMember ideal st d (vectors.vector_of ideal.modulus st.modulus f)
+      member = same_span _ (List ℕ) _ (spread ideal.modulus st.modulus contested (vec r)) (vectors.vector_of ideal.modulus st.modulus f)
+          (λ y. sym (vector_is y))
+          (combined_member ideal st d G lower rows columns reducers closed cells are_cells (vec r)
+          (row_combined ideal.modulus m st.modulus cells echelon rref (l, vec r) n))
 
-      inside : IsInIdeal p weights relations d f
+      inside : IsInIdeal ideal d f
       inside =
-          let v = vectors.vector_of p st.modulus f in
-          let e = element_form p st.modulus weights relations st d v in
-          let is : f ≡ element_from p st.modulus weights relations st d v =
-          same_polynomials p f (element_from p st.modulus weights relations st d v) form e.form residues e.residues
-          (λ y. sym (ap (λ (k : ℕ). k % p) (total_of_element p st.modulus weights relations st d v member y) ∙ mod-mod _ p)) in
-          subst (IsInIdeal p weights relations d) (sym is) (element_inside p st.modulus weights relations st d v member)
+          let v = vectors.vector_of ideal.modulus st.modulus f in
+          let e = element_form ideal st.modulus st d v in
+          let is : f ≡ element_from ideal st.modulus st d v =
+          same_polynomials ideal.modulus f (element_from ideal st.modulus st d v) form e.form residues e.residues
+          (λ y. sym (ap (λ (k : ℕ). k % ideal.modulus) (total_of_element ideal st.modulus st d v member y) ∙ mod-mod _ ideal.modulus)) in
+          subst (IsInIdeal ideal d) (sym is) (element_inside ideal st.modulus st d v member)
 
       normal_at : (x : List ℕ) → Contains contested x → IsNormal G x
       normal_at x c = (contested_says G columns reducers closed.are_reducers x c).1
 
-      lead_says : IsOver (length weights) w × (degree_of weights w ≡ d)
+      lead_says : IsOver (length ideal.weights) w × (degree_of ideal.weights w ≡ d)
       lead_says = by_first f firsts.0 inside
         where
-          by_first : (g : List Term) → lead_of g ≡ Some w → IsInIdeal p weights relations d g → IsOver (length weights) w × (degree_of weights w ≡ d)
+          by_first : (g : List Term) → lead_of g ≡ Some w → IsInIdeal ideal d g → IsOver (length ideal.weights) w × (degree_of ideal.weights w ≡ d)
           by_first [] e i = cc e
           by_first (t ∷ g) e i =
               let is : t.word ≡ w = cc e in (
-                subst (IsOver (length weights)) is (All-head (λ (s : Term). IsOver (length weights) s.word) t g i.element.letters),
-                ap (degree_of weights) (sym is) ∙ All-head (λ (s : Term). degree_of weights s.word ≡ d) t g i.element.degree,
+                subst (IsOver (length ideal.weights)) is (All-head (λ (s : Term). IsOver (length ideal.weights) s.word) t g i.element.letters),
+                ap (degree_of ideal.weights) (sym is) ∙ All-head (λ (s : Term). degree_of ideal.weights s.word ≡ d) t g i.element.degree,
               )
 
       -- a word of it that is another leading word is that of another row, where this one is 0
-      others : All (λ t. IsLeadingWord p weights relations d t.word → ⊥) (below_lead f)
-      others = below_all (λ t. IsLeadingWord p weights relations d t.word → ⊥) f w firsts.0 form (λ t k ne lt.
+      others : All (λ t. IsLeadingWord ideal d t.word → ⊥) (below_lead f)
+      others = below_all (λ t. IsLeadingWord ideal d t.word → ⊥) f w firsts.0 form (λ t k ne lt.
           let there = All-contains (λ (s : Term). Contains contested s.word) f t
           (element_on-all (λ (s : Term). Contains contested s.word) contested r (λ i low high some. Contains-get_or contested i [] low))
           k in
           let q = led_by t.word lt (normal_at t.word there) in
           let apart : q.row.0 ≢ l = λ same. ne (sym q.word ∙ ap (λ (i : ℕ). get_or contested i []) same) in
-          term_there p st.modulus f form residues t k
-          (vector_is t.word ∙ ap (spread p st.modulus contested (vec r)) (sym q.word)
-          ∙ spread-at p st.modulus contested (vec r) q.row.0 falling (lead_within p m st.modulus cells echelon rref q.row q.among)
-          ∙ zero_at_others p m st.modulus cells echelon rref (l, vec r) q.row n q.among apart))
+          term_there ideal.modulus st.modulus f form residues t k
+          (vector_is t.word ∙ ap (spread ideal.modulus st.modulus contested (vec r)) (sym q.word)
+          ∙ spread-at ideal.modulus st.modulus contested (vec r) q.row.0 falling (lead_within ideal.modulus m st.modulus cells echelon rref q.row q.among)
+          ∙ zero_at_others ideal.modulus m st.modulus cells echelon rref (l, vec r) q.row n q.among apart))
 
-      pub row_reduced : IsReduced p weights relations d f
+      pub row_reduced : IsReduced ideal d f
       row_reduced = record {
         inside = inside;
         monic = firsts.1;
-        minimal = λ x e. subst (IsMinimal p weights relations) (some_same w x (sym firsts.0 ∙ e)) (record {
-          leading = subst (λ (i : ℕ). IsLeadingWord p weights relations i w) (sym lead_says.1) (record { member = f; inside = inside; lead = firsts.0 });
+        minimal = λ x e. subst (IsMinimal ideal) (some_same w x (sym firsts.0 ∙ e)) (record {
+          leading = subst (λ (i : ℕ). IsLeadingWord ideal i w) (sym lead_says.1) (record { member = f; inside = inside; lead = firsts.0 });
           none_inside = normal_none_inside w lead_says.0 lead_says.1 (normal_at w (Contains-get_or contested l [] within));
         });
         others = others;
       }
 
-    is_row : (r : List ℕ) → Contains echelon r → IsRow p m r
-    is_row r k = All-contains (IsRow p m) echelon r rref.each k
+    is_row : (r : List ℕ) → Contains echelon r → IsRow ideal.modulus m r
+    is_row r k = All-contains (IsRow ideal.modulus m) echelon r rref.each k
 
-    listed_reduced : (g : List Term) → Contains (map (element_on contested) echelon) g → IsReduced p weights relations d g
+    listed_reduced : (g : List Term) → Contains (map (element_on contested) echelon) g → IsReduced ideal d g
     listed_reduced g k =
         let r = Contains-map_cases (element_on contested) echelon g k in
         let l = with_lead vec rref.leads echelon rref.count r.0 r.1 in
-        subst (IsReduced p weights relations d) r.2 (row_reduced l.0 r.0 l.1 (is_row r.0 r.1))
+        subst (IsReduced ideal d) r.2 (row_reduced l.0 r.0 l.1 (is_row r.0 r.1))
 
-    reduced_listed : (g : List Term) → IsReduced p weights relations d g → Contains (map (element_on contested) echelon) g
+    reduced_listed : (g : List Term) → IsReduced ideal d g → Contains (map (element_on contested) echelon) g
     reduced_listed g h =
         let x = monic-led g h.monic in
         let q = led_by x.0 (record { member = g; inside = h.inside; lead = x.1 }) (reduced_normal g x.0 h x.1) in
         let r = of_lead vec rref.leads echelon q.row q.among in
         let there : Contains es (q.row.0, vec r.0) = subst (Contains es) (λ i. (q.row.0, r.2 i)) q.among in
         let own = row_reduced q.row.0 r.0 there (is_row r.0 r.1) in
-        let same : element_on contested r.0 ≡ g = reduced_one p weights relations st d (element_on contested r.0) g x.0 own h
+        let same : element_on contested r.0 ≡ g = reduced_one ideal st d (element_on contested r.0) g x.0 own h
         (row_lead q.row.0 r.0 there (is_row r.0 r.1) ∙ ap Some q.word) x.1 in
         subst (Contains (map (element_on contested) echelon)) same (Contains-map (element_on contested) echelon r.0 r.1)
 
@@ -246,14 +244,14 @@ module _ (p : ℕ) (weights : List ℕ) (relations : List (List Term)) (st : IsS
         (falling_from ls rs rest (λ k s c n. h k s (Contains-more (l, vec r) (zip ls (map vec rs)) (k, vec s) c) (Contains-more r rs s n))
         (AllPairs-rest (λ (a b : ℕ × N). a.0 < b.0) (l, vec r) (zip ls (map vec rs)) rising))
 
-    pub row_basis : IsReducedBasis p weights relations d (map (element_on contested) echelon)
+    pub row_basis : IsReducedBasis ideal d (map (element_on contested) echelon)
     row_basis = record {
       exactly = λ g. (listed_reduced g, reduced_listed g);
       falling = falling_from rref.leads echelon rref.count (λ l r n k.
-          (lead_within p m st.modulus cells echelon rref (l, vec r) n, row_lead l r n (is_row r k)))
-          (leads_rising p m st.modulus cells echelon rref);
+          (lead_within ideal.modulus m st.modulus cells echelon rref (l, vec r) n, row_lead l r n (is_row r k)))
+          (leads_rising ideal.modulus m st.modulus cells echelon rref);
     }
 
 pub rows_give_basis : RowsGiveBasis
-rows_give_basis p weights relations st d G lower rows columns reducers closed cells are_cells echelon rref =
-    row_basis p weights relations st d G lower rows columns reducers closed cells are_cells echelon rref
+rows_give_basis ideal st d G lower rows columns reducers closed cells are_cells echelon rref =
+    row_basis ideal st d G lower rows columns reducers closed cells are_cells echelon rref

@@ -13,28 +13,28 @@ use Rattle.linear_algebra.specs.Mod.{Residue}
 use Rattle.linear_algebra.proofs.Algebra.{add_left_comm, mul_zero, zero_add, IsInSpan-add, IsInSpan-one, IsInSpan-scaled, IsInSpan-zero}
 use Rattle.linear_algebra.proofs.Elimination.{IsInSpan-zero_at, same_span}
 use Rattle.ideal_laws.specs.Closure.{IsNormal, IsReducer}
+use Rattle.ideal_laws.specs.Ideal.{Ideal}
 use Rattle.ideal_laws.specs.Laws.{IsSetting}
 use Rattle.ideal_laws.specs.Overlaps.{AreLower}
 use Rattle.ideal_laws.proofs.Vectors as vectors
 use Rattle.row_laws.proofs.Reducers.{reducer_above, reducer_one, reducer_there}
 
-module _ (p : ℕ) (weights : List ℕ) (relations : List (List Term)) (st : IsSetting p weights relations) (d : ℕ) (G : List (List Term))
-    (lower : AreLower p weights relations d G) where
+module _ (ideal : Ideal) (st : IsSetting ideal) (d : ℕ) (G : List (List Term)) (lower : AreLower ideal d G) where
   abbrev K : Field
-  K = vectors.K p st.modulus
+  K = vectors.K ideal.modulus st.modulus
 
   abbrev V : Type 0
-  V = List ℕ → Residue p
+  V = List ℕ → Residue ideal.modulus
 
   abbrev vec : List Term → V
-  vec f = vectors.vector_of p st.modulus f
+  vec f = vectors.vector_of ideal.modulus st.modulus f
 
   -- the vector of the reducer of a word of degree d in this list
   pub record IsReducerOf (xs : List (List ℕ)) (v : V) : Type 0 where
     pub word : List ℕ
     pub within : Contains xs word
-    pub over : IsOver (length weights) word
-    pub degree : degree_of weights word ≡ d
+    pub over : IsOver (length ideal.weights) word
+    pub degree : degree_of ideal.weights word ≡ d
     pub reducer : List Term
     pub is_reducer : IsReducer G word reducer
     pub is : v ≡ vec reducer
@@ -44,26 +44,26 @@ module _ (p : ℕ) (weights : List ℕ) (relations : List (List Term)) (st : IsS
 
   -- a multiple of the reducer of x, and a sum for the other words
   record HasPart (x : List ℕ) (xs : List (List ℕ)) (v : V) : Type 0 where
-    pub factor : Residue p
-    pub over : IsOver (length weights) x
-    pub degree : degree_of weights x ≡ d
+    pub factor : Residue ideal.modulus
+    pub over : IsOver (length ideal.weights) x
+    pub degree : degree_of ideal.weights x ≡ d
     pub reducer : List Term
     pub is_reducer : IsReducer G x reducer
     pub rest : V
     pub spanned : Sp xs rest
     pub sum : (y : List ℕ) → v y ≡ K.add (K.mul factor (vec reducer y)) (rest y)
 
-  two_factors : (a b t r : Residue p) → K.add (K.mul a t) (K.add (K.mul b t) r) ≡ K.add (K.mul (K.add a b) t) r
+  two_factors : (a b t r : Residue ideal.modulus) → K.add (K.mul a t) (K.add (K.mul b t) r) ≡ K.add (K.mul (K.add a b) t) r
   two_factors a b t r =
       sym (K.add_assoc (K.mul a t) (K.mul b t) r)
-      ∙ ap (λ (n : Residue p). K.add n r) (ap₂ K.add (K.mul_comm a t) (K.mul_comm b t) ∙ sym (K.mul_add t a b) ∙ K.mul_comm t (K.add a b))
+      ∙ ap (λ (n : Residue ideal.modulus). K.add n r) (ap₂ K.add (K.mul_comm a t) (K.mul_comm b t) ∙ sym (K.mul_add t a b) ∙ K.mul_comm t (K.add a b))
 
-  split_sum : (x : List ℕ) (xs : List (List ℕ)) (cs : List (Residue p × V)) → All (λ c. IsReducerOf (x ∷ xs) c.1) cs →
+  split_sum : (x : List ℕ) (xs : List (List ℕ)) (cs : List (Residue ideal.modulus × V)) → All (λ c. IsReducerOf (x ∷ xs) c.1) cs →
       Sp xs (sum_of K (List ℕ) cs) ⊎ HasPart x xs (sum_of K (List ℕ) cs)
   split_sum x xs [] each = inl (IsInSpan-zero K (List ℕ) (IsReducerOf xs))
   split_sum x xs (c ∷ cs) each =
-      let h = All-head (λ (e : Residue p × V). IsReducerOf (x ∷ xs) e.1) c cs each in
-      let r = split_sum x xs cs (All-tail (λ (e : Residue p × V). IsReducerOf (x ∷ xs) e.1) c cs each) in
+      let h = All-head (λ (e : Residue ideal.modulus × V). IsReducerOf (x ∷ xs) e.1) c cs each in
+      let r = split_sum x xs cs (All-tail (λ (e : Residue ideal.modulus × V). IsReducerOf (x ∷ xs) e.1) c cs each) in
       let others : V = sum_of K (List ℕ) cs in
       elim (Contains-cases x xs h.word h.within) [
         | inl is ↦
@@ -71,8 +71,8 @@ module _ (p : ℕ) (weights : List ℕ) (relations : List (List Term)) (st : IsS
             elim r [
               | inl s ↦ inr (record {
                 factor = c.0;
-                over = subst (IsOver (length weights)) (sym is) h.over;
-                degree = ap (degree_of weights) is ∙ h.degree;
+                over = subst (IsOver (length ideal.weights)) (sym is) h.over;
+                degree = ap (degree_of ideal.weights) is ∙ h.degree;
                 reducer = h.reducer;
                 is_reducer = own;
                 rest = others;
@@ -80,7 +80,7 @@ module _ (p : ℕ) (weights : List ℕ) (relations : List (List Term)) (st : IsS
                 sum = λ y. ap (λ (u : V). K.add (K.mul c.0 (u y)) (others y)) h.is;
               })
               | inr q ↦
-                  let same : c.1 ≡ vec q.reducer = h.is ∙ ap vec (reducer_one p weights relations st d G lower x h.reducer q.reducer own q.is_reducer) in
+                  let same : c.1 ≡ vec q.reducer = h.is ∙ ap vec (reducer_one ideal st d G lower x h.reducer q.reducer own q.is_reducer) in
                   inr (record {
                     factor = K.add c.0 q.factor;
                     over = q.over;
@@ -135,7 +135,7 @@ module _ (p : ℕ) (weights : List ℕ) (relations : List (List Term)) (st : IsS
         | inl is ↦ subst (λ (u : List ℕ). IsLetterwiseGreater u h.word) (sym is) below
         | inr greater ↦ letterwise-trans y x h.word greater below
       ] in
-      ap (λ (u : V). u y) h.is ∙ reducer_above p weights relations st d G lower h.word h.reducer h.over h.degree h.is_reducer y above) v s
+      ap (λ (u : V). u y) h.is ∙ reducer_above ideal st d G lower h.word h.reducer h.over h.degree h.is_reducer y above) v s
 
   -- by the words from the greatest on
   pub zero_from_normal : (xs : List (List ℕ)) → AllPairs IsLetterwiseGreater xs → (v : V) → Sp xs v → (w : List ℕ) → Contains xs w → IsNormal G w
@@ -155,13 +155,13 @@ module _ (p : ℕ) (weights : List ℕ) (relations : List (List Term)) (st : IsS
               let greater : IsLetterwiseGreater x w = All-contains (IsLetterwiseGreater x) xs w (AllPairs-first IsLetterwiseGreater x xs falling) later in
               let gone : q.rest x ≡ K.zero = above_all_words x xs falling q.rest q.spanned x (inl refl) in
               let factor : q.factor ≡ K.zero =
-              sym (q.sum x ∙ ap₂ (λ (t r : Residue p). K.add (K.mul q.factor t) r)
-              (reducer_there p weights relations st d G lower x q.reducer q.over q.degree q.is_reducer) gone ∙ K.add_zero _
+              sym (q.sum x ∙ ap₂ (λ (t r : Residue ideal.modulus). K.add (K.mul q.factor t) r)
+              (reducer_there ideal st d G lower x q.reducer q.over q.degree q.is_reducer) gone ∙ K.add_zero _
               ∙ K.mul_one q.factor)
               ∙ none x q.reducer q.is_reducer greater in
               let same : (z : List ℕ) → q.rest z ≡ v z = λ z.
-              sym (q.sum z ∙ ap (λ (a : Residue p). K.add (K.mul a (vec q.reducer z)) (q.rest z)) factor
-              ∙ ap (λ (n : Residue p). K.add n (q.rest z)) (K.mul_comm K.zero (vec q.reducer z) ∙ mul_zero K (vec q.reducer z))
+              sym (q.sum z ∙ ap (λ (a : Residue ideal.modulus). K.add (K.mul a (vec q.reducer z)) (q.rest z)) factor
+              ∙ ap (λ (n : Residue ideal.modulus). K.add n (q.rest z)) (K.mul_comm K.zero (vec q.reducer z) ∙ mul_zero K (vec q.reducer z))
               ∙ zero_add K (q.rest z)) in
               rest (same_span K (List ℕ) (IsReducerOf xs) q.rest v same q.spanned) w later normal none y from
         ]

@@ -1,6 +1,7 @@
 ghost use Rattle.std.specs.Prelude.{◌≡◌, ◌≢◌, ◌≤◌, [], All, IfOk, length, min};
 ghost use Rattle.free_poly.specs.Terms.{HasOneDegree, HasResidues, UsesLetters};
 ghost use Rattle.ideal_laws.specs.Engine.{IsReducedUpto};
+ghost use Rattle.ideal_laws.specs.Ideal.{ideal_over};
 ghost use Rattle.ideal_laws.specs.Kept.{lead_degree};
 ghost use Rattle.cofactors.specs.Certificate.{IsCertificate};
 
@@ -74,7 +75,8 @@ fn certificate_of(
     requires done { lead_degree basis.now.weights question.now ≤ basis.now.done }
     requires reduced { IsReducedUpto field.now given.now.relations basis.now }
     ensures { let weights = basis.now.weights in IfOk result
-        (IsCertificate field.now weights given.now.relations (lead_degree weights question.now) question.now) }
+        (IsCertificate (ideal_over field.now weights given.now.relations) (lead_degree weights question.now)
+        question.now) }
 {
     setting_law(field, given);
     lower_law();

@@ -4,6 +4,7 @@ ghost use Rattle.free_poly.specs.Poly.{IsPolynomial, lead_of};
 ghost use Rattle.free_poly.specs.Terms.{HasDegree, HasResidues, UsesLetters};
 ghost use Rattle.ideal_laws.specs.Closure.{IsFactorFree};
 ghost use Rattle.ideal_laws.specs.Engine.{IsReducedUpto, of_degree};
+ghost use Rattle.ideal_laws.specs.Ideal.{ideal_of};
 ghost use Rattle.ideal_laws.specs.Quantities.{AreRows, words_of};
 ghost use Rattle.overlaps.specs.Listed.{AreListed, IsOf, IsRowFor};
 ghost use Rattle.symbolic_prep.specs.Closed.{IsClosed};
@@ -69,8 +70,7 @@ fn rows_above(
     requires none { of_degree given.now.alphabet.weights d given.now.relations ≡ [] }
     requires elements { All (HasResidues field.now) basis.now.elements }
     requires listed { AreListed basis.now.weights basis.now.elements d found.now }
-    ensures rows { IfOk result (λ rows. AreRows field.now given.now.alphabet.weights given.now.relations
-        basis.now.elements d rows.items) }
+    ensures rows { IfOk result (λ rows. AreRows (ideal_of field.now given.now) basis.now.elements d rows.items) }
     ensures degree { IfOk result (λ rows. All (HasDegree basis.now.weights d) rows.items) }
     ensures letters { IfOk result (λ rows. All (UsesLetters (length basis.now.weights)) rows.items) }
 {
@@ -123,8 +123,7 @@ fn assert_cells<R: Abort + Threads + Sync>(
     requires weights { algebra.now.basis.weights ≡ algebra.now.given.alphabet.weights }
     requires reduced { IsReducedUpto algebra.now.field algebra.now.given.relations algebra.now.basis }
     requires residues { All (HasResidues algebra.now.field) algebra.now.given.relations }
-    requires rows { AreRows algebra.now.field algebra.now.given.alphabet.weights algebra.now.given.relations
-        algebra.now.basis.elements 4 rows.now }
+    requires rows { AreRows (ideal_of algebra.now.field algebra.now.given) algebra.now.basis.elements 4 rows.now }
     requires closed { IsClosed algebra.now.basis.elements (words_of rows.now) closed.now }
 {
     lower_law();
@@ -167,8 +166,7 @@ fn assert_closures<R: Abort + Threads + Sync>(
     requires weights { algebra.now.basis.weights ≡ algebra.now.given.alphabet.weights }
     requires reduced { IsReducedUpto algebra.now.field algebra.now.given.relations algebra.now.basis }
     requires residues { All (HasResidues algebra.now.field) algebra.now.given.relations }
-    requires rows { AreRows algebra.now.field algebra.now.given.alphabet.weights algebra.now.given.relations
-        algebra.now.basis.elements 4 rows.now }
+    requires rows { AreRows (ideal_of algebra.now.field algebra.now.given) algebra.now.basis.elements 4 rows.now }
     requires factor_free { IsFactorFree algebra.now.basis.elements }
     requires forms { All IsPolynomial algebra.now.basis.elements }
     requires degree { All (HasDegree algebra.now.basis.weights 4) rows.now }

@@ -1,7 +1,7 @@
 use Rattle.std.proofs.Common.{◌≡◌, Bool, Err, List, ℕ, arith, length, subst, sym, ap, ◌∙◌}
 use Rattle.std.specs.declared.result.Result.{Result}
 use Rattle.std.proofs.lemmas.Result.{err_from_is_err_and}
-use Rattle.ideal_laws.specs.Ideal.{IsMinimal}
+use Rattle.ideal_laws.specs.Ideal.{IsMinimal, ideal_over}
 use Rattle.anick_chains.specs.Listed.{AreListed}
 use Rattle.anick_chains.specs.Tallies.{count_text, count_total}
 use Rattle.anick_chains.specs.Texts.{chain_text}
@@ -29,7 +29,8 @@ returns-clause-printed c = λ p relations st upto.
     record {
       chains = told.chains;
       listed =
-          subst (λ (ws : List ℕ). AreListed (IsMinimal p b.weights relations) (length ws) ws c.args.job.now.bound told.chains) c.requires.weights told.listed;
+          subst (λ (ws : List ℕ). AreListed (IsMinimal (ideal_over p b.weights relations)) (length ws) ws c.args.job.now.bound told.chains) c.requires.weights
+          told.listed;
       few = omega (arith, c.in_ok-counts.ensures.within, ap count_total told.counted, counts_of-total told.chains);
       printed =
           c.in_ok-count_text.ensures ∙ ap count_text (c.as_slice-2.ensures ∙ told.counted) ∙ count_text-is names told.chains

@@ -1,6 +1,7 @@
 use Rattle.std.proofs.Common.{◌+◌, ℕ, Err, refl, ap, ◌∙◌}
 use Rattle.bergman_cli.proofs.Chained.{many_chains, refused_chains, told_chains}
 use Rattle.bergman_cli.proofs.chains.chains_answer.Goals as goal
+use Rattle.ideal_laws.specs.Ideal.{ideal_of}
 
 pub returns-in-Err-Limit : goal.returns-in-Err-Limit
 returns-in-Err-Limit g c =
@@ -10,8 +11,8 @@ returns-in-Err-Limit g c =
     (at.ensures.limit at.kind at.degree at.value (ap Err at.field-0-is))
 
 pub chain_lines-requires-clause-factor_free : goal.chain_lines-requires-clause-factor_free
-chain_lines-requires-clause-factor_free g c = c.lower_law.ensures.factors c.args.field.now c.args.given.now.alphabet.weights
-    c.args.given.now.relations c.setting_law.ensures (c.in-Ok.basis.done + 1) c.in-Ok.basis (record {
+chain_lines-requires-clause-factor_free g c = c.lower_law.ensures.factors (ideal_of c.args.field.now c.args.given.now) c.setting_law.ensures
+    (c.in-Ok.basis.done + 1) c.in-Ok.basis (record {
       kept = c.in-Ok.ensures.kept;
       next = refl;
       same_weights = c.in-Ok.ensures.weights;

@@ -1,6 +1,7 @@
 use Rattle.std.proofs.Common.{◌+◌, ℕ, List, length, Err, refl, ap, arith, subst, ◌∙◌}
 use Rattle.std.proofs.lemmas.Grind.{get_or_default_zero}
 use Rattle.free_poly.specs.declared.term.Term.{Term}
+use Rattle.ideal_laws.specs.Ideal.{ideal_of}
 use Rattle.ideal_laws.specs.declared.limits.Limits.{Limits}
 use Rattle.hilbert.specs.Series.{AreCounts, IsFirstLarge}
 use Rattle.bergman_cli.specs.Make.{summary_text}
@@ -15,8 +16,8 @@ returns-in-Err-Limit g c =
     (at.ensures.limit at.kind at.degree at.value (ap Err at.field-0-is))
 
 pub series-requires-clause-factor_free : goal.series-requires-clause-factor_free
-series-requires-clause-factor_free g c = c.lower_law.ensures.factors c.args.field.now c.args.given.now.alphabet.weights
-    c.args.given.now.relations c.setting_law.ensures (c.in-Ok.basis.done + 1) c.in-Ok.basis (record {
+series-requires-clause-factor_free g c = c.lower_law.ensures.factors (ideal_of c.args.field.now c.args.given.now) c.setting_law.ensures (c.in-Ok.basis.done + 1)
+    c.in-Ok.basis (record {
       kept = c.in-Ok.ensures.kept;
       next = refl;
       same_weights = c.in-Ok.ensures.weights;

@@ -2,6 +2,7 @@ use Rattle.std.proofs.Common.{◌≡◌, ◌∙◌, ◌+◌, ◌++◌, ◌<◌, 
 use Rattle.std.specs.Prelude.{slice_index_or}
 use Rattle.std.proofs.lemmas.Bool.{cases_lt}
 use Rattle.std.proofs.lemmas.List.{get_or_default}
+use Rattle.ideal_laws.specs.Ideal.{ideal_of, ideal_over}
 use Rattle.ideal_laws.specs.Kept.{lead_degree}
 use Rattle.job_steps.specs.declared.status.Status.TheVariants.{Products}
 use Rattle.job_steps.specs.Gains.{GainsAll, GainsPart}
@@ -15,7 +16,7 @@ use Rattle.bergman_cli.proofs.Places.{none_next}
 use Rattle.bergman_cli.proofs.normal.write_answers.Goals as goal
 
 pub index_of-requires : goal.index_of-requires
-index_of-requires g c = c.lower_law.ensures.factors c.args.field.now c.args.ideal.now.alphabet.weights c.args.ideal.now.relations
+index_of-requires g c = c.lower_law.ensures.factors (ideal_of c.args.field.now c.args.ideal.now)
     c.setting_law.ensures (c.args.basis.now.done + 1) c.args.basis.now (record {
       kept = c.done-done.ensures.kept;
       next = refl;
@@ -96,7 +97,8 @@ returns-in-Err-clause-end g c =
     let at : f ≡ slice_index_or questions place [] = c.index-questions-place.is ∙ get_or_default questions place f [] c.loop-place-test.true in
     let few = subst (λ (ws : List ℕ). length (triples ws relations (lead_degree ws f)) ≤ most_triples) c.requires.weights
     c.in-Ok-normal_form.ensures.within in
-    let is = subst (λ (ws : List ℕ). IsCertificate p ws relations (lead_degree ws f) f own) c.requires.weights c.in-Ok-normal_form.ensures.certificate in
+    let is = subst (λ (ws : List ℕ). IsCertificate (ideal_over p ws relations) (lead_degree ws f) f own) c.requires.weights
+    c.in-Ok-normal_form.ensures.certificate in
     let none = none_next (HasManyTriples weights relations) questions place f at c.loop-place.invariant.none
     (few_are_not_many (length (triples weights relations (lead_degree weights f))) few) in
     let answers = one_more p letters relations questions place written.0 f at c.loop-place-test.true written.1 own is in
@@ -123,7 +125,8 @@ loop-place-preserved g c =
     let at : f ≡ slice_index_or questions place [] = c.index-questions-place.is ∙ get_or_default questions place f [] c.loop-place-test.true in
     let few = subst (λ (ws : List ℕ). length (triples ws relations (lead_degree ws f)) ≤ most_triples) c.requires.weights
     c.in-Ok-normal_form.ensures.within in
-    let is = subst (λ (ws : List ℕ). IsCertificate p ws relations (lead_degree ws f) f own) c.requires.weights c.in-Ok-normal_form.ensures.certificate in
+    let is = subst (λ (ws : List ℕ). IsCertificate (ideal_over p ws relations) (lead_degree ws f) f own) c.requires.weights
+    c.in-Ok-normal_form.ensures.certificate in
     let none = none_next (HasManyTriples weights relations) questions place f at c.loop-place.invariant.none
     (few_are_not_many (length (triples weights relations (lead_degree weights f))) few) in
     let answers = one_more p letters relations questions place written.0 f at c.loop-place-test.true written.1 own is in

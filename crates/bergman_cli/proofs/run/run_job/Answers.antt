@@ -1,4 +1,5 @@
 use Rattle.std.proofs.Common.{ℕ, [], refl, inl, subst}
+use Rattle.ideal_laws.specs.Ideal.{ideal_of}
 use Rattle.ideal_laws.specs.Laws.{IsSetting}
 use Rattle.job_steps.proofs.Traced.{tells_none}
 use Rattle.bergman_cli.proofs.RunTraces.{work_trace}
@@ -11,7 +12,7 @@ pub returns-clause-told : goal.returns-clause-told
 returns-clause-told g c =
     let told = c.work.ensures.told in
     let given = c.in-Ok-read_given.given in
-    let setting = subst (λ (p : ℕ). IsSetting p given.alphabet.weights given.relations) c.in-Ok.ensures c.setting_law.ensures in (
+    let setting = subst (λ (p : ℕ). IsSetting (ideal_of p c.in-Ok-read_given.given)) c.in-Ok.ensures c.setting_law.ensures in (
       told.0,
       λ words is. work_trace words _ _ _ _ _ c.args.job.now is given.alphabet given.relations c.in-Ok-read_given.ensures.given
           c.len-letters.ensures.alphabet setting told.0 c.work.result told.1,

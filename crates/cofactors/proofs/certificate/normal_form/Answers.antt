@@ -7,7 +7,7 @@ use Rattle.words.proofs.Members.{All-from_members}
 use Rattle.words.proofs.Weights.{length-le-degree_of}
 use Rattle.free_poly.specs.declared.term.Term.{Term}
 use Rattle.free_poly.specs.Terms.{HasOneDegree, UsesLetters, total_at}
-use Rattle.ideal_laws.specs.Ideal.{IsElement, IsLeadingWord}
+use Rattle.ideal_laws.specs.Ideal.{IsElement, IsLeadingWord, ideal_over}
 use Rattle.ideal_laws.specs.Kept.{lead_degree}
 use Rattle.ideal_laws.specs.Laws.{IsSetting}
 use Rattle.lead_index.specs.Leads.{IsFree}
@@ -23,8 +23,8 @@ use Rattle.cofactors.proofs.TripleLists.{degree_of_lead}
 use Rattle.cofactors.proofs.certificate.normal_form.Goals.{After-as_slice, After-as_slice-4, After-terms-terms}
 use Rattle.cofactors.proofs.certificate.normal_form.Goals as goal
 
-setting : (c : After-terms-terms) → IsSetting c.args.field.now c.args.basis.now.weights c.args.presentation.now.relations
-setting c = subst (λ (ws : List ℕ). IsSetting c.args.field.now ws c.args.presentation.now.relations) (sym c.requires.weights) c.setting_law.ensures
+setting : (c : After-terms-terms) → IsSetting (ideal_over c.args.field.now c.args.basis.now.weights c.args.presentation.now.relations)
+setting c = subst (λ (ws : List ℕ). IsSetting (ideal_over c.args.field.now ws c.args.presentation.now.relations)) (sym c.requires.weights) c.setting_law.ensures
 
 -- the question as an element
 element : (c : After-terms-terms) →
@@ -95,25 +95,27 @@ returns-then-is_free-clause-certificate c =
     let at = (goal.at.returns-then-is_free-clause-certificate c).After-terms-terms in
     let st = setting at in
     let ef = element at in
-    let lower = c.lower_law.ensures.lower p weights relations st (basis.done + 1) basis
+    let lower = c.lower_law.ensures.lower (ideal_over p weights relations) st (basis.done + 1) basis
     (record { kept = c.done-done.ensures.kept; next = refl; same_weights = refl; reduced = c.requires.reduced }) in
     let free : All (λ (t : Term). IsFree c.args.index.now t.word) q = c.is_free.ensures.0 (search rules) in
-    let none : All (λ (s : Term). IsLeadingWord p weights relations d s.word → ⊥) q =
-    All-from_members (λ (s : Term). IsLeadingWord p weights relations d s.word → ⊥) q (λ s m.
+    let none : All (λ (s : Term). IsLeadingWord (ideal_over p weights relations) d s.word → ⊥) q =
+    All-from_members (λ (s : Term). IsLeadingWord (ideal_over p weights relations) d s.word → ⊥) q (λ s m.
     let over = All-contains (λ (t : Term). IsOver (length weights) t.word) q s ef.letters m in
     let degree = All-contains (λ (t : Term). degree_of weights t.word ≡ d) q s ef.degree m in
     let listed = subst (λ (n : ℕ). Contains (words_of_degree weights n) s.word) degree (listed_word weights st.are_weights s.word over) in
-    (c.normal_form_laws.ensures.normal p weights relations st (basis.done + 1) basis.elements lower d s.word (omega (arith, c.requires.done)) listed).1
+    (c.normal_form_laws.ensures.normal (ideal_over p weights relations) st (basis.done + 1) basis.elements lower d s.word (omega (arith, c.requires.done))
+    listed).1
     (normal_from_free basis.elements c.args.index.now s.word c.requires.index (All-contains (λ (t : Term). IsFree c.args.index.now t.word) q s free m))) in
     let same = c.in_ok-copy.ensures in
     let empty : c.from_vec.result ≡ [] = c.from_vec.ensures ∙ c.new.ensures.items in
-    subst (IsCertificate p weights relations d q) (λ j. record { normal = sym same j; products = sym empty j })
-    (certificate_of_normal p weights relations st d q ef none)
+    subst (IsCertificate (ideal_over p weights relations) d q) (λ j. record { normal = sym same j; products = sym empty j })
+    (certificate_of_normal (ideal_over p weights relations) st d q ef none)
 
 pub returns-then-is_free-clause-member : goal.returns-then-is_free-clause-member
 returns-then-is_free-clause-member c =
     let at = (goal.at.returns-then-is_free-clause-member c).After-terms-terms in
-    tells_members c.args.field.now c.args.basis.now.weights c.args.presentation.now.relations (setting at) _ c.args.question.now c.in_ok-copy.field-0
+    tells_members (ideal_over c.args.field.now c.args.basis.now.weights c.args.presentation.now.relations) (setting at) _ c.args.question.now
+    c.in_ok-copy.field-0
     (element at) (returns-then-is_free-clause-certificate c).is_normal
 
 pub leaders_of-requires-clause-numbers : goal.leaders_of-requires-clause-numbers
@@ -124,7 +126,7 @@ leaders_of-requires-clause-numbers c =
     let d = lead_degree weights c.args.question.now in
     let Numbered = λ (s : Product). (0 < s.relation) × (s.relation ≤ length relations) in
     subst (All Numbered) (sym (c.as_slice.ensures.value ∙ listed at.After-as_slice))
-    (All-from_members Numbered (triples weights relations d) (numbered c.args.field.now weights relations (setting at.After-terms-terms) d))
+    (All-from_members Numbered (triples weights relations d) (numbered (ideal_over c.args.field.now weights relations) (setting at.After-terms-terms) d))
 
 pub products_of-requires-clause-places : goal.products_of-requires-clause-places
 products_of-requires-clause-places c =
@@ -136,7 +138,7 @@ products_of-requires-clause-places c =
     let t = c.in_ok-element.field-0 in
     let all = triples weights relations d in
     let is = listed at.After-as_slice in
-    let places : HasPlaces (length all) t.factors = places_of c.args.field.now weights relations (setting at.After-terms-terms) d q
+    let places : HasPlaces (length all) t.factors = places_of (ideal_over c.args.field.now weights relations) (setting at.After-terms-terms) d q
     (element at.After-terms-terms) t (tracked at.After-as_slice-4 all is) in
     subst (λ (qs : List Product). HasPlaces (length qs) c.as_slice-4.result.now) (sym (c.as_slice-3.ensures.value ∙ is))
     (subst (HasPlaces (length all)) (sym c.as_slice-4.ensures) places)
@@ -161,12 +163,13 @@ returns-clause-certificate c =
     let factors : c.as_slice-4.result.now ≡ t.factors = c.as_slice-4.ensures in
     let products : c.from_vec-3.result ≡ negative_products p all t.factors = c.from_vec-3.ensures ∙ c.in_ok-products.ensures
     ∙ (λ j. negative_products p (given j) (factors j)) in
-    subst (λ (ps : List Product). IsCertificate p weights relations d q (record { normal = t.element; products = ps })) (sym products)
-    (certificate_from_row p weights relations (setting at.After-terms-terms) d q (element at.After-terms-terms) leaders c.in_ok-leaders.ensures.leaders
+    subst (λ (ps : List Product). IsCertificate (ideal_over p weights relations) d q (record { normal = t.element; products = ps })) (sym products)
+    (certificate_from_row (ideal_over p weights relations) (setting at.After-terms-terms) d q (element at.After-terms-terms) leaders
+    c.in_ok-leaders.ensures.leaders
     spanned t c.in_ok-element.ensures.row (tracked at.After-as_slice-4 all is) zero)
 
 pub returns-clause-member : goal.returns-clause-member
 returns-clause-member c =
     let at = (goal.at.returns-clause-member c).After-terms-terms in
-    tells_members c.args.field.now c.args.basis.now.weights c.args.presentation.now.relations (setting at) _ c.args.question.now
+    tells_members (ideal_over c.args.field.now c.args.basis.now.weights c.args.presentation.now.relations) (setting at) _ c.args.question.now
     c.in_ok-element.field-0.element (element at) (returns-clause-certificate c).is_normal

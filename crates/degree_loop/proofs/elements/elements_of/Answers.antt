@@ -1,5 +1,6 @@
 use Rattle.std.proofs.Common.{◌≡◌, ◌+◌, ◌-◌, ◌^◌, ◌≤◌, ℕ, List, All, length, map, min, refl, subst, sym, ap, ◌∙◌, arith}
 use Rattle.free_poly.specs.declared.term.Term.{Term}
+use Rattle.ideal_laws.specs.Ideal.{ideal_of}
 use Rattle.ideal_laws.specs.Quantities.{terms_in, contested_words}
 use Rattle.ideal_laws.specs.Basis.{IsReducedBasis}
 use Rattle.back_reduce.specs.Rows.{IsRow}
@@ -12,13 +13,12 @@ use Rattle.degree_loop.proofs.elements.elements_of.Goals as goal
 
 pub elements_on-requires-clause-columns : goal.elements_on-requires-clause-columns
 elements_on-requires-clause-columns g c =
-    let p = c.args.field.now in
+    let ideal = ideal_of c.args.field.now c.args.presentation.now in
     let weights = c.args.presentation.now.alphabet.weights in
-    let relations = c.args.presentation.now.relations in
     let below = c.args.below.now in
     let closed = c.args.closed.now in
     let m = c.requires.matrix in
-    let lower = c.lower_law.ensures.lower p weights relations c.setting_law.ensures c.args.d below
+    let lower = c.lower_law.ensures.lower ideal c.setting_law.ensures c.args.d below
     (record {
       kept = c.done-done.ensures.kept;
       next = sym c.requires.next;
@@ -26,7 +26,7 @@ elements_on-requires-clause-columns g c =
       reduced = c.requires.reduced;
     }) in
     subst (AreColumnWords weights) (sym (c.contested.ensures))
-    (column_words p weights relations c.setting_law.ensures c.args.d below.elements lower m.rows m.are_closed.are_rows closed.columns
+    (column_words ideal c.setting_law.ensures c.args.d below.elements lower m.rows m.are_closed.are_rows closed.columns
     m.are_closed.are_columns closed.reducers m.are_closed.are_reducers c.requires.small)
 
 pub elements_on-requires-clause-rows : goal.elements_on-requires-clause-rows
@@ -35,7 +35,7 @@ elements_on-requires-clause-rows g c =
     let closed = c.args.closed.now in
     let problem = g.P.PivotRows.given c.args.pivots.now in
     let echelon = c.in_ok-echelon.echelon.items in
-    let form = form_of p c.args.presentation.now.alphabet.weights c.args.presentation.now.relations c.args.below.now.elements c.args.d
+    let form = form_of (ideal_of c.args.field.now c.args.presentation.now) c.args.below.now.elements c.args.d
     closed problem c.requires.matrix echelon c.in_ok-echelon.ensures in
     let columns : c.contested.result.now ≡ contested_words closed.columns closed.reducers = c.contested.ensures in
     let rows : All (IsRow p (length c.contested.result.now)) echelon =
@@ -44,13 +44,11 @@ elements_on-requires-clause-rows g c =
 
 pub returns-then-count-from-clause-limit : goal.returns-then-count-from-clause-limit
 returns-then-count-from-clause-limit g c = λ kind degree value e.
-    let p = c.args.field.now in
-    let weights = c.args.presentation.now.alphabet.weights in
-    let relations = c.args.presentation.now.relations in
+    let ideal = ideal_of c.args.field.now c.args.presentation.now in
     let below = c.args.below.now in
     let closed = c.args.closed.now in
     let problem = g.P.PivotRows.given c.args.pivots.now in
-    let lower = c.lower_law.ensures.lower p weights relations c.setting_law.ensures c.args.d below
+    let lower = c.lower_law.ensures.lower ideal c.setting_law.ensures c.args.d below
     (record {
       kept = c.done-done.ensures.kept;
       next = sym c.requires.next;
@@ -61,23 +59,21 @@ returns-then-count-from-clause-limit g c = λ kind degree value e.
     let columns : c.contested.result.now ≡ contested_words closed.columns closed.reducers = c.contested.ensures in
     let made : elements ≡ map (element_on c.contested.result.now) c.in_ok-echelon.echelon.items =
     c.in_ok-elements.ensures ∙ ap (map (element_on c.contested.result.now)) c.as_slice.ensures.value in
-    let basis = basis_of p weights relations below.elements c.args.d closed problem c.requires.matrix c.rows_law.ensures.basis
+    let basis = basis_of ideal below.elements c.args.d closed problem c.requires.matrix c.rows_law.ensures.basis
     c.setting_law.ensures lower c.in_ok-echelon.echelon.items c.in_ok-echelon.ensures
     c.contested.result.now columns elements made in
     let count : c.saturating_add-count.result ≡ min (min (terms_in below.elements) (2 ^ 64 - 1) + min (terms_in elements) (2 ^ 64 - 1)) (2 ^ 64 - 1) =
     omega (arith, c.saturating_add-count.ensures, c.terms_below.ensures, c.terms_of.ensures, ap terms_in c.as_slice-2.ensures.value) in
-    terms_pass p weights relations below c.args.d c.args.most c.saturating_add-count.result elements basis
+    terms_pass ideal below c.args.d c.args.most c.saturating_add-count.result elements basis
     (omega (arith, c.ranges.most.fits)) count (omega (arith, c.if-count-from.true, c.from.ensures)) kind degree value _ refl e
 
 pub returns-clause-elements : goal.returns-clause-elements
 returns-clause-elements g c =
-    let p = c.args.field.now in
-    let weights = c.args.presentation.now.alphabet.weights in
-    let relations = c.args.presentation.now.relations in
+    let ideal = ideal_of c.args.field.now c.args.presentation.now in
     let below = c.args.below.now in
     let closed = c.args.closed.now in
     let problem = g.P.PivotRows.given c.args.pivots.now in
-    let lower = c.lower_law.ensures.lower p weights relations c.setting_law.ensures c.args.d below
+    let lower = c.lower_law.ensures.lower ideal c.setting_law.ensures c.args.d below
     (record {
       kept = c.done-done.ensures.kept;
       next = sym c.requires.next;
@@ -88,35 +84,31 @@ returns-clause-elements g c =
     let columns : c.contested.result.now ≡ contested_words closed.columns closed.reducers = c.contested.ensures in
     let made : elements ≡ map (element_on c.contested.result.now) c.in_ok-echelon.echelon.items =
     c.in_ok-elements.ensures ∙ ap (map (element_on c.contested.result.now)) c.as_slice.ensures.value in
-    subst (IsReducedBasis p weights relations c.args.d) (sym c.from_vec.ensures)
-    (basis_of p weights relations below.elements c.args.d closed problem c.requires.matrix c.rows_law.ensures.basis
+    subst (IsReducedBasis ideal c.args.d) (sym c.from_vec.ensures)
+    (basis_of ideal below.elements c.args.d closed problem c.requires.matrix c.rows_law.ensures.basis
     c.setting_law.ensures lower c.in_ok-echelon.echelon.items c.in_ok-echelon.ensures
     c.contested.result.now columns elements made)
 
 pub returns-clause-few : goal.returns-clause-few
 returns-clause-few g c =
-    let p = c.args.field.now in
-    let weights = c.args.presentation.now.alphabet.weights in
-    let relations = c.args.presentation.now.relations in
+    let ideal = ideal_of c.args.field.now c.args.presentation.now in
     let below = c.args.below.now in
     let elements = c.in_ok-elements.elements.items in
-    let basis = subst (IsReducedBasis p weights relations c.args.d) c.from_vec.ensures (returns-clause-elements g c) in
+    let basis = subst (IsReducedBasis ideal c.args.d) c.from_vec.ensures (returns-clause-elements g c) in
     let count : c.saturating_add-count.result ≡ min (min (terms_in below.elements) (2 ^ 64 - 1) + min (terms_in elements) (2 ^ 64 - 1)) (2 ^ 64 - 1) =
     omega (arith, c.saturating_add-count.ensures, c.terms_below.ensures, c.terms_of.ensures, ap terms_in c.as_slice-2.ensures.value) in
     subst (λ (fs : List (List Term)). length fs ≤ c.args.most) (sym c.from_vec.ensures)
-    (elements_few p weights relations below c.args.d c.args.most c.saturating_add-count.result elements basis
+    (elements_few ideal below c.args.d c.args.most c.saturating_add-count.result elements basis
     (omega (arith, c.ranges.most.fits)) count (omega (arith, c.if-count-from.false, c.from.ensures))
-    (few_elements elements (basis_monic p weights relations c.args.d elements basis)))
+    (few_elements elements (basis_monic ideal c.args.d elements basis)))
 
 pub returns-clause-within : goal.returns-clause-within
 returns-clause-within g c =
-    let p = c.args.field.now in
-    let weights = c.args.presentation.now.alphabet.weights in
-    let relations = c.args.presentation.now.relations in
+    let ideal = ideal_of c.args.field.now c.args.presentation.now in
     let below = c.args.below.now in
     let elements = c.in_ok-elements.elements.items in
-    let basis = subst (IsReducedBasis p weights relations c.args.d) c.from_vec.ensures (returns-clause-elements g c) in
+    let basis = subst (IsReducedBasis ideal c.args.d) c.from_vec.ensures (returns-clause-elements g c) in
     let count : c.saturating_add-count.result ≡ min (min (terms_in below.elements) (2 ^ 64 - 1) + min (terms_in elements) (2 ^ 64 - 1)) (2 ^ 64 - 1) =
     omega (arith, c.saturating_add-count.ensures, c.terms_below.ensures, c.terms_of.ensures, ap terms_in c.as_slice-2.ensures.value) in
-    terms_within p weights relations below c.args.d c.args.most c.saturating_add-count.result elements basis
+    terms_within ideal below c.args.d c.args.most c.saturating_add-count.result elements basis
     (omega (arith, c.ranges.most.fits)) count (omega (arith, c.if-count-from.false, c.from.ensures))

@@ -5,6 +5,7 @@ use Rattle.std.proofs.lemmas.Result.{err_from_is_err_and}
 use Rattle.free_poly.specs.declared.term.Term.{Term}
 use Rattle.ideal_laws.specs.Closure.{AreObstructions}
 use Rattle.ideal_laws.specs.Engine.{of_degree}
+use Rattle.ideal_laws.specs.Ideal.{ideal_of}
 use Rattle.ideal_laws.specs.Quantities.{AreRows}
 use Rattle.overlaps.specs.declared.obstruction.Obstruction.{Obstruction}
 use Rattle.overlaps.specs.Listed.{AreListed, IsOf, IsRowFor, obstruction_of}
@@ -40,16 +41,15 @@ pub returns-clause-rows : goal.returns-clause-rows
 returns-clause-rows c =
     let p = c.args.field.now in
     let below = c.args.below.now in
-    let weights = c.args.presentation.now.alphabet.weights in
-    let relations = c.args.presentation.now.relations in
+    let ideal = ideal_of c.args.field.now c.args.presentation.now in
     let found = c.in_ok-found.found.items in
     let listed = subst (λ (ws : List ℕ). AreListed ws below.elements c.args.d found) c.requires.weights c.in_ok-found.ensures.listed in
     let each = subst (λ (ws : List ℕ). AllZip (IsRowFor p ws below.elements) found c.in_ok-others.others.items) c.requires.weights
     (subst (λ (xs : List Obstruction). AllZip (IsRowFor p below.weights below.elements) xs c.in_ok-others.others.items)
     c.as_slice.ensures.value c.in_ok-others.ensures) in
-    subst (AreRows p weights relations below.elements c.args.d)
+    subst (AreRows ideal below.elements c.args.d)
     (sym (c.in_ok-append.ensures.items ∙ ap (λ (fs : List (List Term)). fs ++ c.in_ok-others.others.items) c.in_ok-rows.ensures))
-    (are_rows p weights relations below.elements c.args.d found c.in_ok-others.others.items listed each)
+    (are_rows ideal below.elements c.args.d found c.in_ok-others.others.items listed each)
 
 pub returns-clause-few : goal.returns-clause-few
 returns-clause-few c =

@@ -3,6 +3,7 @@ use Rattle.std.proofs.lemmas.Result.{err_from_is_err_and}
 use Rattle.free_poly.specs.declared.term.Term.{Term}
 use Rattle.free_poly.specs.Terms.{HasDegree, UsesLetters}
 use Rattle.ideal_laws.specs.Basis.{IsReducedBasis}
+use Rattle.ideal_laws.specs.Ideal.{ideal_over}
 use Rattle.ideal_laws.specs.Quantities.{IsFirstPassing, IsQuantity, NonePasses}
 use Rattle.ideal_laws.proofs.Grown.{next_from_reduced, reduced_upto_grown}
 use Rattle.ideal_laws.proofs.degrees.advance.Goals as goal
@@ -18,7 +19,7 @@ pub returns-in_err-report-clause-limit : goal.returns-in_err-report-clause-limit
 returns-in_err-report-clause-limit g c = λ kind degree value e.
     let p = err_from_is_err_and c.from_residual.result c.from_residual.ensures.1 in
     let Q : List ℕ → ℕ → Type 0 = λ ws d. (degree ≡ d) × IsFirstPassing
-    (IsQuantity c.args.field.now ws c.args.presentation.now.relations c.args.basis.now d) (g.E.DegreeEngine.kinds c.args.engine.now)
+    (IsQuantity (ideal_over c.args.field.now ws c.args.presentation.now.relations) c.args.basis.now d) (g.E.DegreeEngine.kinds c.args.engine.now)
     kind value in
     moved Q c.args.basis.now.weights c.args.presentation.now.alphabet.weights c.done-d.result c.args.basis.now.done c.requires.weights c.done-d.ensures.value
     (c.in_err-report.ensures.limit kind degree value (ap Err (sym p.2 ∙ one_fault c.from_residual.result _ _ p.1 e)))
@@ -27,7 +28,7 @@ pub push_degree-requires-clause-letters : goal.push_degree-requires-clause-lette
 push_degree-requires-clause-letters g c =
     let basis = c.args.basis.now in
     let elements = c.in_ok-report.report.elements in
-    let h = moved (λ ws d. IsReducedBasis c.args.field.now ws c.args.presentation.now.relations d elements) basis.weights _ c.done-d.result
+    let h = moved (λ ws d. IsReducedBasis (ideal_over c.args.field.now ws c.args.presentation.now.relations) d elements) basis.weights _ c.done-d.result
     basis.done c.requires.weights c.done-d.ensures.value c.in_ok-report.ensures.elements in
     subst (All (UsesLetters (length basis.weights))) (sym c.into_vec.ensures)
     (next_from_reduced c.args.field.now c.args.presentation.now.relations basis elements c.in_ok-report.ensures.few h).letters
@@ -36,7 +37,7 @@ pub push_degree-requires-clause-degree : goal.push_degree-requires-clause-degree
 push_degree-requires-clause-degree g c =
     let basis = c.args.basis.now in
     let elements = c.in_ok-report.report.elements in
-    let h = moved (λ ws d. IsReducedBasis c.args.field.now ws c.args.presentation.now.relations d elements) basis.weights _ c.done-d.result
+    let h = moved (λ ws d. IsReducedBasis (ideal_over c.args.field.now ws c.args.presentation.now.relations) d elements) basis.weights _ c.done-d.result
     basis.done c.requires.weights c.done-d.ensures.value c.in_ok-report.ensures.elements in
     subst (All (HasDegree basis.weights (basis.done + 1))) (sym c.into_vec.ensures)
     (next_from_reduced c.args.field.now c.args.presentation.now.relations basis elements c.in_ok-report.ensures.few h).degree
@@ -45,7 +46,7 @@ pub returns-clause-reduced : goal.returns-clause-reduced
 returns-clause-reduced g c =
     let basis = c.args.basis.now in
     let elements = c.in_ok-report.report.elements in
-    let h = moved (λ ws d. IsReducedBasis c.args.field.now ws c.args.presentation.now.relations d elements) basis.weights _ c.done-d.result
+    let h = moved (λ ws d. IsReducedBasis (ideal_over c.args.field.now ws c.args.presentation.now.relations) d elements) basis.weights _ c.done-d.result
     basis.done c.requires.weights c.done-d.ensures.value c.in_ok-report.ensures.elements in
     let pushed = c.in_ok-push_degree.ensures in
     reduced_upto_grown c.args.field.now c.args.presentation.now.relations basis c.push_degree.new.self elements c.done-d.ensures.kept
@@ -55,5 +56,6 @@ returns-clause-reduced g c =
 pub returns-clause-within : goal.returns-clause-within
 returns-clause-within g c =
     let basis = c.args.basis.now in
-    moved (λ ws d. NonePasses (IsQuantity c.args.field.now ws c.args.presentation.now.relations basis d) (g.E.DegreeEngine.kinds c.args.engine.now))
+    moved (λ ws d. NonePasses (IsQuantity (ideal_over c.args.field.now ws c.args.presentation.now.relations) basis d)
+    (g.E.DegreeEngine.kinds c.args.engine.now))
     basis.weights c.args.presentation.now.alphabet.weights c.done-d.result basis.done c.requires.weights c.done-d.ensures.value c.in_ok-report.ensures.within

@@ -1,4 +1,5 @@
 use Rattle.std.proofs.Common.{◌≡◌, ◌↔◌, ℕ}
+use Rattle.ideal_laws.specs.Ideal.{ideal_of}
 use Rattle.ideal_laws.specs.declared.account.Account.{Account}
 use Rattle.ideal_laws.specs.declared.presentation.Presentation.{Presentation}
 use Rattle.ideal_laws.specs.Engine.{Elements, IsReducedUpto}
@@ -12,7 +13,7 @@ invariant-loop-degree g l =
     × (l.basis.weights ≡ l.presentation.alphabet.weights)
     × IsKept l.basis
     × IsReducedUpto l.field l.presentation.relations l.basis
-    × NonePassesUpto l.field l.presentation.alphabet.weights l.presentation.relations (g.E.DegreeEngine.kinds l.fn.engine) l._degree
+    × NonePassesUpto (ideal_of l.field l.presentation) (g.E.DegreeEngine.kinds l.fn.engine) l._degree
     × (g.E.DegreeEngine.kinds l.engine ≡ g.E.DegreeEngine.kinds l.fn.engine)
     × ((p : ℕ) (rs : Presentation) (b : Elements) (e : ℕ) (a : Account) →
     g.E.DegreeEngine.may_account l.engine p rs b e a ↔ g.E.DegreeEngine.may_account l.fn.engine p rs b e a)

@@ -1,5 +1,6 @@
 use Rattle.std.proofs.Common.{◌+◌, ◌++◌, ℕ, List, [], refl, ap, subst, ◌∙◌}
 use Rattle.std.proofs.lemmas.Result.{err_from_is_err_and}
+use Rattle.ideal_laws.specs.Ideal.{ideal_of}
 use Rattle.ideal_laws.specs.declared.limits.LimitKind.{LimitKind}
 use Rattle.job_steps.specs.Printing.{IsBasisUndone, IsNext, IsNextUndone, lines_of, task_of}
 use Rattle.job_steps.specs.Traces.{OfNextTrace, OfTrace, Tells}
@@ -68,8 +69,7 @@ loop-degree-preserved g c =
     let below = c.loop-degree.basis in
     let next = c.in_ok-print_next.ensures in
     let printed = next.printed in
-    let is_next = subst (λ (limits : List (LimitKind × ℕ)). IsNext c.args.field.now c.args.given.now.alphabet.weights
-    c.args.given.now.relations limits below printed.0) inv.3 printed.1 in (
+    let is_next = subst (λ (limits : List (LimitKind × ℕ)). IsNext (ideal_of c.args.field.now c.args.given.now) limits below printed.0) inv.3 printed.1 in (
       inv.0 ++ lines_of c.args.asked.basis c.args.given.now.alphabet.names c.args.field.now (below.done + 1) printed.0,
       record {
         done = next.done ∙ ap (λ (n : ℕ). n + 1) inv.1.done;

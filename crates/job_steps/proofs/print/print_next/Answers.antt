@@ -1,6 +1,7 @@
 use Rattle.std.proofs.Common.{◌+◌, ℕ, List, Err, ap, subst, ◌∙◌, arith, refl}
 use Rattle.std.proofs.KnownBytes.{Appends-nil}
 use Rattle.ideal_laws.specs.Basis.{IsReducedBasis}
+use Rattle.ideal_laws.specs.Ideal.{ideal_of, ideal_over}
 use Rattle.ideal_laws.specs.Kept.{IsBelow}
 use Rattle.ideal_laws.specs.Quantities.{IsFirstPassing, IsQuantity}
 use Rattle.job_steps.specs.Traces.{Tells, trace_of}
@@ -13,9 +14,9 @@ pub returns-in-Err-Limit-clause-undone : goal.returns-in-Err-Limit-clause-undone
 returns-in-Err-Limit-clause-undone g c =
     let basis = c.args.basis.now in
     let limits = g.E.DegreeEngine.kinds c.args.engine.now in
-    let Q = IsQuantity c.args.field.now c.args.given.now.alphabet.weights c.args.given.now.relations basis (basis.done + 1) in
+    let Q = IsQuantity (ideal_of c.args.field.now c.args.given.now) basis (basis.done + 1) in
     let u = c.in-Err-Limit.ensures.limit c.in-Err-Limit.kind c.in-Err-Limit.degree c.in-Err-Limit.value (ap Err c.in-Err-Limit.field-0-is) in
-    let passes = subst (λ (ws : List ℕ). IsFirstPassing (IsQuantity c.args.field.now ws c.args.given.now.relations basis (basis.done + 1))
+    let passes = subst (λ (ws : List ℕ). IsFirstPassing (IsQuantity (ideal_over c.args.field.now ws c.args.given.now.relations) basis (basis.done + 1))
     limits c.in-Err-Limit.kind c.in-Err-Limit.value) c.requires.weights u.1 in (
       c.in-Err-Limit.degree-is ∙ u.0,
       limit_moved (IsFirstPassing Q limits) _ _ _ _ c.in-Err-Limit.kind-is c.in-Err-Limit.value-is passes,
@@ -36,9 +37,9 @@ tell_degree-requires g c =
     let next = c.in-Ok.ensures in
     let basis = c.args.basis.now in
     let given = c.args.given.now in
-    let is_below : IsBelow c.args.field.now given.alphabet.weights given.relations (basis.done + 1) basis =
+    let is_below : IsBelow (ideal_of c.args.field.now c.args.given.now) (basis.done + 1) basis =
     record { kept = next.kept.0; next = refl; same_weights = c.requires.weights; reduced = c.requires.reduced } in
-    let reduced = subst (λ (ws : List ℕ). IsReducedBasis c.args.field.now ws given.relations (basis.done + 1) next.elements.0)
+    let reduced = subst (λ (ws : List ℕ). IsReducedBasis (ideal_over c.args.field.now ws given.relations) (basis.done + 1) next.elements.0)
     c.requires.weights next.elements.1 in
     record {
       printable = λ traces. c.requires.printable traces basis (basis.done + 1) next.elements.0 c.in-Ok.account

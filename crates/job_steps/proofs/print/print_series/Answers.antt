@@ -1,4 +1,5 @@
 use Rattle.std.proofs.Common.{◌+◌, ℕ, List, Err, refl, ap, sym, subst, lit<, inl, inr}
+use Rattle.ideal_laws.specs.Ideal.{ideal_of}
 use Rattle.ideal_laws.specs.declared.limits.Limits.{Limits}
 use Rattle.ideal_laws.specs.Limits.{standard_limits}
 use Rattle.hilbert.specs.Series.{AreCounts, IsFirstLarge}
@@ -8,8 +9,8 @@ use Rattle.job_steps.proofs.Counted.{cut_from_large, undone_from_unwritten, whol
 use Rattle.job_steps.proofs.print.print_series.Goals as goal
 
 pub series-requires-clause-factor_free : goal.series-requires-clause-factor_free
-series-requires-clause-factor_free g c = c.lower_law.ensures.factors c.args.field.now c.args.given.now.alphabet.weights
-    c.args.given.now.relations c.setting_law.ensures (c.args.basis.now.done + 1) c.args.basis.now (record {
+series-requires-clause-factor_free g c = c.lower_law.ensures.factors (ideal_of c.args.field.now c.args.given.now) c.setting_law.ensures
+    (c.args.basis.now.done + 1) c.args.basis.now (record {
       kept = c.done.ensures.kept;
       next = refl;
       same_weights = c.requires.weights;

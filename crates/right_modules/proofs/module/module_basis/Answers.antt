@@ -4,6 +4,7 @@ use Rattle.normal_words.proofs.Blocks.{one_fault}
 use Rattle.right_modules.specs.Answered.{AreModuleDegrees, AreModuleNumbers, ArePartsUpto}
 use Rattle.right_modules.proofs.ModuleAnswers.{below_after, degrees_are, limit_from_fault, shaped_from, tells_outside}
 use Rattle.right_modules.proofs.module.module_basis.Goals as goal
+use Rattle.ideal_laws.specs.Ideal.{ideal_of}
 
 pub returns-in_err-basis-clause-limit : goal.returns-in_err-basis-clause-limit
 returns-in_err-basis-clause-limit g c = λ kind degree value e.
@@ -18,7 +19,7 @@ index_of-requires g c =
     let given = c.args.presentation.now in
     let run = c.in_ok-basis.ensures in
     let below = below_after c.args.field.now given c.args.bound c.in_ok-basis.basis run.kept run.done run.weights run.reduced in
-    c.lower_law.ensures.factors c.args.field.now given.alphabet.weights given.relations c.setting_law.ensures (c.args.bound + 1) c.in_ok-basis.basis below
+    c.lower_law.ensures.factors (ideal_of c.args.field.now c.args.presentation.now) c.setting_law.ensures (c.args.bound + 1) c.in_ok-basis.basis below
 
 pub returns-in_err-numbers-clause-limit : goal.returns-in_err-numbers-clause-limit
 returns-in_err-numbers-clause-limit g c = λ kind degree value e.

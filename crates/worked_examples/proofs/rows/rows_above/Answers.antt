@@ -2,6 +2,7 @@ use Rattle.std.proofs.Common.{◌++◌, ℕ, List, All, length, subst, sym}
 use Rattle.std.specs.List.{AllZip}
 use Rattle.free_poly.specs.declared.term.Term.{Term}
 use Rattle.free_poly.specs.Terms.{HasDegree, UsesLetters}
+use Rattle.ideal_laws.specs.Ideal.{ideal_of}
 use Rattle.ideal_laws.specs.Quantities.{AreRows}
 use Rattle.overlaps.specs.Listed.{AreListed, IsRowFor}
 use Rattle.overlaps.proofs.Rows.{are_rows, each_is}
@@ -22,17 +23,18 @@ returns-clause-rows c =
     let rows = c.in_ok-rows.rows.items in
     let listed = subst (λ (w : List ℕ). AreListed w G d found) c.requires.weights c.requires.listed in
     let each = subst (λ (w : List ℕ). AllZip (IsRowFor p w G) found rows) c.requires.weights c.in_ok-rows.ensures in
-    subst (λ (fs : List (List Term)). AreRows p ws rs G d (fs ++ rows)) c.requires.none (are_rows p ws rs G d found rows listed each)
+    subst (λ (fs : List (List Term)). AreRows (ideal_of c.args.field.now c.args.given.now) G d (fs ++ rows)) c.requires.none
+    (are_rows (ideal_of c.args.field.now c.args.given.now) G d found rows listed each)
 
 pub returns-clause-degree : goal.returns-clause-degree
 returns-clause-degree c =
-    let p = c.args.field.now in
+    let ideal = ideal_of c.args.field.now c.args.given.now in
     let ws = c.args.given.now.alphabet.weights in
     let rs = c.args.given.now.relations in
     let b = c.args.basis.now in
     let d = c.args.d in
     let rows = c.in_ok-rows.rows.items in
-    let lower = c.lower_law.ensures.lower p ws rs c.setting_law.ensures d b
+    let lower = c.lower_law.ensures.lower ideal c.setting_law.ensures d b
     (record {
       kept = c.done-done.ensures.kept;
       next = c.requires.next;
@@ -40,17 +42,17 @@ returns-clause-degree c =
       reduced = c.requires.reduced;
     }) in
     subst (λ (w : List ℕ). All (HasDegree w d) rows) (sym c.requires.weights)
-    (rows_degree p ws rs c.setting_law.ensures d b.elements lower rows (returns-clause-rows c))
+    (rows_degree ideal c.setting_law.ensures d b.elements lower rows (returns-clause-rows c))
 
 pub returns-clause-letters : goal.returns-clause-letters
 returns-clause-letters c =
-    let p = c.args.field.now in
+    let ideal = ideal_of c.args.field.now c.args.given.now in
     let ws = c.args.given.now.alphabet.weights in
     let rs = c.args.given.now.relations in
     let b = c.args.basis.now in
     let d = c.args.d in
     let rows = c.in_ok-rows.rows.items in
-    let lower = c.lower_law.ensures.lower p ws rs c.setting_law.ensures d b
+    let lower = c.lower_law.ensures.lower ideal c.setting_law.ensures d b
     (record {
       kept = c.done-done.ensures.kept;
       next = c.requires.next;
@@ -58,4 +60,4 @@ returns-clause-letters c =
       reduced = c.requires.reduced;
     }) in
     subst (λ (w : List ℕ). All (UsesLetters (length w)) rows) (sym c.requires.weights)
-    (rows_letters p ws rs c.setting_law.ensures d b.elements lower rows (returns-clause-rows c))
+    (rows_letters ideal c.setting_law.ensures d b.elements lower rows (returns-clause-rows c))
