@@ -13,29 +13,28 @@ module _ (ideal : Ideal) (limits : List (LimitKind × ℕ)) (below : Elements) (
   is_below : IsBelow ideal (below.done + 1) below
   is_below = record { kept = kept; next = refl; same_weights = same; reduced = reduced }
 
-  abbrev Q : List ℕ → LimitKind → ℕ → Type 0
-  Q ws = IsQuantity (record ideal { weights = ws }) below (below.done + 1)
+  abbrev Q : LimitKind → ℕ → Type 0
+  Q = IsQuantity ideal below (below.done + 1)
 
-  pub upto_next : (d : ℕ) → below.done ≡ d → NonePassesUpto ideal limits d → NonePasses (Q below.weights) limits →
+  pub upto_next : (d : ℕ) → below.done ≡ d → NonePassesUpto ideal limits d → NonePasses Q limits →
       NonePassesUpto ideal limits (d + 1)
   upto_next d is before here e from le = elim (cases_lt d e) [
     | inl last ↦
         let at : below.done + 1 ≡ e = omega (arith, last, le, is) in (
           below,
           subst (λ (n : ℕ). IsBelow ideal n below) at is_below,
-          subst (λ (n : ℕ). NonePasses (IsQuantity ideal below n) limits) at (subst (λ (ws : List ℕ). NonePasses (Q ws) limits) same here),
+          subst (λ (n : ℕ). NonePasses (IsQuantity ideal below n) limits) at here,
         )
     | inr earlier ↦ before e from earlier
   ]
 
   pub refused_next : (d bound : ℕ) → below.done ≡ d → d < bound → NonePassesUpto ideal limits d → (kind : LimitKind) (degree value : ℕ)
-      → (degree ≡ below.done + 1) × IsFirstPassing (Q below.weights) limits kind value → IsFirstRefused ideal limits bound kind degree value
+      → (degree ≡ below.done + 1) × IsFirstPassing Q limits kind value → IsFirstRefused ideal limits bound kind degree value
   refused_next d bound is within before kind degree value h = record {
     from = omega (arith, h.0);
     upto = omega (arith, h.0, is, within);
     before = subst (NonePassesUpto ideal limits) (let at : d ≡ degree - 1 = omega (arith, h.0, is) in at) before;
     below = below;
     is_below = subst (λ (n : ℕ). IsBelow ideal n below) (sym h.0) is_below;
-    passes = subst (λ (n : ℕ). IsFirstPassing (IsQuantity ideal below n) limits kind value) (sym h.0)
-        (subst (λ (ws : List ℕ). IsFirstPassing (Q ws) limits kind value) same h.1);
+    passes = subst (λ (n : ℕ). IsFirstPassing (IsQuantity ideal below n) limits kind value) (sym h.0) h.1;
   }

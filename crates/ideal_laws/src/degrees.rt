@@ -1,7 +1,7 @@
 ghost use Rattle.std.specs.Prelude.{◌≡◌, ◌+◌, ◌++◌, ◌≤◌, ◌<◌, ◌↔◌, ℕ, List, All, Err, IfOk, OnErr, OnOk};
 ghost use Rattle.free_poly.specs.declared.term.Term.{Term};
 ghost use Rattle.free_poly.specs.Terms.{HasResidues};
-ghost use Rattle.ideal_laws.specs.Ideal.{ideal_of, ideal_over};
+ghost use Rattle.ideal_laws.specs.Ideal.{ideal_of};
 ghost use Rattle.ideal_laws.specs.declared.account.Account.{Account};
 ghost use Rattle.ideal_laws.specs.declared.limits.LimitKind.{LimitKind};
 ghost use Rattle.ideal_laws.specs.declared.presentation.Presentation.{Presentation};
@@ -36,18 +36,16 @@ pub fn advance<R: Threads + Sync, E: DegreeEngine>(
     ensures kept { IsKept basis.old × IsKept basis.new }
     ensures done { OnOk result (basis.new.done ≡ basis.old.done + 1) }
     ensures elements { OnOk result ((added : List (List Term))
-        × IsReducedBasis (ideal_over field.now basis.old.weights presentation.now.relations) (basis.old.done + 1) added
+        × IsReducedBasis (ideal_of field.now presentation.now) (basis.old.done + 1) added
         × (basis.new.elements ≡ basis.old.elements ++ added)) }
     ensures reduced { OnOk result (IsReducedUpto field.now presentation.now.relations basis.new) }
     ensures account { IfOk result (E.may_account engine.old field.now presentation.now basis.old (basis.old.done + 1)) }
-    ensures within { OnOk result (NonePasses (IsQuantity (ideal_over field.now basis.old.weights
-        presentation.now.relations)
-        basis.old (basis.old.done + 1)) (E.kinds engine.old)) }
+    ensures within { OnOk result (NonePasses (IsQuantity (ideal_of field.now presentation.now) basis.old
+        (basis.old.done + 1)) (E.kinds engine.old)) }
 
     ensures limit { (kind : LimitKind) (degree value : ℕ) → result ≡ Err (EngineFault.Limit kind degree value)
-        → (degree ≡ basis.old.done + 1) × IsFirstPassing (IsQuantity
-        (ideal_over field.now basis.old.weights presentation.now.relations) basis.old (basis.old.done + 1))
-        (E.kinds engine.old) kind value }
+        → (degree ≡ basis.old.done + 1) × IsFirstPassing (IsQuantity (ideal_of field.now presentation.now) basis.old
+        (basis.old.done + 1)) (E.kinds engine.old) kind value }
     ensures unchanged { OnErr result (basis.new ≡ basis.old) }
 
     ensures kinds { E.kinds engine.new ≡ E.kinds engine.old }
@@ -82,8 +80,7 @@ pub fn run<R: Threads + Sync, E: DegreeEngine>(
     ensures within { OnOk result (NonePassesUpto (ideal_of field.now presentation.now) (E.kinds engine.old) bound) }
 
     ensures limit { (kind : LimitKind) (degree value : ℕ) → result ≡ Err (EngineFault.Limit kind degree value)
-        → IsFirstRefused (ideal_of field.now presentation.now) (E.kinds engine.old)
-        bound kind degree value }
+        → IsFirstRefused (ideal_of field.now presentation.now) (E.kinds engine.old) bound kind degree value }
 
     ensures kinds { E.kinds engine.new ≡ E.kinds engine.old }
     ensures accounts { (p : ℕ) (rs : Presentation) (b : Elements) (e : ℕ) (a : Account) →

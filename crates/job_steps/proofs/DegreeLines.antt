@@ -114,7 +114,7 @@ degree_lines names p weights d done xs a b is same other low within =
 -- a basis that has grown by a degree
 module _ (p : ℕ) (letters : Letters) (relations : List (List Term)) (limits : List (LimitKind × ℕ)) (old new : Elements)
     (same : old.weights ≡ letters.weights) (kept_weights : new.weights ≡ old.weights) (done : new.done ≡ old.done + 1)
-    (reduced : IsReducedUpto p relations new) (passes_none : NonePasses (IsQuantity (ideal_over p old.weights relations) old (old.done + 1)) limits) where
+    (reduced : IsReducedUpto p relations new) (passes_none : NonePasses (IsQuantity (ideal_over p letters.weights relations) old (old.done + 1)) limits) where
   abbrev added : List (List Term)
   added = of_degree new.weights new.done new.elements
 
@@ -123,7 +123,7 @@ module _ (p : ℕ) (letters : Letters) (relations : List (List Term)) (limits : 
     reduced = subst (λ (n : ℕ). IsReducedBasis (ideal_over p letters.weights relations) n added) done
         (subst (λ (ws : List ℕ). IsReducedBasis (ideal_over p ws relations) new.done added) (kept_weights ∙ same)
         (reduced new.done (omega (arith, done)) (omega arith)));
-    passes_none = subst (λ (ws : List ℕ). NonePasses (IsQuantity (ideal_over p ws relations) old (old.done + 1)) limits) same passes_none;
+    passes_none = passes_none;
   }
 
   lines_are : (shows : Bool) → shows ≡ true → degree_text letters.names p new.done added ≡ lines_of shows letters.names p (old.done + 1) added

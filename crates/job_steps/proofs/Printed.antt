@@ -102,8 +102,7 @@ module _ (t : Task) (d : ℕ) (below : Elements) (text : List ℕ) (s : Stands t
   so_far_next elements next = record {
     upto = omega (arith, within);
     passes_none = upto_next (ideal_of_task t) t.limits below s.kept s.weights s.reduced d s.done s.so_far.passes_none
-        (subst (λ (ws : List ℕ). NonePasses (IsQuantity (ideal_over t.modulus ws t.relations) below (below.done + 1)) t.limits) (sym s.weights)
-        next.passes_none);
+        next.passes_none;
     is_basis = subst (λ (n : ℕ). IsBasisPart t (d + 1) (text ++ lines_of t.shows_basis t.letters.names t.modulus (n + 1) elements)) (sym s.done)
         (part_next t.modulus t.letters t.relations t.shows_basis d text elements s.so_far.is_basis
         (subst (λ (n : ℕ). IsReducedBasis (ideal_of_task t) (n + 1) elements) s.done next.reduced));
@@ -124,11 +123,7 @@ module _ (t : Task) (d : ℕ) (below : Elements) (text : List ℕ) (s : Stands t
       let at : d ≡ e - 1 = omega (arith, u.0, s.done) in
       let printed : HasPrinted t (refused kind e value) a c = record {
         is_reach = refused_next (ideal_of_task t) t.limits below s.kept s.weights s.reduced d t.bound s.done within
-            s.so_far.passes_none kind e value (
-              u.0,
-              subst (λ (ws : List ℕ). IsFirstPassing (IsQuantity (ideal_over t.modulus ws t.relations) below (below.done + 1)) t.limits kind value)
-                  (sym s.weights) u.1,
-            );
+            s.so_far.passes_none kind e value (u.0, u.1);
         text = text;
         is_text = subst (λ (n : ℕ). IsBasisPart t n text) at s.so_far.is_basis;
         appended = appended_none a b c text w.appended u.2;

@@ -106,7 +106,10 @@ module _ (ideal : Ideal) (free : ℕ) (ms : IsModuleSetting ideal free) (d : ℕ
       middle (x ∷ u) w v e = cc e
 
   -- the products as relations
-  pub product_setting : IsSetting (record ideal { relations = module_products })
+  abbrev pub products_ideal : Ideal
+  products_ideal = record ideal { relations = module_products }
+
+  pub product_setting : IsSetting products_ideal
   product_setting = record {
     modulus = st.modulus;
     are_weights = st.are_weights;

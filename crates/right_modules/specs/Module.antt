@@ -43,6 +43,10 @@ has_free_words free (t ∷ f) = is_free free t.word && has_free_words free f
 abbrev pub ideal_relations : ℕ → List (List Term) → List (List Term)
 ideal_relations free relations = filter (has_free_words free) relations
 
+-- and the ideal of these
+abbrev pub algebra_ideal : ℕ → Ideal → Ideal
+algebra_ideal free ideal = record ideal { relations = ideal_relations free ideal.relations }
+
 -- of degree d: a module relation with a free word behind it, or an ideal relation between a module word and a free word
 pub record IsModuleMultiple (ideal : Ideal) (free d : ℕ) (m : Multiple) : Type 0 where
   pub multiple : IsMultiple ideal d m
@@ -69,5 +73,4 @@ pub record IsModuleMinimal (ideal : Ideal) (free : ℕ) (w : List ℕ) : Type 0 
   pub leading : IsModuleLead ideal free (degree_of ideal.weights w) w
   pub no_prefix : (v : List ℕ) → IsProperPrefix v w → IsModuleLead ideal free (degree_of ideal.weights v) v → ⊥
   pub no_factor : (x : ℕ) (u v : List ℕ) → w ≡ x ∷ u → IsFactor v u
-      → IsLeadingWord (record ideal { relations = ideal_relations free ideal.relations }) (degree_of ideal.weights v) v
-      → ⊥
+      → IsLeadingWord (algebra_ideal free ideal) (degree_of ideal.weights v) v → ⊥

@@ -3,7 +3,7 @@ use Rattle.std.proofs.lemmas.Result.{err_from_is_err_and}
 use Rattle.free_poly.specs.declared.term.Term.{Term}
 use Rattle.free_poly.specs.Terms.{HasDegree, UsesLetters}
 use Rattle.ideal_laws.specs.Basis.{IsReducedBasis}
-use Rattle.ideal_laws.specs.Ideal.{ideal_over}
+use Rattle.ideal_laws.specs.Ideal.{ideal_of, ideal_over}
 use Rattle.ideal_laws.specs.Quantities.{IsFirstPassing, IsQuantity, NonePasses}
 use Rattle.ideal_laws.proofs.Grown.{next_from_reduced, reduced_upto_grown}
 use Rattle.ideal_laws.proofs.degrees.advance.Goals as goal
@@ -18,11 +18,9 @@ one_fault r a b h k = cc
 pub returns-in_err-report-clause-limit : goal.returns-in_err-report-clause-limit
 returns-in_err-report-clause-limit g c = λ kind degree value e.
     let p = err_from_is_err_and c.from_residual.result c.from_residual.ensures.1 in
-    let Q : List ℕ → ℕ → Type 0 = λ ws d. (degree ≡ d) × IsFirstPassing
-    (IsQuantity (ideal_over c.args.field.now ws c.args.presentation.now.relations) c.args.basis.now d) (g.E.DegreeEngine.kinds c.args.engine.now)
-    kind value in
-    moved Q c.args.basis.now.weights c.args.presentation.now.alphabet.weights c.done-d.result c.args.basis.now.done c.requires.weights c.done-d.ensures.value
-    (c.in_err-report.ensures.limit kind degree value (ap Err (sym p.2 ∙ one_fault c.from_residual.result _ _ p.1 e)))
+    let Q : ℕ → Type 0 = λ n. (degree ≡ n + 1) × IsFirstPassing
+    (IsQuantity (ideal_of c.args.field.now c.args.presentation.now) c.args.basis.now (n + 1)) (g.E.DegreeEngine.kinds c.args.engine.now) kind value in
+    subst Q c.done-d.ensures.value (c.in_err-report.ensures.limit kind degree value (ap Err (sym p.2 ∙ one_fault c.from_residual.result _ _ p.1 e)))
 
 pub push_degree-requires-clause-letters : goal.push_degree-requires-clause-letters
 push_degree-requires-clause-letters g c =
@@ -56,6 +54,5 @@ returns-clause-reduced g c =
 pub returns-clause-within : goal.returns-clause-within
 returns-clause-within g c =
     let basis = c.args.basis.now in
-    moved (λ ws d. NonePasses (IsQuantity (ideal_over c.args.field.now ws c.args.presentation.now.relations) basis d)
-    (g.E.DegreeEngine.kinds c.args.engine.now))
-    basis.weights c.args.presentation.now.alphabet.weights c.done-d.result basis.done c.requires.weights c.done-d.ensures.value c.in_ok-report.ensures.within
+    subst (λ (n : ℕ). NonePasses (IsQuantity (ideal_of c.args.field.now c.args.presentation.now) basis (n + 1)) (g.E.DegreeEngine.kinds c.args.engine.now))
+    c.done-d.ensures.value c.in_ok-report.ensures.within

@@ -1,6 +1,6 @@
 use Rattle.std.proofs.Common.{◌≡◌, ◌+◌, ℕ, List, Err, Result, subst, sym, ap, ◌∙◌, arith}
 use Rattle.std.proofs.lemmas.Result.{err_from_is_err_and}
-use Rattle.ideal_laws.specs.Ideal.{ideal_of, ideal_over}
+use Rattle.ideal_laws.specs.Ideal.{ideal_of}
 use Rattle.ideal_laws.specs.declared.limits.LimitKind.{LimitKind}
 use Rattle.ideal_laws.specs.Quantities.{IsFirstPassing, IsQuantity, NonePasses}
 use Rattle.ideal_laws.proofs.Refused.{refused_next, upto_next}
@@ -17,7 +17,7 @@ returns-in_err-_account-clause-limit g c = λ kind degree value e.
     let kinds = g.E.DegreeEngine.kinds c.args.engine.now in
     let h = c.in_err-_account.ensures.limit kind degree value (ap Err (sym p.2 ∙ one_fault c.from_residual.result _ _ p.1 e)) in
     let Q : List (LimitKind × ℕ) → Type 0 = λ limits. (degree ≡ basis.done + 1)
-    × IsFirstPassing (IsQuantity (ideal_over c.args.field.now basis.weights c.args.presentation.now.relations) basis (basis.done + 1)) limits kind
+    × IsFirstPassing (IsQuantity (ideal_of c.args.field.now c.args.presentation.now) basis (basis.done + 1)) limits kind
     value in
     refused_next (ideal_of c.args.field.now c.args.presentation.now) kinds basis inv.2 inv.1 inv.3
     c.loop-degree._degree c.args.bound inv.0 (omega (arith, c.loop-degree-test.true)) inv.4
@@ -29,7 +29,7 @@ loop-degree-preserved g c =
     let basis = c.loop-degree.basis in
     let kinds = g.E.DegreeEngine.kinds c.args.engine.now in
     let next = c.in_ok-_account.ensures in
-    let Q : List (LimitKind × ℕ) → Type 0 = λ limits. NonePasses (IsQuantity (ideal_over c.args.field.now basis.weights c.args.presentation.now.relations) basis
+    let Q : List (LimitKind × ℕ) → Type 0 = λ limits. NonePasses (IsQuantity (ideal_of c.args.field.now c.args.presentation.now) basis
     (basis.done + 1)) limits in (
       next.done ∙ ap (λ (n : ℕ). n + 1) inv.0,
       next.weights ∙ inv.1,

@@ -15,11 +15,9 @@ returns-in-Err-Limit-clause-undone g c =
     let basis = c.args.basis.now in
     let limits = g.E.DegreeEngine.kinds c.args.engine.now in
     let Q = IsQuantity (ideal_of c.args.field.now c.args.given.now) basis (basis.done + 1) in
-    let u = c.in-Err-Limit.ensures.limit c.in-Err-Limit.kind c.in-Err-Limit.degree c.in-Err-Limit.value (ap Err c.in-Err-Limit.field-0-is) in
-    let passes = subst (λ (ws : List ℕ). IsFirstPassing (IsQuantity (ideal_over c.args.field.now ws c.args.given.now.relations) basis (basis.done + 1))
-    limits c.in-Err-Limit.kind c.in-Err-Limit.value) c.requires.weights u.1 in (
+    let u = c.in-Err-Limit.ensures.limit c.in-Err-Limit.kind c.in-Err-Limit.degree c.in-Err-Limit.value (ap Err c.in-Err-Limit.field-0-is) in (
       c.in-Err-Limit.degree-is ∙ u.0,
-      limit_moved (IsFirstPassing Q limits) _ _ _ _ c.in-Err-Limit.kind-is c.in-Err-Limit.value-is passes,
+      limit_moved (IsFirstPassing Q limits) _ _ _ _ c.in-Err-Limit.kind-is c.in-Err-Limit.value-is u.1,
       Appends-nil (g.K.Sink.held c.args.out.now),
       tells_none (g.T.Sink.held c.args.err.now) (g.T.Sink.faults c.args.err.now) c.args.failed.now,
     )
@@ -36,14 +34,11 @@ pub tell_degree-requires : goal.tell_degree-requires
 tell_degree-requires g c =
     let next = c.in-Ok.ensures in
     let basis = c.args.basis.now in
-    let given = c.args.given.now in
     let is_below : IsBelow (ideal_of c.args.field.now c.args.given.now) (basis.done + 1) basis =
     record { kept = next.kept.0; next = refl; same_weights = c.requires.weights; reduced = c.requires.reduced } in
-    let reduced = subst (λ (ws : List ℕ). IsReducedBasis (ideal_over c.args.field.now ws given.relations) (basis.done + 1) next.elements.0)
-    c.requires.weights next.elements.1 in
     record {
       printable = λ traces. c.requires.printable traces basis (basis.done + 1) next.elements.0 c.in-Ok.account
-          (omega (arith, c.requires.small)) c.setting_law.ensures is_below reduced next.account;
+          (omega (arith, c.requires.small)) c.setting_law.ensures is_below next.elements.1 next.account;
     }
 
 pub write_degree-requires-clause-residues : goal.write_degree-requires-clause-residues
