@@ -4,7 +4,8 @@ use Rattle.std.specs.List.{AllZip, flat_map}
 use Rattle.std.specs.Result.{IfOk}
 use Rattle.std.proofs.lemmas.List.Elements.{All-cons, All-head, All-nil, All-tail}
 
-zip_append : {X Y : Type 0} (R : X → Y → Type 0) (xs : List X) (ys : List Y) (zs : List X) (ws : List Y) → AllZip R xs ys → AllZip R zs ws →
+-- what holds of two lists, one behind the other
+pub zip_append : {X Y : Type 0} (R : X → Y → Type 0) (xs : List X) (ys : List Y) (zs : List X) (ws : List Y) → AllZip R xs ys → AllZip R zs ws →
     AllZip R (xs ++ zs) (ys ++ ws)
 zip_append R [] [] zs ws h g = g
 zip_append R [] (y ∷ ys) zs ws h g = absurd h
