@@ -19,7 +19,6 @@ use Rattle.row_laws.proofs.ClosedColumns.{closure_word, contested_falling, conte
 use Rattle.row_laws.proofs.DegreeRows.{member_word, row_member}
 use Rattle.row_laws.proofs.Reducers.{reducer_inside}
 use Rattle.row_store.specs.Contested.{IsCellQuantity, IsOnColumns}
-use Rattle.degree_loop.specs.Matrix.{AreColumnWords}
 use Rattle.degree_loop.proofs.Contested.{length-contested}
 
 module _ (p : ℕ) (weights : List ℕ) (relations : List (List Term)) (st : IsSetting p weights relations) (d : ℕ) (G : List (List Term))
@@ -54,22 +53,6 @@ module _ (p : ℕ) (weights : List ℕ) (relations : List (List Term)) (st : IsS
           (λ f m. All-from_members (λ t. Contains columns t.word) f
           (λ t n. (are_columns.exactly t.word).1 (given t.word (Contains-map (λ (s : Term). s.word) (flat_map (λ g. g) rows) t
           (Contains-flat_map (λ g. g) rows f t m n)))))
-
-      module _ (reducers : List (Option (List Term))) (have : AllZip (HasReducer G) columns reducers) where
-        contested_has : (w : List ℕ) → Contains (contested_words columns reducers) w → IsOver (length weights) w × (degree_of weights w ≡ d)
-        contested_has w m = column_says w (contested_says G columns reducers have w m).0
-
-        contested_degree : All (λ w. degree_of weights w ≡ d) (contested_words columns reducers)
-        contested_degree = All-from_members (λ w. degree_of weights w ≡ d) (contested_words columns reducers) (λ w m. (contested_has w m).1)
-
-        pub column_words : d ≤ 64 → AreColumnWords weights (contested_words columns reducers)
-        column_words small = record {
-          letters = All-from_members (IsOver (length weights)) (contested_words columns reducers) (λ w m. (contested_has w m).0);
-          small = All-from_members (λ w. degree_of weights w ≤ 64) (contested_words columns reducers)
-              (λ w m. let e = (contested_has w m).1 in omega (arith, e, small));
-          one_degree = λ i j x before within. contested_degree i x (omega (arith, before, within)) ∙ sym (contested_degree j x within);
-          falling = contested_falling columns reducers are_columns.falling;
-        }
 
     pub reducer_residues : (closed : ClosedColumns) → IsClosed G (words_of rows) closed → All (HasResidues p) (reducers_in closed.reducers)
     reducer_residues closed h = All-from_members (HasResidues p) (reducers_in closed.reducers)

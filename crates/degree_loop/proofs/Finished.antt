@@ -52,20 +52,6 @@ pub basis_monic : (p : ℕ) (weights : List ℕ) (relations : List (List Term)) 
     IsReducedBasis p weights relations d basis → All IsMonic basis
 basis_monic p weights relations d basis h = All-from_members IsMonic basis (λ f m. ((h.exactly f).0 m).monic)
 
--- members of a list with one degree have one degree
-pub one_degree : (deg : List ℕ → ℕ) (xs : List (List ℕ)) → AllPairs (λ v w. deg v ≡ deg w) xs → (v w : List ℕ) → Contains xs v → Contains xs w → deg v ≡ deg w
-one_degree deg [] h v w m n = absurd (Contains-none v m)
-one_degree deg (x ∷ xs) h v w m n = elim (Contains-cases x xs v m) [
-  | inl is ↦ elim (Contains-cases x xs w n) [
-    | inl also ↦ ap deg (sym is ∙ also)
-    | inr later ↦ ap deg (sym is) ∙ All-contains (λ y. deg x ≡ deg y) xs w (AllPairs-first (λ v w. deg v ≡ deg w) x xs h) later
-  ]
-  | inr later ↦ elim (Contains-cases x xs w n) [
-    | inl is ↦ sym (All-contains (λ y. deg x ≡ deg y) xs v (AllPairs-first (λ v w. deg v ≡ deg w) x xs h) later) ∙ ap deg is
-    | inr also ↦ one_degree deg xs (AllPairs-rest (λ v w. deg v ≡ deg w) x xs h) v w later also
-  ]
-]
-
 -- the terms pass their limit, or do not
 module _ (p : ℕ) (weights : List ℕ) (relations : List (List Term)) (below : Elements) (d most count : ℕ) (elements : List (List Term))
     (basis : IsReducedBasis p weights relations d elements)
