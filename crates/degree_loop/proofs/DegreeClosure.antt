@@ -20,7 +20,6 @@ use Rattle.row_laws.proofs.ClosedColumns.{closure_word, contested_falling, conte
 use Rattle.row_laws.proofs.DegreeRows.{member_word, row_member}
 use Rattle.row_laws.proofs.Reducers.{reducer_inside}
 use Rattle.row_store.specs.Contested.{IsCellQuantity, IsOnColumns}
-use Rattle.degree_loop.specs.Matrix.{AreColumnWords}
 use Rattle.degree_loop.proofs.Contested.{length-contested}
 
 module _ (ideal : Ideal) (st : IsSetting ideal) (d : ℕ) (G : List (List Term)) (lower : AreLower ideal d G) where
@@ -56,6 +55,7 @@ module _ (ideal : Ideal) (st : IsSetting ideal) (d : ℕ) (G : List (List Term))
           (λ t n. (are_columns.exactly t.word).1 (given t.word (Contains-map (λ (s : Term). s.word) (flat_map (λ g. g) rows) t
           (Contains-flat_map (λ g. g) rows f t m n)))))
 
+<<<<<<< HEAD
       module _ (reducers : List (Option (List Term))) (have : AllZip (HasReducer G) columns reducers) where
         contested_has : (w : List ℕ) → Contains (contested_words columns reducers) w → IsOver (length ideal.weights) w × (degree_of ideal.weights w ≡ d)
         contested_has w m = column_says w (contested_says G columns reducers have w m).0
@@ -74,6 +74,10 @@ module _ (ideal : Ideal) (st : IsSetting ideal) (d : ℕ) (G : List (List Term))
 
     pub reducer_residues : (closed : ClosedColumns) → IsClosed G (words_of rows) closed → All (HasResidues ideal.modulus) (reducers_in closed.reducers)
     reducer_residues closed h = All-from_members (HasResidues ideal.modulus) (reducers_in closed.reducers)
+=======
+    pub reducer_residues : (closed : ClosedColumns) → IsClosed G (words_of rows) closed → All (HasResidues p) (reducers_in closed.reducers)
+    reducer_residues closed h = All-from_members (HasResidues p) (reducers_in closed.reducers)
+>>>>>>> falling/main
         (λ g m. let r = reducer_says G closed.columns closed.reducers h.are_reducers g m in
         let says = column_says closed.columns h.are_columns r.0 r.1 in
         (reducer_inside ideal st d G lower r.0 g says.0 says.1 r.2).element.residues)

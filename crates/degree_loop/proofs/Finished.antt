@@ -52,20 +52,6 @@ count_rows ideal G d closed problem h =
 pub basis_monic : (ideal : Ideal) (d : ℕ) (basis : List (List Term)) → IsReducedBasis ideal d basis → All IsMonic basis
 basis_monic ideal d basis h = All-from_members IsMonic basis (λ f m. ((h.exactly f).0 m).monic)
 
--- members of a list with one degree have one degree
-pub one_degree : (deg : List ℕ → ℕ) (xs : List (List ℕ)) → AllPairs (λ v w. deg v ≡ deg w) xs → (v w : List ℕ) → Contains xs v → Contains xs w → deg v ≡ deg w
-one_degree deg [] h v w m n = absurd (Contains-none v m)
-one_degree deg (x ∷ xs) h v w m n = elim (Contains-cases x xs v m) [
-  | inl is ↦ elim (Contains-cases x xs w n) [
-    | inl also ↦ ap deg (sym is ∙ also)
-    | inr later ↦ ap deg (sym is) ∙ All-contains (λ y. deg x ≡ deg y) xs w (AllPairs-first (λ v w. deg v ≡ deg w) x xs h) later
-  ]
-  | inr later ↦ elim (Contains-cases x xs w n) [
-    | inl is ↦ sym (All-contains (λ y. deg x ≡ deg y) xs v (AllPairs-first (λ v w. deg v ≡ deg w) x xs h) later) ∙ ap deg is
-    | inr also ↦ one_degree deg xs (AllPairs-rest (λ v w. deg v ≡ deg w) x xs h) v w later also
-  ]
-]
-
 -- the terms pass their limit, or do not
 module _ (ideal : Ideal) (below : Elements) (d most count : ℕ) (elements : List (List Term)) (basis : IsReducedBasis ideal d elements)
     (few : most < 2 ^ 32) (is : count ≡ min (min (terms_in below.elements) (2 ^ 64 - 1) + min (terms_in elements) (2 ^ 64 - 1)) (2 ^ 64 - 1)) where

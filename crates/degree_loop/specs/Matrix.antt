@@ -1,7 +1,5 @@
 -- The matrix of a degree, and what an engine tells of it.
-use Rattle.std.specs.Prelude.{ℕ, ◌≡◌, ◌≤◌, List, All, AllPairs, Option, length}
-use Rattle.words.specs.Order.{IsLetterwiseGreater}
-use Rattle.words.specs.Words.{IsOver, degree_of}
+use Rattle.std.specs.Prelude.{ℕ, ◌≡◌, List, Option, length}
 use Rattle.free_poly.specs.declared.term.Term.{Term}
 use Rattle.ideal_laws.specs.Ideal.{Ideal}
 use Rattle.ideal_laws.specs.declared.account.Account.{Account}
@@ -28,10 +26,3 @@ pub record TellsMatrix (ideal : Ideal) (G : List (List Term)) (d : ℕ) (account
   pub are_closed : AreClosed ideal G d rows columns reducers
   pub count : account.rows ≡ length rows
   pub contested : account.columns ≡ contested_words columns reducers
-
--- words over the letters, of one degree, which is at most 64, and falling
-pub record AreColumnWords (weights : List ℕ) (columns : List (List ℕ)) : Type 0 where
-  pub letters : All (IsOver (length weights)) columns
-  pub small : All (λ w. degree_of weights w ≤ 64) columns
-  pub one_degree : AllPairs (λ v w. degree_of weights v ≡ degree_of weights w) columns
-  pub falling : AllPairs IsLetterwiseGreater columns

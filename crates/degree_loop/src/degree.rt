@@ -52,7 +52,6 @@ pub fn degree_by<R: Threads + Sync, F: PivotFinder>(
     let Matrix { closed, problem } = matrix;
     let rows = problem.n;
     let (pivots, calls) = finder.find(rt, alloc, field, problem)?;
-    let account = account_of(alloc, &closed, rows, calls)?;
     let elements = elements_of(
         rt,
         alloc,
@@ -64,5 +63,6 @@ pub fn degree_by<R: Threads + Sync, F: PivotFinder>(
         &pivots,
         limits.terms,
     )?;
+    let account = account_of(closed, rows, calls);
     Ok(DegreeReport { elements, account })
 }

@@ -1,6 +1,5 @@
 ghost use Rattle.std.specs.Prelude.{◌≡◌, ◌+◌, ◌<◌, ◌≤◌, ◌∷◌, [], ℕ, All, AllPairs, Err, IfOk, OnOk, length, map};
 ghost use Rattle.words.specs.Order.{IsLetterwiseGreater};
-ghost use Rattle.words.specs.Words.{IsOver, degree_of};
 ghost use Rattle.free_poly.specs.Terms.{HasResidues};
 ghost use Rattle.ideal_laws.specs.Ideal.{ideal_of};
 ghost use Rattle.ideal_laws.specs.declared.limits.LimitKind.{LimitKind};
@@ -8,21 +7,20 @@ ghost use Rattle.ideal_laws.specs.declared.limits.LimitKind.TheVariants.{Terms};
 ghost use Rattle.ideal_laws.specs.Basis.{IsReducedBasis};
 ghost use Rattle.ideal_laws.specs.Engine.{IsReducedUpto};
 ghost use Rattle.ideal_laws.specs.Quantities.{IsFirstPassing, IsQuantity, NonePasses};
-ghost use Rattle.back_reduce.specs.Rows.{IsRow};
 ghost use Rattle.free_poly.specs.Poly.{element_on};
 ghost use Rattle.degree_loop.specs.Elements.{term_in};
-ghost use Rattle.degree_loop.specs.Matrix.{AreColumnWords, IsMatrix};
+ghost use Rattle.degree_loop.specs.Matrix.{IsMatrix};
 
 use crate::terms::{terms_below, terms_of};
 use back_reduce::{Entry, PivotRows, Row, reduced};
 use field_table::Field;
-use free_poly::{Poly, PolyFault, Term};
+use free_poly::{Poly, Term};
 use ideal_laws::{Basis, EngineFault, LimitKind, Presentation, lower_law, setting_law};
 use row_laws::rows_law;
-use std::alloc::{AllocError, Global};
+use std::alloc::Global;
 use std::thread::Threads;
 use symbolic_prep::Closed;
-use words::{Alphabet, Items, NoMemory, Word};
+use words::{Items, NoMemory, Word};
 
 /// The elements of degree d from the pivots of its matrix, whoever found them: the reduced row echelon form over the
 /// contested columns. The terms of these and of the elements below are asked at last.
@@ -59,14 +57,7 @@ pub fn elements_of<R: Threads + Sync, P: PivotRows>(
     setting_law(field, presentation);
     let _done = below.done();
     let echelon = reduced(rt, alloc, field, pivots)?;
-    let alphabet = &presentation.alphabet;
-    let elements = elements_on(
-        alloc,
-        alphabet,
-        field,
-        closed.contested(),
-        echelon.as_slice(),
-    )?;
+    let elements = elements_on(alloc, closed.contested(), echelon.as_slice())?;
     let count = terms_below(below).saturating_add(terms_of(elements.as_slice()));
     if count > u64::from(most) {
         return Err(EngineFault::Limit {
@@ -79,43 +70,17 @@ pub fn elements_of<R: Threads + Sync, P: PivotRows>(
 }
 
 /// The elements with the residues of each row at the columns.
-fn elements_on(
-    alloc: Global,
-    alphabet: &Alphabet,
-    field: &Field,
-    columns: &[Word],
-    rows: &[Row],
-) -> Result<Vec<Poly>, NoMemory>
-    requires columns { AreColumnWords alphabet.now.weights columns.now }
-    requires rows { All (IsRow field.now (length columns.now)) rows.now }
+fn elements_on(alloc: Global, columns: &[Word], rows: &[Row]) -> Result<Vec<Poly>, NoMemory>
+    requires falling { AllPairs IsLetterwiseGreater columns.now }
+    requires width { All (λ row. length row ≡ length columns.now) rows.now }
     ensures { IfOk result (λ elements. elements.items ≡ map (element_on columns.now) rows.now) }
 {
     let mut elements = Vec::with_capacity(alloc, rows.len())?;
     for row in rows {
-        let element = element_of(alloc, alphabet, field, columns, row)?;
-        elements.push(element)?;
+        let terms = terms_on(alloc, columns, row)?;
+        elements.push(Poly::from_falling(terms))?;
     }
     Ok(elements)
-}
-
-/// The polynomial with these residues at the columns.
-fn element_of(
-    alloc: Global,
-    alphabet: &Alphabet,
-    field: &Field,
-    columns: &[Word],
-    row: &Row,
-) -> Result<Poly, NoMemory>
-    requires columns { AreColumnWords alphabet.now.weights columns.now }
-    requires row { IsRow field.now (length columns.now) row.now }
-    ensures { IfOk result (λ element. element ≡ element_on columns.now row.now) }
-{
-    let terms = terms_on(alloc, columns, row)?;
-    match Poly::from_terms(alloc, alphabet, field, terms) {
-        Ok(poly) => Ok(poly),
-        Err(PolyFault::NoMemory) => Err(AllocError),
-        Err(PolyFault::MixedDegrees { .. }) => unreachable!(),
-    }
 }
 
 /// The words of the columns with the residues of a row, where these are not 0.

@@ -66,6 +66,14 @@ impl Poly {
         }
     }
 
+    /// The polynomial of terms that are in normal form.
+    pub fn from_falling(terms: Vec<Term>) -> Poly
+        requires { IsPolynomial terms.items }
+        ensures { result ≡ terms.items }
+    {
+        Poly { terms }
+    }
+
     /// None exactly for 0.
     pub fn lead(&self) -> Option<&Word>
         ensures { option_copied result ≡ lead_of self.now }

@@ -27,9 +27,9 @@ returns-clause-account g c =
       closed = matrix.closed;
       problem = matrix.problem;
       matrix = c.in_ok-matrix.ensures.matrix;
-      count = c.in_ok-account.ensures.rows;
-      contested = c.in_ok-account.ensures.columns;
-      calls = subst (g.F.PivotFinder.tells c.args.finder.now matrix.problem) (sym c.in_ok-account.ensures.calls) c.in_ok-pivots.ensures.calls;
+      count = c.account_of-account.ensures.rows;
+      contested = c.account_of-account.ensures.columns;
+      calls = subst (g.F.PivotFinder.tells c.args.finder.now matrix.problem) (sym c.account_of-account.ensures.calls) c.in_ok-pivots.ensures.calls;
     }
 
 pub returns-clause-within : goal.returns-clause-within

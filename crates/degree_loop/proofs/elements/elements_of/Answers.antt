@@ -1,36 +1,24 @@
-use Rattle.std.proofs.Common.{◌≡◌, ◌+◌, ◌-◌, ◌^◌, ◌≤◌, ℕ, List, All, length, map, min, refl, subst, sym, ap, ◌∙◌, arith}
+use Rattle.std.proofs.Common.{◌≡◌, ◌+◌, ◌-◌, ◌^◌, ◌≤◌, ℕ, List, All, AllPairs, length, map, min, refl, subst, sym, ap, ◌∙◌, arith}
+use Rattle.words.specs.Order.{IsLetterwiseGreater}
 use Rattle.free_poly.specs.declared.term.Term.{Term}
 use Rattle.ideal_laws.specs.Ideal.{ideal_of}
 use Rattle.ideal_laws.specs.Quantities.{terms_in, contested_words}
 use Rattle.ideal_laws.specs.Basis.{IsReducedBasis}
 use Rattle.back_reduce.specs.Rows.{IsRow}
 use Rattle.free_poly.specs.Poly.{element_on}
-use Rattle.degree_loop.specs.Matrix.{AreColumnWords}
-use Rattle.degree_loop.proofs.DegreeClosure.{column_words}
+use Rattle.row_laws.proofs.ClosedColumns.{contested_falling}
 use Rattle.degree_loop.proofs.Finished.{basis_monic, basis_of, elements_few, form_of, terms_pass, terms_within}
 use Rattle.degree_loop.proofs.Listing.{few_elements}
 use Rattle.degree_loop.proofs.elements.elements_of.Goals as goal
 
-pub elements_on-requires-clause-columns : goal.elements_on-requires-clause-columns
-elements_on-requires-clause-columns g c =
-    let ideal = ideal_of c.args.field.now c.args.presentation.now in
-    let weights = c.args.presentation.now.alphabet.weights in
-    let below = c.args.below.now in
+pub elements_on-requires-clause-falling : goal.elements_on-requires-clause-falling
+elements_on-requires-clause-falling g c =
     let closed = c.args.closed.now in
-    let m = c.requires.matrix in
-    let lower = c.lower_law.ensures.lower ideal c.setting_law.ensures c.args.d below
-    (record {
-      kept = c.done-done.ensures.kept;
-      next = sym c.requires.next;
-      same_weights = c.requires.weights;
-      reduced = c.requires.reduced;
-    }) in
-    subst (AreColumnWords weights) (sym (c.contested.ensures))
-    (column_words ideal c.setting_law.ensures c.args.d below.elements lower m.rows m.are_closed.are_rows closed.columns
-    m.are_closed.are_columns closed.reducers m.are_closed.are_reducers c.requires.small)
+    subst (AllPairs IsLetterwiseGreater) (sym c.contested.ensures)
+    (contested_falling closed.columns closed.reducers c.requires.matrix.are_closed.are_columns.falling)
 
-pub elements_on-requires-clause-rows : goal.elements_on-requires-clause-rows
-elements_on-requires-clause-rows g c =
+pub elements_on-requires-clause-width : goal.elements_on-requires-clause-width
+elements_on-requires-clause-width g c =
     let p = c.args.field.now in
     let closed = c.args.closed.now in
     let problem = g.P.PivotRows.given c.args.pivots.now in
@@ -40,7 +28,8 @@ elements_on-requires-clause-rows g c =
     let columns : c.contested.result.now ≡ contested_words closed.columns closed.reducers = c.contested.ensures in
     let rows : All (IsRow p (length c.contested.result.now)) echelon =
     subst (λ (ws : List (List ℕ)). All (IsRow p (length ws)) echelon) (sym columns) form.each in
-    subst (All (IsRow p (length c.contested.result.now))) (sym c.as_slice.ensures.value) rows
+    subst (All (λ (row : List ℕ). length row ≡ length c.contested.result.now)) (sym c.as_slice.ensures.value)
+    (λ k row low. (rows k row low).size)
 
 pub returns-then-count-from-clause-limit : goal.returns-then-count-from-clause-limit
 returns-then-count-from-clause-limit g c = λ kind degree value e.
