@@ -1,10 +1,8 @@
 -- The elements of a degree, from the echelon form of its matrix.
-use Rattle.std.proofs.Common.{◌≡◌, Err, Result, ◌+◌, ◌-◌, ◌^◌, ◌<◌, ◌≤◌, ℕ, List, [], ◌∷◌, All, AllPairs, inl, inr, length, map, min, sym, ap, ◌∙◌}
+use Rattle.std.proofs.Common.{◌≡◌, Err, Result, ◌+◌, ◌-◌, ◌^◌, ◌<◌, ◌≤◌, ℕ, List, [], ◌∷◌, All, inl, length, map, min, sym, ap, ◌∙◌}
 use Rattle.std.proofs.Common.{arith, subst, refl}
-use Rattle.std.specs.List.{Contains}
 use Rattle.std.proofs.lemmas.Slice.Zip.{AllZip-long}
-use Rattle.std.proofs.lemmas.List.Elements.{All-contains}
-use Rattle.words.proofs.Members.{All-from_members, AllPairs-first, AllPairs-rest, Contains-cases, Contains-none}
+use Rattle.words.proofs.Members.{All-from_members}
 use Rattle.free_poly.specs.declared.term.Term.{Term}
 use Rattle.free_poly.specs.Poly.{IsMonic, element_on}
 use Rattle.ideal_laws.specs.Basis.{IsReducedBasis}
