@@ -1,10 +1,10 @@
 use Rattle.std.proofs.Common.{◌≡◌, ◌≢◌, ◌+◌, ◌<◌, ◌==◌, ℕ, Bool, List, [], ◌∷◌, ◌++◌, Global, Vec, append-nil, cond, drop, length, get_or, sym, ap, ◌∙◌, arith}
+use Rattle.std.proofs.lemmas.List.{get_or_read}
 use Rattle.std.proofs.lemmas.Bool.{false_from_ne_true, eqb-true}
 use Rattle.free_poly.specs.declared.term.Term.{Term}
 use Rattle.free_poly.specs.Terms.{term_at}
 use Rattle.free_poly.specs.Poly.{element_on}
-use Rattle.plain_engine.proofs.Tables.{row_read}
-use Rattle.plain_engine.proofs.Terms.{terms_more}
+use Rattle.plain_engine.proofs.Chosen.{terms_more}
 use Rattle.plain_engine.proofs.elements.terms_of.Goals as goal
 use Rattle.plain_engine.proofs.elements.terms_of.Goals.{then-coefficient-ne0+in_ok-word+in_ok-push, else-coefficient-ne0}
 
@@ -22,15 +22,17 @@ loop-at-preserved c =
     let row = c.args.row.now in
     let k = c.loop-at.at in
     let terms = c.loop-at.terms.items in
-    let within : k < length row = c.loop-at-test.true in
+    let within : k < length columns = c.loop-at-test.true in
     let rest = element_on (drop (k + 1) columns) (drop (k + 1) row) in
     let items = λ (v : Vec Term Global). v.items in
-    let more = terms_more columns row k terms c.requires within ∙ c.loop-at.invariant in
+    let more = terms_more columns row k terms c.requires (omega (arith, within, c.requires)) ∙ c.loop-at.invariant in
+    let coefficient : c.at-coefficient.result ≡ get_or row k 0 = c.at-coefficient.ensures in
     elim c.if-coefficient-ne0.branch [
       | then-coefficient-ne0+in_ok-word+in_ok-push w ↦
           ap (λ (f : List Term). f ++ rest) (ap items w.terms-is ∙ pushed terms w.push.new.self.items w.in_ok-word.word
-          (get_or columns k []) (get_or row k 0) w.if-coefficient-ne0.true w.in_ok-push.ensures.items
-          (w.in_ok-word.ensures ∙ row_read columns k w.index-columns-at.result (omega (arith, within, c.requires)) w.index-columns-at.is)) ∙ more
+          (get_or columns k []) c.at-coefficient.result w.if-coefficient-ne0.true w.in_ok-push.ensures.items
+          (w.in_ok-word.ensures ∙ get_or_read columns k w.index-columns-at.result within w.index-columns-at.is [])
+          ∙ ap (λ (n : ℕ). terms ++ term_at (get_or columns k []) n) coefficient) ∙ more
       | else-coefficient-ne0 w ↦ ap (λ (f : List Term). f ++ rest) (ap items w.terms-is ∙ sym (append-nil terms)
-          ∙ ap (λ (f : List Term). terms ++ f) (sym (ap (term_at (get_or columns k [])) w.if-coefficient-ne0.false))) ∙ more
+          ∙ ap (λ (n : ℕ). terms ++ term_at (get_or columns k []) n) (sym w.if-coefficient-ne0.false ∙ coefficient)) ∙ more
     ]
