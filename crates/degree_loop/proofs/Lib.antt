@@ -2,7 +2,6 @@ pub mod Asked
 pub mod Contested
 pub mod DegreeClosure
 pub mod Listing
-pub mod EntryTerms
 pub mod Finished
 pub mod MatrixLimits
 pub mod Going

@@ -1,14 +1,13 @@
 -- Relations of a degree, terms and elements, item after item.
-use Rattle.std.proofs.Common.{◌≡◌, ◌≢◌, ◌+◌, ◌<◌, ◌≤◌, ◌==◌, ℕ, suc, Bool, true, false, cond, List, [], ◌∷◌, ◌++◌, All, append-nil, get_or}
+use Rattle.std.proofs.Common.{◌≡◌, ◌+◌, ◌<◌, ◌≤◌, ◌==◌, ℕ, suc, Bool, true, false, cond, List, [], ◌∷◌, ◌++◌, All, append-nil, get_or}
 use Rattle.std.proofs.Common.{length, length-append, take, refl, sym, ap, ◌∙◌, arith, Some, None, subst}
 use Rattle.std.specs.List.{flat_map}
-use Rattle.std.proofs.lemmas.Bool.{eqb-true, false_from_ne_true}
 use Rattle.std.proofs.lemmas.List.{take_more}
 use Rattle.std.proofs.lemmas.List.Concat.{flat_map-append}
 use Rattle.std.proofs.lemmas.List.Elements.{All-head, All-tail}
 use Rattle.words.specs.Words.{IsOver, degree_of}
 use Rattle.free_poly.specs.declared.term.Term.{Term}
-use Rattle.free_poly.specs.Terms.{UsesLetters, term_at}
+use Rattle.free_poly.specs.Terms.{UsesLetters}
 use Rattle.free_poly.specs.Poly.{IsMonic, lead_of}
 use Rattle.ideal_laws.specs.Engine.{of_degree}
 use Rattle.ideal_laws.specs.Quantities.{terms_in}
@@ -69,7 +68,3 @@ count_within weights d fs k = length-of_degree weights d (take k fs)
 pub lead_over : (names : ℕ) (f : List Term) (w : List ℕ) → Some w ≡ lead_of f → UsesLetters names f → IsOver names w
 lead_over names [] w e h = cc e
 lead_over names (t ∷ f) w e h = let is : t.word ≡ w = cc e in subst (IsOver names) is (All-head (λ s. IsOver names s.word) t f h)
-
--- a term with a coefficient other than 0
-pub some_term : (w : List ℕ) (a : ℕ) → a ≢ 0 → term_at w a ≡ record { word = w; coefficient = a } ∷ []
-some_term w a ne = ap (λ (b : Bool). cond b [] (record { word = w; coefficient = a } ∷ [])) (false_from_ne_true (a == 0) (λ e. ne (eqb-true a 0 e)))

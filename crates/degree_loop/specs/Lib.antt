@@ -2,5 +2,4 @@ pub mod Accounts
 pub mod ClaimHistory
 pub mod Limits
 pub mod Matrix
-pub mod Elements
 pub mod Schedule

@@ -8,15 +8,14 @@ ghost use Rattle.ideal_laws.specs.Basis.{IsReducedBasis};
 ghost use Rattle.ideal_laws.specs.Engine.{IsReducedUpto};
 ghost use Rattle.ideal_laws.specs.Quantities.{IsFirstPassing, IsQuantity, NonePasses};
 ghost use Rattle.free_poly.specs.Poly.{element_on};
-ghost use Rattle.degree_loop.specs.Elements.{term_in};
 ghost use Rattle.degree_loop.specs.Matrix.{IsMatrix};
 
 use crate::terms::{terms_below, terms_of};
-use back_reduce::{Entry, PivotRows, Row, reduced};
+use back_reduce::{PivotRows, Row, reduced};
 use field_table::Field;
-use free_poly::{Poly, Term};
+use free_poly::Poly;
 use ideal_laws::{Basis, EngineFault, LimitKind, Presentation, lower_law, setting_law};
-use row_laws::rows_law;
+use row_laws::{element_of, rows_law};
 use std::alloc::Global;
 use std::thread::Threads;
 use symbolic_prep::Closed;
@@ -77,37 +76,7 @@ fn elements_on(alloc: Global, columns: &[Word], rows: &[Row]) -> Result<Vec<Poly
 {
     let mut elements = Vec::with_capacity(alloc, rows.len())?;
     for row in rows {
-        let terms = terms_on(alloc, columns, row)?;
-        elements.push(Poly::from_falling(terms))?;
+        elements.push(element_of(alloc, columns, row)?)?;
     }
     Ok(elements)
-}
-
-/// The words of the columns with the residues of a row, where these are not 0.
-fn terms_on(alloc: Global, columns: &[Word], row: &Row) -> Result<Vec<Term>, NoMemory>
-    requires { length row.now ≡ length columns.now }
-    ensures { IfOk result (λ terms. terms.items ≡ element_on columns.now row.now) }
-{
-    let entries = row.entries(alloc)?;
-    terms_of_entries(alloc, columns, entries.as_slice())
-}
-
-/// The word of the column of each entry, with its residue.
-fn terms_of_entries(
-    alloc: Global,
-    columns: &[Word],
-    entries: &[Entry],
-) -> Result<Vec<Term>, NoMemory>
-    requires { All (λ entry. entry.column < length columns.now) entries.now }
-    ensures { IfOk result (λ terms. terms.items ≡ map (term_in columns.now) entries.now) }
-{
-    let mut terms = Vec::with_capacity(alloc, entries.len())?;
-    for entry in entries {
-        let word = columns[entry.column].copy(alloc)?;
-        terms.push(Term {
-            word,
-            coefficient: entry.residue,
-        })?;
-    }
-    Ok(terms)
 }

@@ -1,60 +1,96 @@
--- The elements column by column.
-use Rattle.std.proofs.Common.{◌≡◌, ◌+◌, ℕ, List, [], ◌∷◌, ◌++◌, length, get_or, sym, ◌∙◌, inl, inr, arith, AllPairs, subst, Some}
-use Rattle.std.proofs.lemmas.Bool.{cases_eq}
-use Rattle.std.proofs.lemmas.List.{length_push}
-use Rattle.std.proofs.lemmas.List.Elements.{Contains-append_left, Contains-get_or, Contains-push, Contains-push_cases}
+-- Coefficients of polynomials, and the elements row by row.
+use Rattle.std.proofs.Common.{ap₂, ◌≡◌, ◌+◌, ◌<◌, ℕ, zero, suc, Bool, cond, List, [], ◌∷◌, ◌++◌, length, take, get_or, sym, ap, ◌∙◌, inl, inr}
+use Rattle.std.proofs.Common.{arith, All, AllPairs, bytes_eq, add-zero, zero-add, subst, Some}
+use Rattle.std.specs.List.{Contains}
+use Rattle.std.proofs.lemmas.Bool.{cases_Bool, cases_lt}
+use Rattle.std.proofs.lemmas.List.{get_or-take, get_or_default, length-take-le, length_push, take_more}
 use Rattle.std.proofs.lemmas.List.Quantifiers.{all_pairs_push}
-use Rattle.words.specs.Order.{IsLetterwiseGreater}
+use Rattle.std.proofs.lemmas.List.Elements.{All-contains, All-head, All-tail, Contains-append_left, Contains-get_or, Contains-push, Contains-push_cases}
+use Rattle.std.proofs.lemmas.Slice.Eq.{bytes_eq-Decides}
+use Rattle.words.specs.Words.{OccursAt}
 use Rattle.free_poly.specs.declared.term.Term.{Term}
-use Rattle.free_poly.specs.Poly.{IsMonic, lead_of}
-use Rattle.ideal_laws.specs.Basis.{HasGreaterLead}
+use Rattle.free_poly.specs.Terms.{HasResidues, total_at}
+use Rattle.free_poly.specs.Poly.{lead_of, element_on}
+use Rattle.free_poly.proofs.Totals.{AreApart, AreApart-tail, total_at-absent}
 use Rattle.ideal_laws.specs.Closure.{IsNormal}
-use Rattle.plain_engine.specs.Elements.{AreElements, IsElementAt}
-use Rattle.plain_engine.specs.Table.{IsLed, IsTable}
-use Rattle.plain_engine.proofs.Rows.{row_first}
+use Rattle.back_reduce.specs.Entries.{IsLead}
+use Rattle.ideal_laws.specs.Basis.{HasGreaterLead}
+use Rattle.plain_engine.specs.Elements.{AreElements, HasNormalLead, StandsAbove}
 
-module _ (p : ℕ) (columns table : List (List ℕ)) (G : List (List Term)) (is_table : IsTable p (length columns) table) where
-  -- an element is monic and begins with the word of its column
-  pub element_first : (c : ℕ) (f : List Term) → IsElementAt p columns table G c f → (lead_of f ≡ Some (get_or columns c [])) × IsMonic f
-  element_first c f h =
-      let l = is_table.leaders c h.within h.led in
-      subst (λ (g : List Term). (lead_of g ≡ Some (get_or columns c [])) × IsMonic g) (sym h.is)
-      (row_first columns h.row c h.size h.within (λ k lt. h.before k (omega (arith, lt)) ∙ l.before k lt) (h.before c (omega arith) ∙ l.one))
+-- a polynomial has residues at all words
+pub total_residue : (p : ℕ) → 0 < p → (f : List Term) → AreApart f → HasResidues p f → (w : List ℕ) → total_at f w < p
+total_residue p pos [] h r w = pos
+total_residue p pos (t ∷ f) h r w = elim (cases_Bool (bytes_eq t.word w)) [
+  | inl is ↦
+      let own = (bytes_eq-Decides t.word w).0 is in
+      let none : total_at f w ≡ 0 = total_at-absent f w (λ k d within e. h zero (suc k) d (omega arith) (omega (arith, within)) (own ∙ sym e)) in
+      subst (λ (n : ℕ). n < p) (sym (ap₂ (λ (b : Bool) (n : ℕ). cond b t.coefficient 0 + n) is none ∙ add-zero t.coefficient))
+      (All-head (λ s. s.coefficient < p) t f r)
+  | inr other ↦
+      subst (λ (n : ℕ). n < p) (sym (ap (λ (b : Bool). cond b t.coefficient 0 + total_at f w) other ∙ zero-add (total_at f w)))
+      (total_residue p pos f (AreApart-tail t f h) (All-tail (λ s. s.coefficient < p) t f r) w)
+]
 
-  -- a column that gives none
-  pub elements_same : (elements : List (List Term)) (c : ℕ) → AreElements p columns table G elements c →
-      (IsLed table c → IsNormal G (get_or columns c []) → ⊥) → AreElements p columns table G elements (c + 1)
-  elements_same elements c h none = record {
-    each = λ f m. (let e = h.each f m in (e.0, omega (arith, e.1), e.2));
-    every = λ k lt led normal. elim (cases_eq k c) [
-      | inl is ↦ absurd (none (subst (IsLed table) is led) (subst (λ (n : ℕ). IsNormal G (get_or columns n [])) is normal))
-      | inr other ↦ h.every k (omega (arith, lt, other)) led normal
-    ];
-    falling = h.falling;
-    few = omega (arith, h.few);
+-- one more element none of whose leading words stands in the word
+pub normal_more : (fs : List (List Term)) (i : ℕ) (e : List Term) (w : List ℕ) → i < length fs → e ≡ get_or fs i e → IsNormal (take i fs) w
+    → ((v : List ℕ) (k : ℕ) → lead_of e ≡ Some v → OccursAt v w k → ⊥) → IsNormal (take (i + 1) fs) w
+normal_more fs i e w within is h own g v k m lead o = elim (Contains-push_cases (take i fs) (get_or fs i e) g
+    (subst (λ (xs : List (List Term)). Contains xs g) (take_more fs i e within) m)) [
+      | inl n ↦ h g v k n lead o
+      | inr same ↦ own v k (ap lead_of (is ∙ same) ∙ lead) o
+    ]
+
+-- a row leads at one column
+pub lead_one : (row : List ℕ) (c d : ℕ) → IsLead row c → IsLead row d → c ≡ d
+lead_one row c d h k = elim (cases_lt c d) [
+  | inl lt ↦ absurd (h.other (k.before c lt))
+  | inr ge ↦ elim (cases_lt d c) [
+    | inl lt ↦ absurd (k.other (h.before d lt))
+    | inr le ↦ omega (arith, ge, le)
+  ]
+]
+
+-- of a list whose members are related in their order, all that stand before one
+pub earlier : {X : Type 0} (R : X → X → Type 0) (xs : List X) (i : ℕ) (x : X) → AllPairs R xs → i < length xs → x ≡ get_or xs i x →
+    All (λ y. R y x) (take i xs)
+earlier R xs i x h lt is k d within =
+    let before : k < i = omega (arith, within, length-take-le i xs (omega (arith, lt))) in
+    subst (λ y. R y x) (sym (get_or-take i xs k d before)) (subst (R (get_or xs k d)) (get_or_default xs i d x lt ∙ sym is) (h k i d before lt))
+
+module _ (columns : List (List ℕ)) (G : List (List Term)) (rows : List (List ℕ)) (elements : List (List Term)) (row : List ℕ)
+    (are : AreElements columns G rows elements) where
+  -- a row that gives no element
+  pub elements_same : (HasNormalLead columns G row → ⊥) → AreElements columns G (rows ++ row ∷ []) elements
+  elements_same none = record {
+    exactly = λ f. (
+      (λ m. let q = (are.exactly f).0 m in (q.0, Contains-append_left rows (row ∷ []) q.0 q.1, q.2, q.3)),
+      (λ q. elim (Contains-push_cases rows row q.0 q.1) [
+        | inl n ↦ (are.exactly f).1 (q.0, n, q.2, q.3)
+        | inr same ↦ absurd (none (subst (HasNormalLead columns G) (sym same) q.2))
+      ]),
+    );
+    falling = are.falling;
+    few = omega (arith, are.few, length_push rows row);
   }
 
-  -- a column that gives one
-  pub elements_more : AllPairs IsLetterwiseGreater columns → (elements : List (List Term)) (c : ℕ) (f : List Term) →
-      AreElements p columns table G elements c → IsElementAt p columns table G c f →
-      AreElements p columns table G (elements ++ f ∷ []) (c + 1)
-  elements_more falling elements c f h own = record {
-    each = λ g m. elim (Contains-push_cases elements f g m) [
-      | inl n ↦ (let e = h.each g n in (e.0, omega (arith, e.1), e.2))
-      | inr is ↦ (c, omega arith, subst (IsElementAt p columns table G c) is own)
-    ];
-    every = λ k lt led normal. elim (cases_eq k c) [
-      | inl is ↦ (f, Contains-push elements f, subst (λ (n : ℕ). IsElementAt p columns table G n f) (sym is) own)
-      | inr other ↦ (let e = h.every k (omega (arith, lt, other)) led normal in (e.0, Contains-append_left elements (f ∷ []) e.0 e.1, e.2))
-    ];
-    falling = all_pairs_push HasGreaterLead elements f h.falling (λ k d within.
-        let e = h.each (get_or elements k d) (Contains-get_or elements k d within) in
-        record {
-          of_f = get_or columns e.0 [];
-          of_g = get_or columns c [];
-          leads_f = (element_first e.0 (get_or elements k d) e.2).0;
-          leads_g = (element_first c f own).0;
-          greater = falling e.0 c [] e.1 own.within;
-        });
-    few = omega (arith, h.few, length_push elements f);
-  }
+  -- a row that gives one
+  pub elements_more : HasNormalLead columns G row → All (λ r. StandsAbove columns r row) rows →
+      AreElements columns G (rows ++ row ∷ []) (elements ++ element_on columns row ∷ [])
+  elements_more normal above =
+      let own = element_on columns row in
+      record {
+        exactly = λ f. (
+          (λ m. elim (Contains-push_cases elements own f m) [
+            | inl n ↦ (let q = (are.exactly f).0 n in (q.0, Contains-append_left rows (row ∷ []) q.0 q.1, q.2, q.3))
+            | inr same ↦ (row, Contains-push rows row, normal, sym same)
+          ]),
+          (λ q. elim (Contains-push_cases rows row q.0 q.1) [
+            | inl n ↦ Contains-append_left elements (own ∷ []) f ((are.exactly f).1 (q.0, n, q.2, q.3))
+            | inr same ↦ subst (Contains (elements ++ own ∷ [])) (ap (element_on columns) same ∙ sym q.3) (Contains-push elements own)
+          ]),
+        );
+        falling = all_pairs_push HasGreaterLead elements own are.falling (λ k d within.
+            let q = (are.exactly (get_or elements k d)).0 (Contains-get_or elements k d within) in
+            subst (λ (g : List Term). HasGreaterLead g own) (sym q.3) (All-contains (λ r. StandsAbove columns r row) rows q.0 above q.1));
+        few = omega (arith, are.few, length_push rows row, length_push elements own);
+      }

@@ -1,8 +1,5 @@
-pub mod Rows
-pub mod Spans
-pub mod Pivots
+pub mod RowSpans
+pub mod Forms
 pub mod Chosen
+pub mod ProductRows
 pub mod Degree
-pub mod Building
-pub mod Tables
-pub mod Terms

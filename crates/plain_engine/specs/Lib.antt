@@ -1,3 +1,3 @@
-pub mod Table
 pub mod Products
+pub mod Spans
 pub mod Elements

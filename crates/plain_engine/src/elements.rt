@@ -1,49 +1,46 @@
-ghost use Rattle.std.specs.Prelude.{◌≡◌, ◌+◌, ◌<◌, ◌≤◌, ◌^◌, ◌↔◌, ℕ, All, AllPairs, IfOk, IsTrue, length};
+ghost use Rattle.std.specs.Prelude.{◌≡◌, ◌↔◌, ℕ, All, AllPairs, IfOk, IsTrue, length};
 ghost use Rattle.words.specs.Order.{IsLetterwiseGreater};
-ghost use Rattle.words.specs.Words.{IsOver, OccursAt, degree_of};
+ghost use Rattle.words.specs.Words.{OccursAt};
 ghost use Rattle.ideal_laws.specs.Closure.{IsNormal};
-ghost use Rattle.plain_engine.specs.Elements.{AreElements};
-ghost use Rattle.free_poly.specs.Poly.{element_on};
-ghost use Rattle.plain_engine.specs.Table.{IsTable};
+ghost use Rattle.plain_engine.specs.Elements.{AreElements, HasNormalLead, StandsAbove};
 
-use crate::table::clear;
-use field_table::Field;
-use free_poly::{Poly, PolyFault, Term};
+use back_reduce::Row;
+use free_poly::Poly;
 use ideal_laws::Basis;
-use std::alloc::{AllocError, Global};
-use words::{Alphabet, Items, NoMemory, Word, occurs_at};
+use row_laws::element_of;
+use std::alloc::Global;
+use words::{NoMemory, Word, occurs_at};
 
-/// The rows of the table in whose leading word no leading word of a lower degree stands, each cleared by the others.
+/// The elements of the rows in whose leading word no leading word of a lower degree stands.
 pub(crate) fn elements_of(
     alloc: Global,
-    alphabet: &Alphabet,
-    field: &Field,
     columns: &[Word],
-    table: &[Items<u32>],
+    echelon: &[Row],
     below: &Basis,
 ) -> Result<Vec<Poly>, NoMemory>
-    requires letters { All (IsOver (length alphabet.now.weights)) columns.now }
-    requires small { All (λ w. degree_of alphabet.now.weights w ≤ 64) columns.now }
-    requires one_degree { AllPairs (λ v w. degree_of alphabet.now.weights v ≡ degree_of alphabet.now.weights w)
-        columns.now }
-    requires falling { AllPairs IsLetterwiseGreater columns.now }
-    requires table { IsTable field.now (length columns.now) table.now }
-    ensures { IfOk result (λ elements. AreElements field.now columns.now table.now below.now.elements elements.items
-        (length columns.now)) }
+    requires columns { AllPairs IsLetterwiseGreater columns.now }
+    requires width { All (λ row. length row ≡ length columns.now) echelon.now }
+    requires falling { AllPairs (StandsAbove columns.now) echelon.now }
+    ensures { IfOk result (λ elements. AreElements columns.now below.now.elements echelon.now elements.items) }
 {
-    let _modulus = field.modulus();
     let mut elements = Vec::new(alloc);
-    for at in 0..columns.len() {
-        let pivot = table[at].as_slice();
-        if pivot.is_empty() || !is_normal(below, columns[at].letters()) {
-            continue;
+    for row in echelon {
+        if has_normal_lead(columns, below, row) {
+            elements.push(element_of(alloc, columns, row)?)?;
         }
-        let mut row = Vec::from_slice(alloc, pivot)?;
-        clear(field, table, row.as_mut_slice(), at + 1);
-        let element = element_of(alloc, alphabet, field, columns, row.as_slice())?;
-        elements.push(element)?;
     }
     Ok(elements)
+}
+
+/// Whether no leading word of the basis stands in the word at which the row leads.
+fn has_normal_lead(columns: &[Word], below: &Basis, row: &Row) -> bool
+    requires { length row.now ≡ length columns.now }
+    ensures { IsTrue result ↔ HasNormalLead columns.now below.now.elements row.now }
+{
+    match row.lead() {
+        Some(at) => is_normal(below, columns[at].letters()),
+        None => true,
+    }
 }
 
 /// Whether no leading word of the basis stands in the word.
@@ -70,48 +67,4 @@ fn is_factor(factor: &[u8], word: &[u8]) -> bool
         }
     }
     occurs_at(factor, word, word.len())
-}
-
-/// The polynomial with these coefficients at the columns.
-fn element_of(
-    alloc: Global,
-    alphabet: &Alphabet,
-    field: &Field,
-    columns: &[Word],
-    row: &[u32],
-) -> Result<Poly, NoMemory>
-    requires letters { All (IsOver (length alphabet.now.weights)) columns.now }
-    requires small { All (λ w. degree_of alphabet.now.weights w ≤ 64) columns.now }
-    requires one_degree { AllPairs (λ v w. degree_of alphabet.now.weights v ≡ degree_of alphabet.now.weights w)
-        columns.now }
-    requires falling { AllPairs IsLetterwiseGreater columns.now }
-    requires size { length row.now ≡ length columns.now }
-    requires residues { All (λ r. r < field.now) row.now }
-    ensures { IfOk result (λ f. f ≡ element_on columns.now row.now) }
-{
-    let _modulus = field.modulus();
-    let terms = terms_of(alloc, columns, row)?;
-    match Poly::from_terms(alloc, alphabet, field, terms) {
-        Ok(poly) => Ok(poly),
-        Err(PolyFault::NoMemory) => Err(AllocError),
-        Err(PolyFault::MixedDegrees { .. }) => unreachable!(),
-    }
-}
-
-/// The words of the columns with their coefficients, where these are not 0.
-fn terms_of(alloc: Global, columns: &[Word], row: &[u32]) -> Result<Vec<Term>, NoMemory>
-    requires { length row.now ≡ length columns.now }
-    ensures { IfOk result (λ terms. terms.items ≡ element_on columns.now row.now) }
-{
-    let mut terms = Vec::new(alloc);
-    for (at, coefficient) in row.iter().enumerate() {
-        if *coefficient != 0 {
-            let word = columns[at].copy(alloc)?;
-            terms.push(Term {
-                word,
-                coefficient: *coefficient,
-            })?;
-        }
-    }
-    Ok(terms)
 }

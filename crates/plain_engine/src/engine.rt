@@ -2,7 +2,7 @@ ghost use Rattle.std.specs.Prelude.{◌≡◌, ◌≤◌};
 ghost use Rattle.ideal_laws.specs.Limits.{AreLimits, standard_limits};
 
 use crate::elements::elements_of;
-use crate::products::table_of;
+use crate::products::echelon_of_products;
 use degree_words::{counts_of, lists_of};
 use field_table::Field;
 use ideal_laws::{
@@ -13,7 +13,7 @@ use std::alloc::Global;
 use std::thread::Threads;
 use words::Items;
 
-/// Computes a degree by elimination over all of its words.
+/// Computes a degree from the echelon form of all products over all of its words.
 #[derive(Debug, Drop)]
 pub struct PlainEngine {
     pub plain_words: u32,
@@ -42,7 +42,7 @@ impl DegreeEngine for PlainEngine {
 
     fn degree<R: Threads + Sync>(
         &mut self,
-        _rt: &R,
+        rt: &R,
         alloc: Global,
         field: &Field,
         presentation: &Presentation,
@@ -62,10 +62,12 @@ impl DegreeEngine for PlainEngine {
                 value: count,
             });
         }
-        let lists = lists_of(alloc, alphabet, &counts, d)?;
-        let table = table_of(alloc, field, presentation, lists.as_slice(), d)?;
+        let words = lists_of(alloc, alphabet, &counts, d)?;
+        let lists = words.as_slice();
+        let echelon = echelon_of_products(rt, alloc, field, presentation, lists, d)?;
         let columns = lists[d as usize].as_slice();
-        let elements = elements_of(alloc, alphabet, field, columns, table.as_slice(), below)?;
+        let rows = echelon.as_slice();
+        let elements = elements_of(alloc, columns, rows, below)?;
         Ok(DegreeReport {
             elements: Items::from_vec(elements),
             account: Account {

@@ -1,5 +1,6 @@
 pub mod Forms
 pub mod OnColumns
+pub mod EntryTerms
 pub mod Spread
 pub mod Places
 pub mod Reducers

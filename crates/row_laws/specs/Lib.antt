@@ -1,2 +1,3 @@
 pub mod Contested
+pub mod Elements
 pub mod Laws

@@ -1,5 +1,6 @@
+use Rattle.std.proofs.Common.{take}
 use Rattle.plain_engine.specs.Elements.{AreElements}
 use Rattle.plain_engine.proofs.elements.elements_of.Given as goal
 
-abbrev pub invariant-loop-at : goal.invariant-loop-at
-invariant-loop-at l = AreElements l.field l.columns l.table l.below.elements l.elements.items l.at
+abbrev pub invariant-loop-row : goal.invariant-loop-row
+invariant-loop-row l = AreElements l.columns l.below.elements (take l.row-index l.echelon) l.elements.items

@@ -1,7 +1,7 @@
 use Rattle.std.proofs.Common.{◌≡◌, ◌<◌, ℕ, List, false, true, None, Some, length, subst, sym, ◌∙◌, arith}
 use Rattle.words.specs.Words.{OccursAt}
 use Rattle.ideal_laws.proofs.OneBasis.{some_same}
-use Rattle.plain_engine.proofs.Terms.{normal_more}
+use Rattle.plain_engine.proofs.Chosen.{normal_more}
 use Rattle.plain_engine.proofs.elements.is_normal.Goals as goal
 use Rattle.plain_engine.proofs.elements.is_normal.Goals.{in-Some+else-is_factor, in_default}
 
