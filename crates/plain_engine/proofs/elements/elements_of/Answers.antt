@@ -4,7 +4,7 @@ use Rattle.free_poly.specs.declared.term.Term.{Term}
 use Rattle.plain_engine.specs.Elements.{AreElements, StandsAbove}
 use Rattle.plain_engine.proofs.Chosen.{earlier, elements_more, elements_same}
 use Rattle.plain_engine.proofs.elements.elements_of.Goals as goal
-use Rattle.plain_engine.proofs.elements.elements_of.Goals.{then-has_normal_lead+in_ok-element+in_ok-push, else-has_normal_lead}
+use Rattle.plain_engine.proofs.elements.elements_of.Goals.{then-has_normal_lead+in_ok-element_of+in_ok-push, else-has_normal_lead}
 
 pub loop-row-preserved : goal.loop-row-preserved
 loop-row-preserved c =
@@ -17,9 +17,9 @@ loop-row-preserved c =
     let more : take i echelon ++ row ∷ [] ≡ take (i + 1) echelon = ap (λ (r : List ℕ). take i echelon ++ r ∷ []) c.row-item.is
     ∙ sym (take_more echelon i row c.loop-row-test.true) in
     subst (λ (rows : List (List ℕ)). AreElements columns G rows c.if-has_normal_lead.elements.items) more (elim c.if-has_normal_lead.branch [
-      | then-has_normal_lead+in_ok-element+in_ok-push w ↦
+      | then-has_normal_lead+in_ok-element_of+in_ok-push w ↦
           subst (AreElements columns G (take i echelon ++ row ∷ [])) (sym (ap (λ v. v.items) w.elements-is ∙ w.in_ok-push.ensures.items
-          ∙ ap (λ (f : List Term). elements ++ f ∷ []) w.in_ok-element.ensures))
+          ∙ ap (λ (f : List Term). elements ++ f ∷ []) w.in_ok-element_of.ensures))
           (elements_more columns G (take i echelon) elements row c.loop-row.invariant (c.has_normal_lead.ensures.0 w.if-has_normal_lead.true)
           (earlier (StandsAbove columns) echelon i row c.requires.falling c.loop-row-test.true c.row-item.is))
       | else-has_normal_lead w ↦
