@@ -1,6 +1,6 @@
 -- What the calls on the closure of a degree ask of its rows, columns and reducers.
-use Rattle.std.proofs.Common.{◌≡◌, ◌*◌, ◌≤◌, ℕ, List, All, Option, length, sym, ap, ◌∙◌, arith}
-use Rattle.std.specs.List.{AllZip, Contains, flat_map}
+use Rattle.std.proofs.Common.{◌≡◌, ◌*◌, ℕ, List, All, length, ap, ◌∙◌}
+use Rattle.std.specs.List.{Contains, flat_map}
 use Rattle.words.specs.Words.{IsOver, degree_of}
 use Rattle.words.proofs.Degrees.{words_of_degree-says}
 use Rattle.words.proofs.Members.{All-from_members, Contains-flat_map, Contains-map}
@@ -10,13 +10,13 @@ use Rattle.free_poly.specs.Poly.{IsPolynomial}
 use Rattle.ideal_laws.specs.Ideal.{Ideal}
 use Rattle.ideal_laws.specs.declared.limits.LimitKind.{LimitKind}
 use Rattle.ideal_laws.specs.declared.limits.LimitKind.TheVariants.{PlainWords, Rows, Columns, Entries, Cells, Terms, NormalWords}
-use Rattle.ideal_laws.specs.Closure.{AreColumns, HasReducer, given}
+use Rattle.ideal_laws.specs.Closure.{AreColumns, given}
 use Rattle.ideal_laws.specs.Engine.{Elements}
 use Rattle.ideal_laws.specs.Laws.{IsSetting}
 use Rattle.ideal_laws.specs.Overlaps.{AreLower}
-use Rattle.ideal_laws.specs.Quantities.{AreRows, IsQuantity, reducers_in, words_of, contested_words}
+use Rattle.ideal_laws.specs.Quantities.{AreRows, IsQuantity, reducers_in, words_of}
 use Rattle.symbolic_prep.specs.Closed.{ClosedColumns, IsClosed, IsClosedQuantity}
-use Rattle.row_laws.proofs.ClosedColumns.{closure_word, contested_falling, contested_says, reducer_says}
+use Rattle.row_laws.proofs.ClosedColumns.{closure_word, reducer_says}
 use Rattle.row_laws.proofs.DegreeRows.{member_word, row_member}
 use Rattle.row_laws.proofs.Reducers.{reducer_inside}
 use Rattle.row_store.specs.Contested.{IsCellQuantity, IsOnColumns}
@@ -55,29 +55,8 @@ module _ (ideal : Ideal) (st : IsSetting ideal) (d : ℕ) (G : List (List Term))
           (λ t n. (are_columns.exactly t.word).1 (given t.word (Contains-map (λ (s : Term). s.word) (flat_map (λ g. g) rows) t
           (Contains-flat_map (λ g. g) rows f t m n)))))
 
-<<<<<<< HEAD
-      module _ (reducers : List (Option (List Term))) (have : AllZip (HasReducer G) columns reducers) where
-        contested_has : (w : List ℕ) → Contains (contested_words columns reducers) w → IsOver (length ideal.weights) w × (degree_of ideal.weights w ≡ d)
-        contested_has w m = column_says w (contested_says G columns reducers have w m).0
-
-        contested_degree : All (λ w. degree_of ideal.weights w ≡ d) (contested_words columns reducers)
-        contested_degree = All-from_members (λ w. degree_of ideal.weights w ≡ d) (contested_words columns reducers) (λ w m. (contested_has w m).1)
-
-        pub column_words : d ≤ 64 → AreColumnWords ideal.weights (contested_words columns reducers)
-        column_words small = record {
-          letters = All-from_members (IsOver (length ideal.weights)) (contested_words columns reducers) (λ w m. (contested_has w m).0);
-          small = All-from_members (λ w. degree_of ideal.weights w ≤ 64) (contested_words columns reducers)
-              (λ w m. let e = (contested_has w m).1 in omega (arith, e, small));
-          one_degree = λ i j x before within. contested_degree i x (omega (arith, before, within)) ∙ sym (contested_degree j x within);
-          falling = contested_falling columns reducers are_columns.falling;
-        }
-
     pub reducer_residues : (closed : ClosedColumns) → IsClosed G (words_of rows) closed → All (HasResidues ideal.modulus) (reducers_in closed.reducers)
     reducer_residues closed h = All-from_members (HasResidues ideal.modulus) (reducers_in closed.reducers)
-=======
-    pub reducer_residues : (closed : ClosedColumns) → IsClosed G (words_of rows) closed → All (HasResidues p) (reducers_in closed.reducers)
-    reducer_residues closed h = All-from_members (HasResidues p) (reducers_in closed.reducers)
->>>>>>> falling/main
         (λ g m. let r = reducer_says G closed.columns closed.reducers h.are_reducers g m in
         let says = column_says closed.columns h.are_columns r.0 r.1 in
         (reducer_inside ideal st d G lower r.0 g says.0 says.1 r.2).element.residues)
