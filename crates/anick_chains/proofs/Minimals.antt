@@ -4,7 +4,6 @@ use Rattle.std.specs.List.{Contains}
 use Rattle.std.proofs.lemmas.Bool.{cases_Bool}
 use Rattle.std.proofs.lemmas.Slice.Eq.{bytes_eq-Decides}
 use Rattle.words.specs.Words.{IsFactor}
-use Rattle.free_poly.specs.declared.term.Term.{Term}
 use Rattle.free_poly.proofs.FromWords.{listed}
 use Rattle.free_poly.proofs.Totals.{here}
 use Rattle.ideal_laws.specs.Ideal.{Ideal, IsMinimal}

@@ -2,7 +2,6 @@
 use Rattle.std.specs.Prelude.{ℕ, ◌≡◌, ◌≢◌, ◌<◌, ◌⊎◌, ◌↔◌, ◌%◌, ◌==◌, Bool, suc, List, [], ◌∷◌, ◌++◌, AllPairs}
 use Rattle.std.specs.Prelude.{Contains, length, count_by}
 use Rattle.words.specs.Words.{IsFactor, IsOver}
-use Rattle.free_poly.specs.declared.term.Term.{Term}
 use Rattle.ideal_laws.specs.Ideal.{Ideal, IsMinimal}
 use Rattle.ideal_laws.specs.Laws.{IsOne, IsSetting}
 use Rattle.anick_chains.specs.Chains.{HasTip, IsNext}

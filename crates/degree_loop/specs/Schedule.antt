@@ -1,5 +1,5 @@
 -- The schedule generator: which seat makes the next step of the machine of claims.
-use Rattle.std.specs.Prelude.{ℕ, ◌≡◌, ◌≢◌, ◌+◌, ◌*◌, ◌/◌, ◌%◌, ◌^◌, ◌==◌, true, List, [], ◌∷◌, length, slice_index}
+use Rattle.std.specs.Prelude.{ℕ, ◌≡◌, ◌≢◌, ◌/◌, ◌%◌, ◌==◌, true, List, [], ◌∷◌, length, slice_index}
 use Rattle.std.specs.List.{filter, range_with_len}
 use Rattle.field_table.specs.Draws.{next_number}
 use Rattle.back_reduce.specs.declared.problem.Problem.{Problem}

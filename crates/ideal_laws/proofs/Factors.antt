@@ -9,7 +9,6 @@ use Rattle.std.proofs.lemmas.Slice.Eq.{bytes_eq-Decides}
 use Rattle.words.specs.Words.{IsFactor, IsOver, IsProperFactor, degree_of}
 use Rattle.words.proofs.Degrees.{Contains-range}
 use Rattle.words.proofs.Members.{Contains-flat_map, Contains-flat_map_cases, Contains-map, Contains-map_cases}
-use Rattle.free_poly.specs.declared.term.Term.{Term}
 use Rattle.free_poly.specs.Terms.{product}
 use Rattle.free_poly.proofs.Products.{degree_of-round}
 use Rattle.free_poly.proofs.Totals.{here}

@@ -1,7 +1,6 @@
 -- Degrees in which no quantity passes, and the first in which one does.
 use Rattle.std.proofs.Common.{◌≡◌, ◌+◌, ◌-◌, ◌<◌, ℕ, List, refl, sym, inl, inr, arith, subst}
 use Rattle.std.proofs.lemmas.Bool.{cases_lt}
-use Rattle.free_poly.specs.declared.term.Term.{Term}
 use Rattle.ideal_laws.specs.Ideal.{Ideal}
 use Rattle.ideal_laws.specs.declared.limits.LimitKind.{LimitKind}
 use Rattle.ideal_laws.specs.Engine.{Elements, IsReducedUpto}

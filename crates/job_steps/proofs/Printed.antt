@@ -10,7 +10,6 @@ use Rattle.ideal_laws.specs.Basis.{IsReducedBasis}
 use Rattle.ideal_laws.specs.Engine.{Elements, IsReducedUpto}
 use Rattle.ideal_laws.specs.Ideal.{ideal_over}
 use Rattle.ideal_laws.specs.Kept.{IsKept}
-use Rattle.ideal_laws.specs.Quantities.{IsFirstPassing, IsQuantity, NonePasses}
 use Rattle.ideal_laws.proofs.Refused.{refused_next, upto_next}
 use Rattle.poly_writer.specs.Outputs.{IsBasisText}
 use Rattle.poly_writer.specs.Texts.{basis_text, degree_text, degree_texts}

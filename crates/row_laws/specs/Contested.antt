@@ -1,5 +1,5 @@
 -- The contested columns of a degree, and the rows over them.
-use Rattle.std.specs.Prelude.{ℕ, ◌-◌, List, [], ◌∷◌, ◌++◌, Contains, Option, None, Some, length}
+use Rattle.std.specs.Prelude.{ℕ, ◌-◌, List, ◌++◌, Contains, Option, length}
 use Rattle.std.specs.List.{AllZip}
 use Rattle.free_poly.specs.declared.term.Term.{Term}
 use Rattle.free_poly.specs.Poly.{element_on}

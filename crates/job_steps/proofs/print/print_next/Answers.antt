@@ -1,7 +1,6 @@
-use Rattle.std.proofs.Common.{◌+◌, ℕ, List, Err, ap, subst, ◌∙◌, arith, refl}
+use Rattle.std.proofs.Common.{◌+◌, ℕ, Err, ap, subst, ◌∙◌, arith, refl}
 use Rattle.std.proofs.KnownBytes.{Appends-nil}
-use Rattle.ideal_laws.specs.Basis.{IsReducedBasis}
-use Rattle.ideal_laws.specs.Ideal.{ideal_of, ideal_over}
+use Rattle.ideal_laws.specs.Ideal.{ideal_of}
 use Rattle.ideal_laws.specs.Kept.{IsBelow}
 use Rattle.ideal_laws.specs.Quantities.{IsFirstPassing, IsQuantity}
 use Rattle.job_steps.specs.Traces.{Tells, trace_of}
