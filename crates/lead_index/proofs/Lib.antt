@@ -4,6 +4,7 @@ pub mod Indexing
 pub mod Labels
 pub mod LeadLemmas
 pub mod Paths
+pub mod StepWalks
 pub mod Trees
 pub mod Walks
 pub mod Ways

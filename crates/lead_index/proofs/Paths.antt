@@ -11,12 +11,12 @@ pub record IsBegun (old new : List Node) (letters : List ℕ) (element i : ℕ) 
   pub kept : (n : ℕ) → n < length old → slice_get new n ≡ slice_get old n
   pub path : (k : ℕ) → k < i → (node : Node) × (slice_get new (length old + k) ≡ Some node) × IsOnPath (length old + k + 1) letters element k node
 
-slice_get-append : (xs ys : List Node) (n : ℕ) → n < length xs → slice_get (xs ++ ys) n ≡ slice_get xs n
+pub slice_get-append : {X : Type 0} (xs ys : List X) (n : ℕ) → n < length xs → slice_get (xs ++ ys) n ≡ slice_get xs n
 slice_get-append [] ys n lt = absurd (omega (arith, lt))
 slice_get-append (x ∷ xs) ys zero lt = refl
 slice_get-append (x ∷ xs) ys (suc n) lt = slice_get-append xs ys n (omega (arith, lt))
 
-slice_get-push : (xs : List Node) (y : Node) (n : ℕ) → n ≡ length xs → slice_get (xs ++ y ∷ []) n ≡ Some y
+pub slice_get-push : {X : Type 0} (xs : List X) (y : X) (n : ℕ) → n ≡ length xs → slice_get (xs ++ y ∷ []) n ≡ Some y
 slice_get-push [] y zero e = refl
 slice_get-push [] y (suc n) e = absurd (omega (arith, e))
 slice_get-push (x ∷ xs) y zero e = absurd (omega (arith, e))

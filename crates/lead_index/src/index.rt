@@ -2,30 +2,35 @@ ghost use Rattle.std.specs.Prelude.{◌≡◌, ◌++◌, ◌∷◌, ◌<◌, ◌
 ghost use Rattle.lead_index.specs.Leads.{IsFirstReducer, IsFree, IsFresh, IsFreeAt, IsIndex, Starts};
 
 use crate::lead::Lead;
+use crate::steps::StepTable;
 use crate::tree::{Node, attach, first_element, push_path};
 use std::alloc::{AllocError, Global};
 use std::marker::Model;
 use words::{NoMemory, Word};
 
 /// Leading words with their elements, which contracts see as the list of these pairs in the order of their adding.
+/// Where the list is whole, a table takes the place of the links between the nodes.
 #[derive(Debug, Drop)]
 pub struct LeadIndex {
     alloc: Global,
     leads: Vec<Lead>,
     nodes: Vec<Node>,
+    table: Option<StepTable>,
 }
 
 impl Model for LeadIndex {
     ghost use Rattle.std.specs.Prelude.{List};
     ghost use Rattle.lead_index.specs.declared.lead.Lead.{Lead};
     ghost use Rattle.lead_index.specs.Leads.{IsIndex};
+    ghost use Rattle.lead_index.specs.Steps.{MayStep};
     ghost use Rattle.lead_index.specs.Tree.{IsTree};
 
     ghost Value = { List Lead };
 
     ghost view = { λ x. x.leads.items };
 
-    ghost invariant = { λ x. IsIndex x.leads.items × IsTree x.nodes.items x.leads.items };
+    ghost invariant = { λ x. IsIndex x.leads.items × IsTree x.nodes.items x.leads.items
+        × MayStep x.nodes.items x.table };
 }
 
 /// Where a leading word stands, counted from 0, and its element.
@@ -44,6 +49,7 @@ impl LeadIndex {
             alloc,
             leads: Vec::new(alloc),
             nodes: Vec::new(alloc),
+            table: None,
         }
     }
 
@@ -57,10 +63,20 @@ impl LeadIndex {
             return Err(AllocError);
         }
         let word = Word::from_letters(self.alloc, lead)?;
+        self.table = None;
         self.nodes.reserve(lead.len())?;
         self.leads.push(Lead { word, element })?;
         let place = attach(&mut self.nodes, lead);
         push_path(&mut self.nodes, &lead[place..], element);
+        Ok(())
+    }
+
+    /// Makes the table for a list that is whole.
+    pub(crate) fn tabulate(&mut self) -> Result<(), NoMemory>
+        ensures { self.new ≡ self.old }
+    {
+        let table = StepTable::of(self.alloc, self.nodes.as_slice())?;
+        self.table = Some(table);
         Ok(())
     }
 
@@ -91,7 +107,11 @@ impl LeadIndex {
         ensures element { MatchOption result (IsFreeAt self.now word.now at)
             (λ element. Starts self.now word.now at element) }
     {
-        first_element(self.nodes.as_slice(), &word[at..])
+        let letters = &word[at..];
+        match &self.table {
+            Some(table) => table.element(self.nodes.as_slice(), letters),
+            None => first_element(self.nodes.as_slice(), letters),
+        }
     }
 
     pub(crate) fn leads(&self) -> &[Lead]

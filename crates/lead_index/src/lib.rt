@@ -6,6 +6,7 @@ mod basis_index;
 mod index;
 pub mod laws;
 mod lead;
+mod steps;
 #[cfg(test)]
 mod tests;
 mod tree;

@@ -2,6 +2,7 @@ use Rattle.std.proofs.Common.{◌≡◌, ◌+◌, ◌<◌, ◌∙◌, [], ap, ar
 use Rattle.std.proofs.lemmas.List.{get_or_default}
 use Rattle.free_poly.specs.Poly.{lead_of}
 use Rattle.ideal_laws.specs.Kept.{IsKeptElement}
+use Rattle.lead_index.specs.Leads.{IsIndexOf}
 use Rattle.lead_index.proofs.Indexing.{IsIndexUpto, fresh_lead, indexed_all, indexed_more, kept_fit, none_indexed}
 use Rattle.lead_index.proofs.basis_index.index_of.Goals as goal
 
@@ -32,4 +33,5 @@ loop-place-preserved c =
 pub returns : goal.returns
 returns c =
     let all : c.loop-place.place ≡ length c.args.basis.now.elements = omega (arith, c.len-count.ensures) in
-    indexed_all c.args.basis.now.elements c.loop-place.place c.loop-place.index all c.loop-place.invariant
+    subst (IsIndexOf c.args.basis.now.elements) (sym c.tabulate.ensures)
+    (indexed_all c.args.basis.now.elements c.loop-place.place c.loop-place.index all c.loop-place.invariant)

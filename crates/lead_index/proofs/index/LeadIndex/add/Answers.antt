@@ -25,4 +25,4 @@ invariant_of-self-2 c =
     let tree = IsTree-grown old new leads g.0 (drop place letters) letters c.args.element c.self.invariant.1 g.1 in
     let index = IsIndex-added leads (record { word = letters; element = c.args.element }) c.self.invariant.0 fresh in
     let items = c.in_ok-push.ensures.items ∙ ap (λ (w : List ℕ). leads ++ record { word = w; element = c.args.element } ∷ []) c.in_ok-word.ensures in
-    (subst IsIndex (sym items) index, subst (λ (xs : List Lead). IsTree new xs) (sym items) tree)
+    (subst IsIndex (sym items) index, subst (λ (xs : List Lead). IsTree new xs) (sym items) tree, tt)
