@@ -71,12 +71,11 @@ impl LeadIndex {
         Ok(())
     }
 
-    /// Makes the table for a list that is whole.
+    /// Makes the table for a list that is whole, where it is not too large.
     pub(crate) fn tabulate(&mut self) -> Result<(), NoMemory>
         ensures { self.new ≡ self.old }
     {
-        let table = StepTable::of(self.alloc, self.nodes.as_slice())?;
-        self.table = Some(table);
+        self.table = StepTable::of(self.alloc, self.nodes.as_slice())?;
         Ok(())
     }
 

@@ -1,10 +1,13 @@
 ghost use Rattle.std.specs.Prelude.{◌≡◌, ◌<◌, ◌≤◌, IfOk, MatchOption, length};
-ghost use Rattle.lead_index.specs.Steps.{AreSteps, IsStep, step_to};
+ghost use Rattle.lead_index.specs.Steps.{AreSteps, IsStep, MayStep, step_to};
 ghost use Rattle.lead_index.specs.Tree.{IsMissed, IsRising, Meets};
 
 use crate::tree::{Node, first_element};
-use std::alloc::{AllocError, Global};
+use std::alloc::Global;
 use words::NoMemory;
+
+/// The most steps of a table, which then has 32 MiB. A larger tree is walked along its links.
+const MOST_STEPS: usize = 4_194_304;
 
 /// Where a letter leads from a node: nowhere, to the first node for the next letter, or to the end of a word.
 #[derive(Debug, Clone, Copy)]
@@ -22,21 +25,22 @@ pub(crate) struct StepTable {
 }
 
 impl StepTable {
-    pub(crate) fn of(alloc: Global, nodes: &[Node]) -> Result<StepTable, NoMemory>
+    /// The table of a tree, or none where it would be too large.
+    pub(crate) fn of(alloc: Global, nodes: &[Node]) -> Result<Option<StepTable>, NoMemory>
         requires { IsRising nodes.now }
-        ensures { IfOk result (λ t. AreSteps nodes.now t.letters t.steps.items) }
+        ensures { IfOk result (MayStep nodes.now) }
     {
-        if nodes.len() > u32::MAX as usize {
-            return Err(AllocError);
-        }
         let letters = letters_of(nodes);
-        let count = nodes.len() * letters;
+        let count = nodes.len().saturating_mul(letters);
+        if count > MOST_STEPS {
+            return Ok(None);
+        }
         let mut steps = Vec::with_capacity(alloc, count)?;
         for place in 0..count {
             let step = step_at(nodes, place / letters, (place % letters) as u8);
             steps.push(step)?;
         }
-        Ok(StepTable { letters, steps })
+        Ok(Some(StepTable { letters, steps }))
     }
 
     /// The element of the first word of the tree that the letters begin with.
