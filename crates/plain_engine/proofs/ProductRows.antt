@@ -139,7 +139,7 @@ module _ (ideal : Ideal) (st : IsSetting ideal) (d : ℕ) (lists : List (List (L
           (Contains-flat_map (λ u. right_rows ws u r (list_at lists (d - degree_of ideal.weights t.word - degree_of ideal.weights m.left)))
           (list_at lists (degree_of ideal.weights m.left)) m.left (coefficients ws (product m.left r m.right)) left
           (Contains-map (λ v. coefficients ws (product m.left r v)) (list_at lists (d - degree_of ideal.weights t.word - degree_of ideal.weights m.left))
-              m.right
+          m.right
           (subst (λ (n : ℕ). Contains (list_at lists n) m.right) (sym there) right))))
 
   -- a row of the list with its product
