@@ -2,8 +2,9 @@
 use Rattle.std.proofs.Common.{ap₂, ◌≡◌, ◌+◌, ◌<◌, ℕ, zero, suc, Bool, cond, List, [], ◌∷◌, ◌++◌, length, take, get_or, sym, ap, ◌∙◌, inl, inr}
 use Rattle.std.proofs.Common.{arith, All, AllPairs, bytes_eq, add-zero, zero-add, subst, Some}
 use Rattle.std.specs.List.{Contains}
+use Rattle.std.proofs.Math.Seq.{get_or-append_seam}
 use Rattle.std.proofs.lemmas.Bool.{cases_Bool, cases_lt}
-use Rattle.std.proofs.lemmas.List.{get_or-take, get_or_default, length-take-le, length_push, take_more}
+use Rattle.std.proofs.lemmas.List.{get_or_append_left, length_push, take_more}
 use Rattle.std.proofs.lemmas.List.Quantifiers.{all_pairs_push}
 use Rattle.std.proofs.lemmas.List.Elements.{All-contains, All-head, All-tail, Contains-append_left, Contains-get_or, Contains-push, Contains-push_cases}
 use Rattle.std.proofs.lemmas.Slice.Eq.{bytes_eq-Decides}
@@ -50,12 +51,17 @@ lead_one row c d h k = elim (cases_lt c d) [
   ]
 ]
 
--- of a list whose members are related in their order, all that stand before one
-pub earlier : {X : Type 0} (R : X → X → Type 0) (xs : List X) (i : ℕ) (x : X) → AllPairs R xs → i < length xs → x ≡ get_or xs i x →
-    All (λ y. R y x) (take i xs)
-earlier R xs i x h lt is k d within =
-    let before : k < i = omega (arith, within, length-take-le i xs (omega (arith, lt))) in
-    subst (λ y. R y x) (sym (get_or-take i xs k d before)) (subst (R (get_or xs k d)) (get_or_default xs i d x lt ∙ sym is) (h k i d before lt))
+-- of a list whose members are related in their order, all but the last are, and each is to the last
+module _ {X : Type 0} (R : X → X → Type 0) (xs : List X) (x : X) (h : AllPairs R (xs ++ x ∷ [])) where
+  before_last : AllPairs R xs
+  before_last i j d lt within =
+      let same : (k : ℕ) → k < length xs → get_or (xs ++ x ∷ []) k d ≡ get_or xs k d = λ k l. get_or_append_left xs (x ∷ []) d k l in
+      subst (λ y. R y (get_or xs j d)) (same i (omega (arith, lt, within))) (subst (R (get_or (xs ++ x ∷ []) i d)) (same j within)
+      (h i j d lt (omega (arith, within, length_push xs x))))
+
+  to_last : All (λ y. R y x) xs
+  to_last k d within = subst (λ y. R y x) (get_or_append_left xs (x ∷ []) d k within)
+      (subst (R (get_or (xs ++ x ∷ []) k d)) (get_or-append_seam xs x [] d) (h k (length xs) d within (omega (arith, length_push xs x))))
 
 module _ (columns : List (List ℕ)) (G : List (List Term)) (rows : List (List ℕ)) (elements : List (List Term)) (row : List ℕ)
     (are : AreElements columns G rows elements) where
@@ -69,14 +75,14 @@ module _ (columns : List (List ℕ)) (G : List (List Term)) (rows : List (List �
         | inr same ↦ absurd (none (subst (HasNormalLead columns G) (sym same) q.2))
       ]),
     );
-    falling = are.falling;
+    falling = λ all. are.falling (before_last (StandsAbove columns) rows row all);
     few = omega (arith, are.few, length_push rows row);
   }
 
   -- a row that gives one
-  pub elements_more : HasNormalLead columns G row → All (λ r. StandsAbove columns r row) rows →
+  pub elements_more : HasNormalLead columns G row →
       AreElements columns G (rows ++ row ∷ []) (elements ++ element_on columns row ∷ [])
-  elements_more normal above =
+  elements_more normal =
       let own = element_on columns row in
       record {
         exactly = λ f. (
@@ -89,8 +95,9 @@ module _ (columns : List (List ℕ)) (G : List (List Term)) (rows : List (List �
             | inr same ↦ subst (Contains (elements ++ own ∷ [])) (ap (element_on columns) same ∙ sym q.3) (Contains-push elements own)
           ]),
         );
-        falling = all_pairs_push HasGreaterLead elements own are.falling (λ k d within.
+        falling = λ all. all_pairs_push HasGreaterLead elements own (are.falling (before_last (StandsAbove columns) rows row all)) (λ k d within.
             let q = (are.exactly (get_or elements k d)).0 (Contains-get_or elements k d within) in
-            subst (λ (g : List Term). HasGreaterLead g own) (sym q.3) (All-contains (λ r. StandsAbove columns r row) rows q.0 above q.1));
+            subst (λ (g : List Term). HasGreaterLead g own) (sym q.3) (All-contains (λ r. StandsAbove columns r row) rows q.0
+            (to_last (StandsAbove columns) rows row all) q.1));
         few = omega (arith, are.few, length_push rows row, length_push elements own);
       }

@@ -6,7 +6,8 @@ use Rattle.std.proofs.Math.Nat.{mod-mod}
 use Rattle.std.proofs.lemmas.List.{get_or-map, get_or_default, length-map}
 use Rattle.std.proofs.lemmas.List.Elements.{All-contains, All-head, Contains-get_or}
 use Rattle.std.proofs.lemmas.Slice.Zip.{get_or-zip, length-zip}
-use Rattle.words.specs.Words.{IsOver, IsProperFactor, degree_of}
+use Rattle.words.specs.Words.{IsOver, IsProperFactor, degree_of, words_of_degree}
+use Rattle.words.proofs.Degrees.{words_of_degree-falling, words_of_degree-says}
 use Rattle.words.specs.Order.{IsLetterwiseGreater}
 use Rattle.words.proofs.Members.{AllPairs-first, All-from_members, Contains-first, Contains-more}
 use Rattle.words.proofs.Weights.{length-le-degree_of}
@@ -53,9 +54,9 @@ below_all P (t ∷ f) w e h q =
     (AllPairs-first (λ s t. IsLetterwiseGreater s.word t.word) t f h.falling) m) (is ∙ sym same)))
 
 module _ (ideal : Ideal) (st : IsSetting ideal) (d : ℕ) (lists : List (List (List ℕ))) (al : AreLists ideal.weights d lists (d + 1)) (echelon : List (List ℕ))
-    (rref : IsRref ideal.modulus (length (products.ws ideal st d lists al)) (products.all_rows ideal st d lists al) echelon) where
+    (rref : IsRref ideal.modulus (length (words_of_degree ideal.weights d)) (products.all_rows ideal st d lists al) echelon) where
   abbrev ws : List (List ℕ)
-  ws = products.ws ideal st d lists al
+  ws = words_of_degree ideal.weights d
 
   abbrev rows : List (List ℕ)
   rows = products.all_rows ideal st d lists al
@@ -76,7 +77,7 @@ module _ (ideal : Ideal) (st : IsSetting ideal) (d : ℕ) (lists : List (List (L
   es = led_rows ideal.modulus m st.modulus rows echelon rref
 
   falling : AllPairs IsLetterwiseGreater ws
-  falling = products.columns_falling ideal st d lists al
+  falling = words_of_degree-falling ideal.weights st.are_weights d
 
   is_row : (r : List ℕ) → Contains echelon r → IsRow ideal.modulus m r
   is_row r n = All-contains (IsRow ideal.modulus m) echelon r rref.each n
@@ -162,7 +163,7 @@ module _ (ideal : Ideal) (st : IsSetting ideal) (d : ℕ) (lists : List (List (L
         subst (IsInIdeal ideal d) (sym is) (element_inside ideal st.modulus st d v member)
 
     says : IsOver (length ideal.weights) w × (degree_of ideal.weights w ≡ d)
-    says = products.column_says ideal st d lists al w (Contains-get_or ws l [] within)
+    says = words_of_degree-says ideal.weights st.are_weights d w (Contains-get_or ws l [] within)
 
     -- a word of it that is another leading word is that of another row, where this one is 0
     others : All (λ t. IsLeadingWord ideal d t.word → ⊥) (below_lead f)
@@ -213,7 +214,7 @@ module _ (ideal : Ideal) (st : IsSetting ideal) (d : ℕ) (lists : List (List (L
       }
 
   -- a later row leads at a later column, which has a smaller word
-  pub rows_fall : AllPairs (StandsAbove ws) echelon
+  rows_fall : AllPairs (StandsAbove ws) echelon
   rows_fall i j e below within =
       let size : length es ≡ length echelon =
       omega (arith, length-zip rref.leads (map vec echelon), length-map echelon vec, rref.count) in
@@ -276,5 +277,5 @@ module _ (ideal : Ideal) (st : IsSetting ideal) (d : ℕ) (lists : List (List (L
               same,
             )),
       );
-      falling = are.falling;
+      falling = are.falling rows_fall;
     }

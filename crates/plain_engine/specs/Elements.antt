@@ -14,10 +14,10 @@ HasNormalLead columns G row = (c : ℕ) → IsLead row c → IsNormal G (slice_i
 abbrev pub StandsAbove : List (List ℕ) → List ℕ → List ℕ → Type 0
 StandsAbove columns row other = HasGreaterLead (element_on columns row) (element_on columns other)
 
--- exactly the elements of the rows with a normal leading word, by falling leading word
+-- exactly the elements of the rows with a normal leading word, which fall where those of all rows do
 pub record AreElements (columns : List (List ℕ)) (G : List (List Term)) (rows : List (List ℕ))
     (elements : List (List Term)) : Type 0 where
   pub exactly : (f : List Term) → Contains elements f
       ↔ ((row : List ℕ) × Contains rows row × HasNormalLead columns G row × (f ≡ element_on columns row))
-  pub falling : AllPairs HasGreaterLead elements
+  pub falling : AllPairs (StandsAbove columns) rows → AllPairs HasGreaterLead elements
   pub few : length elements ≤ length rows

@@ -2,7 +2,7 @@ ghost use Rattle.std.specs.Prelude.{◌≡◌, ◌↔◌, ℕ, All, AllPairs, If
 ghost use Rattle.words.specs.Order.{IsLetterwiseGreater};
 ghost use Rattle.words.specs.Words.{OccursAt};
 ghost use Rattle.ideal_laws.specs.Closure.{IsNormal};
-ghost use Rattle.plain_engine.specs.Elements.{AreElements, HasNormalLead, StandsAbove};
+ghost use Rattle.plain_engine.specs.Elements.{AreElements, HasNormalLead};
 
 use back_reduce::Row;
 use free_poly::Poly;
@@ -18,9 +18,8 @@ pub(crate) fn elements_of(
     echelon: &[Row],
     below: &Basis,
 ) -> Result<Vec<Poly>, NoMemory>
-    requires columns { AllPairs IsLetterwiseGreater columns.now }
+    requires falling { AllPairs IsLetterwiseGreater columns.now }
     requires width { All (λ row. length row ≡ length columns.now) echelon.now }
-    requires falling { AllPairs (StandsAbove columns.now) echelon.now }
     ensures { IfOk result (λ elements. AreElements columns.now below.now.elements echelon.now elements.items) }
 {
     let mut elements = Vec::new(alloc);

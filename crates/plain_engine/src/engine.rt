@@ -64,8 +64,8 @@ impl DegreeEngine for PlainEngine {
         }
         let words = lists_of(alloc, alphabet, &counts, d)?;
         let lists = words.as_slice();
-        let echelon = echelon_of_products(rt, alloc, field, presentation, lists, d)?;
         let columns = lists[d as usize].as_slice();
+        let echelon = echelon_of_products(rt, alloc, field, presentation, lists, d, columns)?;
         let rows = echelon.as_slice();
         let elements = elements_of(alloc, columns, rows, below)?;
         Ok(DegreeReport {

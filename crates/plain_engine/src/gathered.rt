@@ -1,4 +1,4 @@
-ghost use Rattle.std.specs.Prelude.{◌<◌, ◌≤◌, ◌++◌, ◌∷◌, [], All, IfOk, OnOk, length};
+ghost use Rattle.std.specs.Prelude.{◌<◌, ◌≤◌, All, IfOk, OnOk, length};
 ghost use Rattle.back_reduce.specs.Rows.{IsRow};
 ghost use Rattle.back_reduce.specs.Rref.{IsRref};
 ghost use Rattle.plain_engine.specs.Spans.{HaveOneSpan, IsGathered};
@@ -18,27 +18,8 @@ pub(crate) struct Gathered {
     pub full: bool,
 }
 
-/// Adds a row. Where there are many, their echelon form takes their place before.
-pub(crate) fn add<R: Threads + Sync>(
-    rt: &R,
-    alloc: Global,
-    field: &Field,
-    row: Row,
-    gathered: &mut Gathered,
-) -> Result<(), NoMemory>
-    requires residues { All (λ a. a < field.now) row }
-    requires narrow { length row ≤ 4096 }
-    requires gathered { IsGathered field.now (length row) gathered.old }
-    ensures gathered { OnOk result (IsGathered field.now (length row) gathered.new) }
-    ensures span { OnOk result (HaveOneSpan field.now (gathered.old.rows.items ++ row ∷ []) gathered.new.rows.items) }
-{
-    make_room(rt, alloc, field, row.len() as u32, gathered)?;
-    gathered.rows.push(row)?;
-    Ok(())
-}
-
-/// Puts the echelon form of many rows into their place.
-fn make_room<R: Threads + Sync>(
+/// Puts the echelon form of the rows into their place, where there are many.
+pub(crate) fn make_room<R: Threads + Sync>(
     rt: &R,
     alloc: Global,
     field: &Field,

@@ -1,4 +1,4 @@
-ghost use Rattle.std.specs.Prelude.{◌≡◌, ◌≢◌, ◌<◌, ◌∷◌, [], All, IfOk, IsTrue};
+ghost use Rattle.std.specs.Prelude.{◌≡◌, ◌≢◌, ◌<◌, ◌∷◌, [], All, IfOk, IsTrue, length};
 ghost use Rattle.free_poly.specs.Terms.{HasOneDegree, HasResidues, UsesLetters};
 
 use crate::engine::PlainEngine;
@@ -58,9 +58,9 @@ fn letter_relation(
     requires letters { alphabet.now.weights ≡ 1 ∷ 1 ∷ [] }
     requires letter { letter < 2 }
     requires modulus { field.now ≡ 101 }
-    ensures letters { IfOk result (UsesLetters 2) }
-    ensures one_degree { IfOk result (HasOneDegree (1 ∷ 1 ∷ [])) }
-    ensures residues { IfOk result (HasResidues 101) }
+    ensures letters { IfOk result (UsesLetters (length alphabet.now.weights)) }
+    ensures one_degree { IfOk result (HasOneDegree alphabet.now.weights) }
+    ensures residues { IfOk result (HasResidues field.now) }
     ensures other { IfOk result (λ f. f ≢ []) }
     ensures degree { IfOk result (λ f. All (λ t. t.word ≢ []) f) }
 {

@@ -1,8 +1,8 @@
 use Rattle.std.proofs.Common.{◌≡◌, ◌+◌, ◌++◌, ◌∷◌, [], ℕ, List, false, true, subst, sym, ap, ◌∙◌, take}
 use Rattle.std.proofs.lemmas.List.{take_more}
 use Rattle.free_poly.specs.declared.term.Term.{Term}
-use Rattle.plain_engine.specs.Elements.{AreElements, StandsAbove}
-use Rattle.plain_engine.proofs.Chosen.{earlier, elements_more, elements_same}
+use Rattle.plain_engine.specs.Elements.{AreElements}
+use Rattle.plain_engine.proofs.Chosen.{elements_more, elements_same}
 use Rattle.plain_engine.proofs.elements.elements_of.Goals as goal
 use Rattle.plain_engine.proofs.elements.elements_of.Goals.{then-has_normal_lead+in_ok-element_of+in_ok-push, else-has_normal_lead}
 
@@ -20,8 +20,7 @@ loop-row-preserved c =
       | then-has_normal_lead+in_ok-element_of+in_ok-push w ↦
           subst (AreElements columns G (take i echelon ++ row ∷ [])) (sym (ap (λ v. v.items) w.elements-is ∙ w.in_ok-push.ensures.items
           ∙ ap (λ (f : List Term). elements ++ f ∷ []) w.in_ok-element_of.ensures))
-          (elements_more columns G (take i echelon) elements row c.loop-row.invariant (c.has_normal_lead.ensures.0 w.if-has_normal_lead.true)
-          (earlier (StandsAbove columns) echelon i row c.requires.falling c.loop-row-test.true c.row-item.is))
+          (elements_more columns G (take i echelon) elements row c.loop-row.invariant (c.has_normal_lead.ensures.0 w.if-has_normal_lead.true))
       | else-has_normal_lead w ↦
           subst (AreElements columns G (take i echelon ++ row ∷ [])) (sym (ap (λ v. v.items) w.elements-is))
           (elements_same columns G (take i echelon) elements row c.loop-row.invariant

@@ -1,13 +1,12 @@
-use Rattle.std.proofs.Common.{◌≡◌, ◌+◌, ◌<◌, ◌++◌, List, [], ℕ, get_or, length, sym, ap, ◌∙◌, arith, subst, take}
-use Rattle.std.proofs.lemmas.List.{get_or_read, take_all}
+use Rattle.std.proofs.Common.{◌≡◌, ◌+◌, ◌<◌, ◌++◌, List, ℕ, get_or, length, sym, ap, ◌∙◌, arith, subst, take}
+use Rattle.std.proofs.lemmas.List.{take_all}
 use Rattle.std.proofs.lemmas.Result.{IfOk-weaker}
 use Rattle.back_reduce.specs.Rref.{IsRref}
 use Rattle.std.specs.List.{flat_map}
 use Rattle.free_poly.specs.declared.term.Term.{Term}
 use Rattle.free_poly.specs.Terms.{HasOneDegree}
-use Rattle.degree_words.specs.Lists.{list_at}
 use Rattle.degree_words.proofs.Listing.{flat_map-take}
-use Rattle.plain_engine.specs.Products.{relation_rows}
+use Rattle.plain_engine.specs.Products.{relation_rows, word_rows}
 use Rattle.plain_engine.specs.Spans.{HaveOneSpan}
 use Rattle.plain_engine.proofs.Forms.{rref-span}
 use Rattle.plain_engine.proofs.RowSpans.{one_span-append, one_span-trans}
@@ -33,7 +32,7 @@ loop-relation-preserved g c =
     let item = c.relation-item.result in
     let old = c.loop-relation.gathered.rows.items in
     let new = c.add_relation.new.gathered.rows.items in
-    let f = relation_rows c.args.presentation.now.alphabet.weights c.args.lists.now c.args.d in
+    let f = relation_rows c.args.presentation.now.alphabet.weights c.args.lists.now c.args.d c.args.columns.now in
     let front = flat_map f (take i relations) in
     let given = c.as_slice-relation-items.ensures in
     let within : i < length relations = omega (arith, c.loop-relation-test.true, ap length given) in
@@ -43,22 +42,19 @@ loop-relation-preserved g c =
       gathered = c.in_ok-add_relation.ensures.gathered;
       span = subst (λ (xs : List (List ℕ)). HaveOneSpan p xs new) more
           (one_span-trans p (front ++ f item) (old ++ f item) new (one_span-append p front old (f item) c.loop-relation.invariant.span)
-          c.in_ok-add_relation.ensures.span);
+          (subst (λ (words : List (List ℕ)). HaveOneSpan p (old ++ flat_map (word_rows c.args.columns.now item) words) new) c.words_round-words.ensures
+          c.in_ok-add_relation.ensures.span));
     }
 
 pub returns-clause-form : goal.returns-clause-form
 returns-clause-form g c =
     let p = c.args.field.now in
-    let lists = c.args.lists.now in
-    let m = length (list_at lists c.args.d) in
+    let m = length c.args.columns.now in
     let relations = c.args.presentation.now.relations in
     let rows = c.loop-relation.gathered.rows.items in
-    let f = relation_rows c.args.presentation.now.alphabet.weights lists c.args.d in
+    let f = relation_rows c.args.presentation.now.alphabet.weights c.args.lists.now c.args.d c.args.columns.now in
     let all : take c.loop-relation.relation-index relations ≡ relations = take_all c.loop-relation.relation-index relations
     (omega (arith, c.loop-relation-test.false, ap length c.as_slice-relation-items.ensures)) in
     let span = subst (λ (rs : List (List Term)). HaveOneSpan p (flat_map f rs) rows) all c.loop-relation.invariant.span in
-    let width : length c.as_slice.result.now ≡ m = ap length (c.as_slice.ensures ∙ get_or_read lists c.args.d c.index-lists-d.result
-    (omega (arith, c.requires.lists)) c.index-lists-d.is []) in
-    IfOk-weaker c.echelon_of.result (λ echelon. IsRref p (length c.as_slice.result.now) rows echelon.items) (λ echelon. IsRref p m (flat_map f relations) echelon.items)
-    (λ echelon h. rref-span p m (flat_map f relations) rows echelon.items span (subst (λ (n : ℕ). IsRref p n rows echelon.items) width h))
-    c.echelon_of.ensures.form
+    IfOk-weaker c.echelon_of.result (λ echelon. IsRref p m rows echelon.items) (λ echelon. IsRref p m (flat_map f relations) echelon.items)
+    (λ echelon h. rref-span p m (flat_map f relations) rows echelon.items span h) c.echelon_of.ensures.form

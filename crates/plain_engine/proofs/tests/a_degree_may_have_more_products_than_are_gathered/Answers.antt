@@ -1,4 +1,4 @@
-use Rattle.std.proofs.Common.{◌≡◌, ◌≢◌, ◌<◌, ℕ, List, [], ◌∷◌, All, ap, arith, length, lit<, subst, sym, ◌∙◌}
+use Rattle.std.proofs.Common.{◌≡◌, ◌≢◌, ◌<◌, List, [], ◌∷◌, All, ap, arith, length, lit<, subst, sym, ◌∙◌}
 use Rattle.std.proofs.lemmas.List.Elements.{All-cons, All-nil}
 use Rattle.free_poly.specs.declared.term.Term.{Term}
 use Rattle.free_poly.specs.Terms.{HasOneDegree, UsesLetters}
@@ -16,13 +16,11 @@ invariant_of-given g c =
     let y = c.in_ok-y.y in
     let relations = c.from_vec.result in
     let is : relations ≡ x ∷ y ∷ [] = c.from_vec.ensures ∙ c.in_ok-relations.ensures.items in
-    let weights : 1 ∷ 1 ∷ [] ≡ c.in_ok-alphabet.alphabet.weights = sym (c.in_ok-alphabet.ensures.weights ∙ c.in_ok-weights.ensures.items) in
+    let weights = c.in_ok-alphabet.alphabet.weights in
     record {
-      letters = subst (λ (w : List ℕ). All (UsesLetters (length w)) relations) weights
-          (both (UsesLetters 2) x y relations is c.in_ok-x.ensures.letters c.in_ok-y.ensures.letters);
+      letters = both (UsesLetters (length weights)) x y relations is c.in_ok-x.ensures.letters c.in_ok-y.ensures.letters;
       others = both (λ r. r ≢ []) x y relations is c.in_ok-x.ensures.other c.in_ok-y.ensures.other;
-      one_degree = subst (λ (w : List ℕ). All (HasOneDegree w) relations) weights
-          (both (HasOneDegree (1 ∷ 1 ∷ [])) x y relations is c.in_ok-x.ensures.one_degree c.in_ok-y.ensures.one_degree);
+      one_degree = both (HasOneDegree weights) x y relations is c.in_ok-x.ensures.one_degree c.in_ok-y.ensures.one_degree;
       degrees = both (λ r. All (λ t. t.word ≢ []) r) x y relations is c.in_ok-x.ensures.degree c.in_ok-y.ensures.degree;
       few = omega (arith, ap length is);
     }
