@@ -12,12 +12,14 @@ coefficients columns f = map (λ w. total_at f w) columns
 
 -- u * r * v for each u and v that the word is joined from
 abbrev pub word_rows : List (List ℕ) → List Term → List ℕ → List (List ℕ)
-word_rows columns r w = map (λ k. coefficients columns (product (take k w) r (drop k w))) (range_with_len 0 (length w + 1))
+word_rows columns r w =
+    map (λ k. coefficients columns (product (take k w) r (drop k w))) (range_with_len 0 (length w + 1))
 
 -- the words that have degree d together with the leading word
 abbrev pub words_round : List ℕ → List (List (List ℕ)) → ℕ → List Term → List (List ℕ)
 words_round weights lists d [] = []
-words_round weights lists d (t ∷ r) = cond (leb (degree_of weights t.word) d) (list_at lists (d - degree_of weights t.word)) []
+words_round weights lists d (t ∷ r) =
+    cond (leb (degree_of weights t.word) d) (list_at lists (d - degree_of weights t.word)) []
 
 -- u * r * v of degree d
 abbrev pub relation_rows : List ℕ → List (List (List ℕ)) → ℕ → List (List ℕ) → List Term → List (List ℕ)

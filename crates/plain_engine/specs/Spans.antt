@@ -1,5 +1,5 @@
 -- Rows that are gathered until they are reduced, and what they span.
-use Rattle.std.specs.Prelude.{ℕ, ◌≡◌, ◌≤◌, ◌↔◌, true, List, All, length}
+use Rattle.std.specs.Prelude.{ℕ, ◌≡◌, ◌+◌, ◌*◌, ◌≤◌, ◌↔◌, true, List, All, length}
 use Rattle.field_table.specs.Residues.{IsFieldModulus}
 use Rattle.linear_algebra.specs.Laws.{ResidueVector}
 use Rattle.linear_algebra.specs.Mod.{residue_field}
@@ -16,8 +16,8 @@ abbrev pub SpansAll : ℕ → ℕ → List (List ℕ) → Type 0
 SpansAll p m rows = (modulus : IsFieldModulus p) (v : ResidueVector p modulus ℕ)
     → ((c : ℕ) → m ≤ c → v c ≡ (residue_field p modulus).zero) → IsInRowSpan p modulus rows v
 
--- at most 8,192 rows of m residues, which span all where they are said to
+-- rows of m residues, at most one more than twice as many, which span all where they are said to
 pub record IsGathered (p m : ℕ) (gathered : Gathered) : Type 0 where
   pub each : All (IsRow p m) gathered.rows.items
-  pub few : length gathered.rows.items ≤ 8192
+  pub few : length gathered.rows.items ≤ 2 * m + 1
   pub full : gathered.full ≡ true → SpansAll p m gathered.rows.items

@@ -1,4 +1,4 @@
-ghost use Rattle.std.specs.Prelude.{◌<◌, ◌≤◌, All, IfOk, OnOk, length};
+ghost use Rattle.std.specs.Prelude.{◌*◌, ◌≤◌, All, IfOk, OnOk, length};
 ghost use Rattle.back_reduce.specs.Rows.{IsRow};
 ghost use Rattle.back_reduce.specs.Rref.{IsRref};
 ghost use Rattle.plain_engine.specs.Spans.{HaveOneSpan, IsGathered};
@@ -10,7 +10,7 @@ use std::mem;
 use std::thread::Threads;
 use words::NoMemory;
 
-/// Rows over the words of a degree, as many as are reduced at once, and whether one leads at each word.
+/// Rows over the words of a degree, of which those that were reduced come first, and whether one leads at each word.
 #[derive(Debug, Drop)]
 pub(crate) struct Gathered {
     pub degree: u32,
@@ -18,7 +18,7 @@ pub(crate) struct Gathered {
     pub full: bool,
 }
 
-/// Puts the echelon form of the rows into their place, where there are many.
+/// Puts the echelon form of the rows into their place, where there are more than twice as many as columns.
 pub(crate) fn make_room<R: Threads + Sync>(
     rt: &R,
     alloc: Global,
@@ -29,10 +29,10 @@ pub(crate) fn make_room<R: Threads + Sync>(
     requires narrow { m ≤ 4096 }
     requires gathered { IsGathered field.now m gathered.old }
     ensures gathered { OnOk result (IsGathered field.now m gathered.new) }
-    ensures room { OnOk result (length gathered.new.rows.items < 8192) }
+    ensures room { OnOk result (length gathered.new.rows.items ≤ 2 * m) }
     ensures span { OnOk result (HaveOneSpan field.now gathered.old.rows.items gathered.new.rows.items) }
 {
-    if gathered.rows.len() < 8_192 {
+    if gathered.rows.len() <= 2 * m as usize {
         return Ok(());
     }
     let rows = mem::replace(&mut gathered.rows, Vec::new(alloc));
@@ -53,7 +53,7 @@ pub(crate) fn echelon_of<R: Threads + Sync>(
 ) -> Result<Vec<Row>, NoMemory>
     requires narrow { m ≤ 4096 }
     requires each { All (IsRow field.now m) rows.items }
-    requires few { length rows.items ≤ 8192 }
+    requires few { length rows.items ≤ 8193 }
     ensures form { IfOk result (λ echelon. IsRref field.now m rows.items echelon.items) }
     ensures few { IfOk result (λ echelon. length echelon.items ≤ m) }
 {

@@ -10,15 +10,23 @@ use std::process::Abort;
 use std::test::Fail;
 use words::{Alphabet, Items, Word};
 
+/// The letters x and y, each of weight 1.
+fn two_letters(alloc: Global) -> Result<Alphabet, Fail>
+    ensures { IfOk result (λ alphabet. alphabet.weights ≡ 1 ∷ 1 ∷ []) }
+{
+    let names = vec![in alloc; vec![in alloc; b'x']?, vec![in alloc; b'y']?]?;
+    let weights = vec![in alloc; 1, 1]?;
+    Ok(Alphabet::weighted(alloc, names, weights)?)
+}
+
 /// The free algebra on two letters has no element in any degree, and 8 words in degree 3.
 #[test]
 fn the_free_algebra_has_no_element(rt: HostRuntime) -> Result<(), Fail> {
     listed_moduli_law();
     let alloc = rt.alloc();
     let field = Field::new(alloc, 101)?;
-    let names = vec![in alloc; vec![in alloc; b'x']?, vec![in alloc; b'y']?]?;
     let given = Presentation {
-        alphabet: Alphabet::new(alloc, names)?,
+        alphabet: two_letters(alloc)?,
         relations: Items::from_vec(Vec::new(alloc)),
     };
     let basis = run(
@@ -91,9 +99,7 @@ fn a_degree_may_have_more_products_than_are_gathered(rt: HostRuntime) -> Result<
     listed_moduli_law();
     let alloc = rt.alloc();
     let field = Field::new(alloc, 101)?;
-    let names = vec![in alloc; vec![in alloc; b'x']?, vec![in alloc; b'y']?]?;
-    let weights = vec![in alloc; 1, 1]?;
-    let alphabet = Alphabet::weighted(alloc, names, weights)?;
+    let alphabet = two_letters(alloc)?;
     let x = letter_relation(&rt, alloc, &alphabet, &field, 0)?;
     let y = letter_relation(&rt, alloc, &alphabet, &field, 1)?;
     let relations = vec![in alloc; x, y]?;
