@@ -11,7 +11,7 @@ ghost use Rattle.symbolic_prep.specs.Walk.{HasMore};
 
 use crate::closing::keeps;
 use crate::lists::{Span, place_behind, push_number, push_product};
-use crate::packing::pack;
+use crate::packing::{back, front};
 use crate::pending::{ColumnFault, tail_of};
 use crate::table::WordTable;
 use crate::walk::{behind, counted, lead_len};
@@ -130,10 +130,12 @@ fn push_reducer(
             let terms = element.terms();
             let at = place.at as usize;
             let before = &word[..at];
-            let rest = behind(word, at, lead_len(element));
+            let count = lead_len(element);
+            let rest = behind(word, at, count);
             let packing = table.packing();
-            let before_key = pack(packing, before);
-            let rest_key = pack(packing, rest);
+            let key = table.key(number as usize);
+            let before_key = front(packing, word, at, key);
+            let rest_key = back(packing, word, at + count, key);
             let entries = counted(entries, terms.len(), limit);
             let held = entries <= u64::from(limit);
             let start = place_behind(numbers.len())?;

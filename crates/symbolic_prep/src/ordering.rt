@@ -1,5 +1,5 @@
-ghost use Rattle.std.specs.Prelude.{◌≡◌, ◌≢◌, ◌<◌, ◌++◌, List, ℕ, All, AllPairs, IfOk, None, OnOk, length, map, slice_index};
-ghost use Rattle.std.specs.Prelude.{slice_index_or};
+ghost use Rattle.std.specs.Prelude.{◌≡◌, ◌≢◌, ◌<◌, ◌++◌, List, ℕ, All, AllPairs, IfOk, None, OnOk, length, map};
+ghost use Rattle.std.specs.Prelude.{slice_index, slice_index_or};
 ghost use Rattle.std.specs.List.{AllZip, range_with_len};
 ghost use Rattle.symbolic_prep.specs.Orders.{IsMoved, IsRising, IsSpanIn, columns_at};
 ghost use Rattle.symbolic_prep.specs.Numbers.{IsLonger};

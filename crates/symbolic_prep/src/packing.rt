@@ -1,4 +1,4 @@
-ghost use Rattle.std.specs.Prelude.{◌≡◌, ◌+◌, ◌*◌, ◌^◌, ◌/◌, ◌<◌, ◌≤◌, ◌++◌, IfSome, OnOk, length};
+ghost use Rattle.std.specs.Prelude.{◌≡◌, ◌+◌, ◌*◌, ◌^◌, ◌/◌, ◌%◌, ◌<◌, ◌≤◌, ◌++◌, IfSome, OnOk, drop, length, take};
 ghost use Rattle.symbolic_prep.specs.Packing.{HasDigits, IsPacking, IsPackingFor, packed, unpacked};
 
 use words::NoMemory;
@@ -37,6 +37,44 @@ pub(crate) fn pack(packing: Packing, letters: &[u8]) -> u64
         key += (u64::from(*letter) + 1) << (packing.bits * room);
     }
     key
+}
+
+/// Of a packed word the letters before a place, packed.
+pub(crate) fn front(packing: Packing, word: &[u8], at: usize, key: u64) -> u64
+    requires packing { IsPacking packing.bits packing.room }
+    requires over { HasDigits packing.bits word.now }
+    requires fits { length word.now ≤ packing.room }
+    requires within { at ≤ length word.now }
+    requires key { key ≡ packed (2 ^ packing.bits) packing.room word.now }
+    ensures { result ≡ packed (2 ^ packing.bits) packing.room (take at word.now) }
+{
+    key - last_bits(key, packing.bits * (packing.room - at as u32))
+}
+
+/// Of a packed word the letters from a place on, packed.
+pub(crate) fn back(packing: Packing, word: &[u8], at: usize, key: u64) -> u64
+    requires packing { IsPacking packing.bits packing.room }
+    requires over { HasDigits packing.bits word.now }
+    requires fits { length word.now ≤ packing.room }
+    requires within { at ≤ length word.now }
+    requires key { key ≡ packed (2 ^ packing.bits) packing.room word.now }
+    ensures { result ≡ packed (2 ^ packing.bits) packing.room (drop at word.now) }
+{
+    if at == word.len() {
+        return 0;
+    }
+    let at = at as u32;
+    last_bits(key, packing.bits * (packing.room - at)) << (packing.bits * at)
+}
+
+fn last_bits(key: u64, count: u32) -> u64
+    ensures { result ≡ key % 2 ^ count }
+{
+    if count >= 64 {
+        key
+    } else {
+        key - (key >> count << count)
+    }
 }
 
 /// The number of a word in three parts, of which the first and the last are packed.

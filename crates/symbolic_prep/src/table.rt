@@ -74,6 +74,14 @@ impl WordTable {
         Ok(())
     }
 
+    /// The packed word of this number.
+    pub(crate) fn key(&self, number: usize) -> u64
+        requires { number < length self.now.words }
+        ensures { result ≡ packed (2 ^ self.now.bits) self.now.room (slice_index_or self.now.words number []) }
+    {
+        self.keys.as_slice()[number]
+    }
+
     /// The number of a word in three parts, of which the first and the last are packed. A new word comes last.
     pub(crate) fn add(
         &mut self,

@@ -1,8 +1,8 @@
-use Rattle.std.proofs.Common.{◌≡◌, ◌+◌, ◌≤◌, ◌++◌, ◌∷◌, [], min, ℕ, List, All, Err, None, Some, arith, ap, drop, inl, inr, length, length-drop, map}
+use Rattle.std.proofs.Common.{◌≡◌, ◌+◌, ◌^◌, ◌≤◌, ◌++◌, ◌∷◌, [], min, ℕ, List, All, Err, None, Some, arith, ap, drop, inl, inr, length, map}
 use Rattle.std.proofs.Common.{rules, subst, sym, take, ◌∙◌}
 use Rattle.std.specs.List.{Contains}
 use Rattle.std.proofs.lemmas.Bool.{le-leb}
-use Rattle.std.proofs.lemmas.List.{length-take-le}
+use Rattle.std.proofs.lemmas.Option.{get_or_from_slice_get}
 use Rattle.std.proofs.lemmas.Result.{err_from_is_err_and}
 use Rattle.words.proofs.Weights.{length-le-degree_of}
 use Rattle.free_poly.specs.declared.term.Term.{Term}
@@ -11,7 +11,7 @@ use Rattle.free_poly.specs.Poly.{lead_or_none}
 use Rattle.ideal_laws.specs.Basis.{below_lead}
 use Rattle.ideal_laws.specs.Closure.{IsInClosure, IsReducer}
 use Rattle.symbolic_prep.specs.declared.lists.Span.{Span}
-use Rattle.symbolic_prep.specs.Packing.{HasDigits}
+use Rattle.symbolic_prep.specs.Packing.{HasDigits, packed}
 use Rattle.symbolic_prep.specs.Numbers.{AreListed, IsGrown}
 use Rattle.symbolic_prep.proofs.Numbers.{grown_none}
 use Rattle.symbolic_prep.proofs.Reduced.{below_by, longer_by, longer_none, numbered_own, product_length, stands_at, tail_in_closure}
@@ -28,33 +28,53 @@ pub behind-rest-requires : goal.behind-rest-requires
 behind-rest-requires c =
     let e = element_at c.args.basis.now.elements c.args.index.now c.requires.index c.args.word.now c.in-Some.place.at
     c.in-Some.place.element c.in-Some.ensures.place c.element-element.result.now c.element-element.ensures in
-    omega (arith, e.fits, c.lead_len.ensures)
+    omega (arith, e.fits, c.lead_len-count.ensures)
 
-pub pack-before_key-requires-clause-fits : goal.pack-before_key-requires-clause-fits
-pack-before_key-requires-clause-fits c =
+pub front-before_key-requires-clause-fits : goal.front-before_key-requires-clause-fits
+front-before_key-requires-clause-fits c =
     let w : List ℕ = c.args.word.now in
-    let e = element_at c.args.basis.now.elements c.args.index.now c.requires.index w c.in-Some.place.at c.in-Some.place.element
-    c.in-Some.ensures.place c.element-element.result.now c.element-element.ensures in
     omega (
       arith,
-      length-take-le c.in-Some.place.at w (omega (arith, e.fits)),
-      e.fits,
       length-le-degree_of c.args.basis.now.weights c.done-done.ensures.kept.weights w,
       c.requires.room,
       c.packing-packing.ensures.room,
     )
 
-pub pack-rest_key-requires-clause-fits : goal.pack-rest_key-requires-clause-fits
-pack-rest_key-requires-clause-fits c =
+pub front-before_key-requires-clause-key : goal.front-before_key-requires-clause-key
+front-before_key-requires-clause-key c =
+    let w : List ℕ = c.args.word.now in
+    let t = c.args.table.now in
+    c.key-key.ensures ∙ ap (packed (2 ^ t.bits) t.room) (get_or_from_slice_get t.words c.args.number w [] c.requires.number)
+    ∙ (λ i. packed (2 ^ sym c.packing-packing.ensures.bits i) (sym c.packing-packing.ensures.room i) w)
+
+pub back-rest_key-requires-clause-fits : goal.back-rest_key-requires-clause-fits
+back-rest_key-requires-clause-fits c =
     let w : List ℕ = c.args.word.now in
     omega (
       arith,
-      ap length c.behind-rest.ensures,
-      length-drop (c.in-Some.place.at + c.lead_len.result) w,
       length-le-degree_of c.args.basis.now.weights c.done-done.ensures.kept.weights w,
       c.requires.room,
       c.packing-packing.ensures.room,
     )
+
+pub back-rest_key-requires-clause-key : goal.back-rest_key-requires-clause-key
+back-rest_key-requires-clause-key c =
+    let w : List ℕ = c.args.word.now in
+    let t = c.args.table.now in
+    c.key-key.ensures ∙ ap (packed (2 ^ t.bits) t.room) (get_or_from_slice_get t.words c.args.number w [] c.requires.number)
+    ∙ (λ i. packed (2 ^ sym c.packing-packing.ensures.bits i) (sym c.packing-packing.ensures.room i) w)
+
+pub overflow_add-at : goal.overflow_add-at
+overflow_add-at c =
+    let e = element_at c.args.basis.now.elements c.args.index.now c.requires.index c.args.word.now c.in-Some.place.at
+    c.in-Some.place.element c.in-Some.ensures.place c.element-element.result.now c.element-element.ensures in
+    record { fits = omega (arith, e.fits, c.lead_len-count.ensures, c.requires.small) }
+
+pub back-rest_key-requires-clause-within : goal.back-rest_key-requires-clause-within
+back-rest_key-requires-clause-within c =
+    let e = element_at c.args.basis.now.elements c.args.index.now c.requires.index c.args.word.now c.in-Some.place.at
+    c.in-Some.place.element c.in-Some.ensures.place c.element-element.result.now c.element-element.ensures in
+    omega (arith, e.fits, c.lead_len-count.ensures)
 
 pub push_product-requires-clause-over : goal.push_product-requires-clause-over
 push_product-requires-clause-over c =
@@ -73,7 +93,8 @@ push_product-requires-clause-fits c =
     let at = c.in-Some.place.at in
     let f : List Term = c.element-element.result.now in
     let e = element_at b.elements c.args.index.now c.requires.index w at c.in-Some.place.element c.in-Some.ensures.place f c.element-element.ensures in
-    let rest : c.behind-rest.result.now ≡ drop (at + length (lead_or_none f)) w = c.behind-rest.ensures ∙ ap (λ (n : ℕ). drop (at + n) w) c.lead_len.ensures in
+    let rest : c.behind-rest.result.now ≡ drop (at + length (lead_or_none f)) w =
+    c.behind-rest.ensures ∙ ap (λ (n : ℕ). drop (at + n) w) c.lead_len-count.ensures in
     let q : IsReducer b.elements w (product (take at w) f c.behind-rest.result.now) =
     subst (λ (v : List ℕ). IsReducer b.elements w (product (take at w) f v)) (sym rest) e.reducer in
     subst (All (λ (t : Term). length (take at w) + length t.word + length c.behind-rest.result.now ≤ c.args.table.now.room))
@@ -91,7 +112,7 @@ returns-in_ok-end-in-Some-clause-reduced c =
     let old = c.args.table.now.words in
     let new = c.push_product.new.table.words in
     let e = element_at b.elements c.args.index.now c.requires.index w at c.in-Some.place.element c.in-Some.ensures.place f c.element-element.ensures in
-    let rest : v ≡ drop (at + length (lead_or_none f)) w = c.behind-rest.ensures ∙ ap (λ (n : ℕ). drop (at + n) w) c.lead_len.ensures in
+    let rest : v ≡ drop (at + length (lead_or_none f)) w = c.behind-rest.ensures ∙ ap (λ (n : ℕ). drop (at + n) w) c.lead_len-count.ensures in
     let q : IsReducer b.elements w (product u f v) = subst (λ (x : List ℕ). IsReducer b.elements w (product u f x)) (sym rest) e.reducer in
     let tail : c.tail_of.result.now ≡ below_lead f = c.tail_of.ensures ∙ ap below_lead c.terms-terms.ensures.value in
     let grown : IsGrown old new (map (λ (s : Term). s.word) (product u (below_lead f) v)) =
@@ -134,7 +155,7 @@ returns-in_err-push_product-in-Some-clause-many c = λ is_many given_words sound
     let old = c.args.table.now.words in
     let new = c.push_product.new.table.words in
     let e = element_at b.elements c.args.index.now c.requires.index w at c.in-Some.place.element c.in-Some.ensures.place f c.element-element.ensures in
-    let rest : v ≡ drop (at + length (lead_or_none f)) w = c.behind-rest.ensures ∙ ap (λ (n : ℕ). drop (at + n) w) c.lead_len.ensures in
+    let rest : v ≡ drop (at + length (lead_or_none f)) w = c.behind-rest.ensures ∙ ap (λ (n : ℕ). drop (at + n) w) c.lead_len-count.ensures in
     let q : IsReducer b.elements w (product u f v) = subst (λ (x : List ℕ). IsReducer b.elements w (product u f x)) (sym rest) e.reducer in
     let tail : c.tail_of.result.now ≡ below_lead f = c.tail_of.ensures ∙ ap below_lead c.terms-terms.ensures.value in
     let p = err_from_is_err_and c.from_residual-in_err-push_product-in-Some.result c.from_residual-in_err-push_product-in-Some.ensures.1 in
