@@ -6,8 +6,8 @@ use crate::tree::{Node, first_element};
 use std::alloc::Global;
 use words::NoMemory;
 
-/// The most steps of a table, which then has 32 MiB. A larger tree is walked along its links.
-const MOST_STEPS: usize = 4_194_304;
+/// The most steps of a table, which then has 8 MiB. A larger tree is walked along its links.
+const MOST_STEPS: usize = 1_048_576;
 
 /// Where a letter leads from a node: nowhere, to the first node for the next letter, or to the end of a word.
 #[derive(Debug, Clone, Copy)]
