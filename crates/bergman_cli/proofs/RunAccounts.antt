@@ -1,13 +1,16 @@
 -- The accounts of the machine of claims, on one thread or in a race, can be told.
 use Rattle.std.proofs.Common.{◌≡◌, ◌≤◌, ℕ, List, All, length, sym, subst}
 use Rattle.words.specs.Words.{IsOver}
+use Rattle.words.proofs.Degrees.{words_of_degree-says}
+use Rattle.words.proofs.Members.{All-from_members}
 use Rattle.ideal_laws.specs.Ideal.{ideal_of}
 use Rattle.ideal_laws.specs.declared.limits.LimitKind.{LimitKind}
 use Rattle.ideal_laws.specs.declared.presentation.Presentation.{Presentation}
 use Rattle.ideal_laws.specs.Overlaps.{ListsLower}
+use Rattle.ideal_laws.specs.Quantities.{contested_words}
+use Rattle.row_laws.proofs.ClosedColumns.{closure_word, contested_says}
 use Rattle.degree_loop.specs.Accounts.{IsCoreAccount, IsRunAccount}
 use Rattle.degree_loop.specs.ClaimHistory.{RunAccountsTell}
-use Rattle.degree_loop.proofs.DegreeClosure.{column_words}
 use Rattle.command_words.specs.declared.job.EngineKind.{EngineKind}
 use Rattle.command_words.specs.declared.job.EngineKind.TheVariants.{Core, Race}
 use Rattle.command_words.specs.declared.job.Job.{Job}
@@ -30,9 +33,12 @@ module _ (tell : RunAccountsTell) (list : ListsLower) where
       let lower = list (ideal_of p given) setting d below is_below in
       let tells = tell workers (ideal_of p given) setting some few d below.elements lower account may elements reduced in
       let closed = tells.0.are_closed in
-      let words = column_words (ideal_of p given) setting d below.elements lower tells.0.rows closed.are_rows tells.0.columns
-      closed.are_columns tells.0.reducers closed.are_reducers small in
-      record { words = subst (All (IsOver (length weights))) (sym tells.0.contested) words.letters; calls = tells.1.columns }
+      let over : All (IsOver (length weights)) (contested_words tells.0.columns tells.0.reducers) =
+      All-from_members (IsOver (length weights)) (contested_words tells.0.columns tells.0.reducers) (λ w m.
+      let column = (contested_says below.elements tells.0.columns tells.0.reducers closed.are_reducers w m).0 in
+      (words_of_degree-says weights setting.are_weights d w (closure_word (ideal_of p given) setting d below.elements lower
+      tells.0.rows closed.are_rows w ((closed.are_columns.exactly w).0 column))).0) in
+      record { words = subst (All (IsOver (length weights))) (sym tells.0.contested) over; calls = tells.1.columns }
 
   -- the race is the engine of a job that names it
   pub race_engine : (job : Job) (limits : List (LimitKind × ℕ)) (workers : ℕ) → job.engine ≡ Race → limits ≡ limits_of job.engine
