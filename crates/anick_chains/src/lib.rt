@@ -11,8 +11,6 @@ mod next;
 mod order;
 mod tallies;
 mod tally;
-#[cfg(test)]
-mod tests;
 mod text;
 
 ghost use Rattle.anick_chains.specs.BasisTips.{HasMinimalChains};

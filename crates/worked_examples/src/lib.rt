@@ -17,6 +17,8 @@ mod monomials;
 #[cfg(test)]
 mod presented;
 #[cfg(test)]
+mod printed;
+#[cfg(test)]
 mod printing;
 #[cfg(test)]
 mod problems;

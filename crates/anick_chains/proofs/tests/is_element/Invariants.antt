@@ -1,6 +1,0 @@
-use Rattle.std.proofs.Common.{length, take}
-use Rattle.free_poly.specs.Terms.{HasDegree, UsesLetters}
-use Rattle.anick_chains.proofs.tests.is_element.Given as goal
-
-abbrev pub invariant-loop-term : goal.invariant-loop-term
-invariant-loop-term l = UsesLetters (length l.alphabet.weights) (take l.term-index l.terms) × HasDegree l.alphabet.weights l.d (take l.term-index l.terms)
