@@ -7,7 +7,5 @@ mod elements;
 mod engine;
 mod gathered;
 mod products;
-#[cfg(test)]
-mod tests;
 
 pub use engine::PlainEngine;

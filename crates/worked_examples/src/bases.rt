@@ -122,7 +122,7 @@ fn assert_algebra<R: Abort + Threads + Sync>(
 #[test]
 fn small_algebras_have_their_bases(rt: HostRuntime) -> Result<(), Fail> {
     let alloc = rt.alloc();
-    let cases: [(u32, &str, &str, &[u64]); 15] = [
+    let cases: [(u32, &str, &str, &[u64]); 16] = [
         (
             101,
             "vars x,y; x*y-y*x;",
@@ -151,6 +151,13 @@ fn small_algebras_have_their_bases(rt: HostRuntime) -> Result<(), Fail> {
             &[1, 2, 2, 2],
         ),
         (101, "vars x,y; ;", "vars x,y; ;", &[1, 2, 4, 8]),
+        // In degree 10 there are 10,240 products over 1,024 words.
+        (
+            101,
+            "vars x,y; x, y;",
+            "vars x,y; x, y;",
+            &[1, 0, 0, 0, 0, 0, 0, 0, 0, 0, 0],
+        ),
         // The nilCoxeter algebra of the permutations of three places.
         (
             101,

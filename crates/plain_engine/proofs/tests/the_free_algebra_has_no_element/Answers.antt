@@ -1,5 +1,0 @@
-use Rattle.std.proofs.Common.{lit<}
-use Rattle.plain_engine.proofs.tests.the_free_algebra_has_no_element.Goals as goal
-
-pub new-requires-clause-field : goal.new-requires-clause-field
-new-requires-clause-field g c = c.listed_moduli_law.ensures 6 0 (lit< tt)
