@@ -6,7 +6,7 @@ use Rattle.std.proofs.lemmas.List.{get_or-set_other}
 use Rattle.std.proofs.lemmas.List.FromFn.{get_or-range_with_len, length-range_with_len}
 use Rattle.std.proofs.lemmas.Nat.{div-add-mod', div-mul-add, mod-mul-add, mul-le}
 use Rattle.row_store.specs.Deals.{turned}
-use Rattle.row_store.proofs.Dense.{zip_at}
+use Rattle.row_store.proofs.Zipped.{zip_at}
 
 wide : (height width at : ℕ) → at < height * width → 0 < width
 wide height zero at inside = absurd (omega (arith, inside))

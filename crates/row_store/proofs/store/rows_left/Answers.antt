@@ -3,7 +3,7 @@ use Rattle.std.specs.List.{AllZip}
 use Rattle.std.proofs.lemmas.List.{length-drop, take-append-drop, take_all}
 use Rattle.free_poly.specs.declared.term.Term.{Term}
 use Rattle.row_laws.specs.Contested.{IsContestedRow}
-use Rattle.row_store.proofs.Parts.{zip_append}
+use Rattle.rayon.proofs.ListFacts.{AllZip-append}
 use Rattle.row_store.proofs.store.rows_left.Goals as goal
 
 pub returns : goal.returns
@@ -21,5 +21,5 @@ returns g c =
     let other : AllZip R (drop (length left) rows) rest = subst (λ (fs : List (List Term)). AllZip R fs rest) behind c.in_ok-side_by_side.ensures in
     let all : AllZip R rows (left ++ rest) =
     subst (λ (fs : List (List Term)). AllZip R fs (left ++ rest)) (take-append-drop (length left) rows)
-    (zip_append R (take (length left) rows) left (drop (length left) rows) rest c.in_ok-left.ensures.first other) in
+    (AllZip-append R (take (length left) rows) (drop (length left) rows) left rest c.in_ok-left.ensures.first other) in
     subst (AllZip R rows) (sym c.in_ok-push_part.ensures) all
