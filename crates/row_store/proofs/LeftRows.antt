@@ -13,7 +13,7 @@ use Rattle.row_store.specs.Entries.{contested_residues, dense_of, reducers_over,
 use Rattle.row_store.specs.Sums.{cells_of, contested_count, IsLeft}
 use Rattle.row_store.proofs.ColumnLists.{column_lists}
 use Rattle.row_store.proofs.ContestedColumns.{contested-size}
-use Rattle.row_store.proofs.Dense.{zip_length}
+use Rattle.std.proofs.lemmas.Slice.Zip.{AllZip-long}
 use Rattle.row_store.proofs.Places.{count-size}
 use Rattle.row_store.proofs.RowsLeft.{row_left}
 use Rattle.row_store.proofs.Tails.{reducers_are}
@@ -29,8 +29,8 @@ module _ (p : ℕ) (closed : ClosedColumns) (reducing : IsReducing p closed) whe
       let dense = dense_of columns [] in
       let long : length dense ≡ length columns = length-map columns (λ w. total_at [] w) in
       let entries = reducers_are p closed reducing in
-      let size : length rs ≡ length columns = zip_length (IsReducerOf columns) rs closed.reducers entries
-      ∙ sym (zip_length (MayReduce p columns) columns closed.reducers reducing.reducers) in
+      let size : length rs ≡ length columns = sym (AllZip-long (IsReducerOf columns) rs closed.reducers entries)
+      ∙ AllZip-long (MayReduce p columns) columns closed.reducers reducing.reducers in
       ap length (is) ∙ sym (contested-size columns columns rs closed.reducers dense entries long size) ∙ count-size rs dense (long ∙ sym size)
 
   -- the reducers as lists of columns

@@ -10,10 +10,11 @@ use Rattle.row_store.specs.Blocks.{lane}
 use Rattle.row_store.specs.Entries.{dense_of, reducers_over, AreColumnLists}
 use Rattle.row_store.specs.Sums.{cells_of, IsLeft, IsRowAmong}
 use Rattle.row_store.proofs.ContestedColumns.{contested-few}
-use Rattle.row_store.proofs.Dense.{dense-residues, written, zip_each}
+use Rattle.row_store.proofs.Dense.{dense-residues, written}
+use Rattle.row_store.proofs.Zipped.{zip_each}
 use Rattle.row_store.proofs.LaneWalk.{one_of}
 use Rattle.row_store.proofs.LeftRows.{left_row, lists, width}
-use Rattle.row_store.proofs.Parts.{weaken}
+use Rattle.rayon.proofs.ListFacts.{IfOk-then}
 use Rattle.row_store.proofs.eight.reduced_block.Goals as goal
 
 -- what is known of the columns
@@ -117,7 +118,6 @@ returns c =
     subst (R (get_or rows k d)) (sym (get_or-map (cells_of m) next k l e (omega (arith, inside, count))))
     (left_row p closed row.reducing c.modulus-p.ensures.field (get_or rows k d) (get_or next k l) words (c.requires.rows k d low).on_columns
     c.contested.ensures left))) in
-    weaken (λ found. found.items
-    ≡ map (cells_of m) (take c.in_ok-left.left.len (next ++ drop (length next) c.in_ok-left.left.items)))
-    (λ found. AreContestedRows p closed.columns closed.reducers rows found.items) c.rows_of.result
-    (λ found same. subst (AllZip R rows) (sym (same ∙ ap (map (cells_of m)) now)) each) c.rows_of.ensures
+    IfOk-then c.rows_of.result (λ found. found.items ≡ map (cells_of m) (take c.in_ok-left.left.len (next ++ drop (length next) c.in_ok-left.left.items)))
+    (λ found. AreContestedRows p closed.columns closed.reducers rows found.items) c.rows_of.ensures
+    (λ found same. subst (AllZip R rows) (sym (same ∙ ap (map (cells_of m)) now)) each)

@@ -1,10 +1,9 @@
-use Rattle.std.proofs.Common.{◌≡◌, ◌+◌, ◌++◌, ◌∷◌, [], ℕ, List, take, sym, ap, ◌∙◌, arith, subst}
-use Rattle.std.specs.List.{AllZip}
-use Rattle.std.proofs.lemmas.List.{take_all, take_more}
+use Rattle.std.proofs.Common.{[], List, sym, arith, subst}
+use Rattle.std.proofs.lemmas.List.{take_all}
 use Rattle.free_poly.specs.declared.term.Term.{Term}
 use Rattle.row_laws.specs.Contested.{AreContestedRows, IsContestedRow}
 use Rattle.row_store.specs.Sums.{IsRowAmong}
-use Rattle.row_store.proofs.Dense.{zip_push}
+use Rattle.row_store.proofs.Zipped.{zip_next}
 use Rattle.row_store.proofs.store.one_by_one.Goals as goal
 
 pub loop-row-init : goal.loop-row-init
@@ -13,18 +12,9 @@ loop-row-init c =
 
 pub loop-row-preserved : goal.loop-row-preserved
 loop-row-preserved c =
-    let closed = c.args.closed.now in
-    let R : List Term → List ℕ → Type 0 = IsContestedRow c.args.field.now closed.columns closed.reducers in
-    let rows = c.args.rows.now in
-    let i = c.loop-row.row-index in
-    let row : List Term = c.row-item.result in
-    let left : List (List ℕ) = c.loop-row.left.items in
-    let own : List ℕ = c.in_ok-reduced_row.field-0 in
-    let more : take (i + 1) rows ≡ take i rows ++ row ∷ [] =
-    take_more rows i row (omega arith) ∙ ap (λ (r : List Term). take i rows ++ r ∷ []) (sym c.row-item.is) in
-    subst (λ (rs : List (List Term)). AllZip R rs c.push.new.self.items) (sym more)
-    (subst (AllZip R (take i rows ++ row ∷ [])) (sym c.in_ok-push.ensures.items)
-    (zip_push R (take i rows) left row own c.loop-row.invariant c.in_ok-reduced_row.ensures))
+    zip_next (IsContestedRow c.args.field.now c.args.closed.now.columns c.args.closed.now.reducers) c.args.rows.now c.loop-row.left.items
+    c.push.new.self.items c.loop-row.row-index c.row-item.result c.in_ok-reduced_row.field-0 c.loop-row.invariant (omega arith) c.row-item.is
+    c.in_ok-reduced_row.ensures c.in_ok-push.ensures.items
 
 pub reduced_row-requires : goal.reduced_row-requires
 reduced_row-requires c =

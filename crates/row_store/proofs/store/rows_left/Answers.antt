@@ -1,9 +1,9 @@
 use Rattle.std.proofs.Common.{◌≡◌, ◌-◌, ◌++◌, ℕ, List, drop, take, length, sym, ap, ◌∙◌, arith, subst}
-use Rattle.std.specs.List.{AllZip, flat_map}
+use Rattle.std.specs.List.{AllZip}
 use Rattle.std.proofs.lemmas.List.{length-drop, take-append-drop, take_all}
 use Rattle.free_poly.specs.declared.term.Term.{Term}
 use Rattle.row_laws.specs.Contested.{IsContestedRow}
-use Rattle.row_store.proofs.Parts.{zip_append}
+use Rattle.rayon.proofs.ListFacts.{AllZip-append}
 use Rattle.row_store.proofs.store.rows_left.Goals as goal
 
 pub returns : goal.returns
@@ -12,14 +12,14 @@ returns g c =
     let R : List Term → List ℕ → Type 0 = IsContestedRow c.args.field.now closed.columns closed.reducers in
     let rows = c.args.rows.now in
     let left : List (List ℕ) = c.in_ok-left.left.items in
-    let rest : List (List ℕ) = flat_map (λ part. part.items) c.in_ok-parts.parts.items in
+    let rest : List (List ℕ) = c.in_ok-side_by_side.field-0.items in
     let len = c.len.result in
     let count : len ≡ length left = omega (arith, c.len.ensures, c.in_ok-left.left.ok) in
     let short : length (drop len rows) ≡ length rows - len = length-drop len rows in
     let behind : take (length rows - len) (drop len rows) ≡ drop (length left) rows =
     take_all (length rows - len) (drop len rows) (omega (arith, short)) ∙ ap (λ (n : ℕ). drop n rows) count in
-    let other : AllZip R (drop (length left) rows) rest = subst (λ (fs : List (List Term)). AllZip R fs rest) behind c.in_ok-parts.ensures in
+    let other : AllZip R (drop (length left) rows) rest = subst (λ (fs : List (List Term)). AllZip R fs rest) behind c.in_ok-side_by_side.ensures in
     let all : AllZip R rows (left ++ rest) =
     subst (λ (fs : List (List Term)). AllZip R fs (left ++ rest)) (take-append-drop (length left) rows)
-    (zip_append R (take (length left) rows) left (drop (length left) rows) rest c.in_ok-left.ensures.first other) in
-    subst (AllZip R rows) (sym c.in_ok-push_parts.ensures) all
+    (AllZip-append R (take (length left) rows) (drop (length left) rows) left rest c.in_ok-left.ensures.first other) in
+    subst (AllZip R rows) (sym c.in_ok-push_part.ensures) all
