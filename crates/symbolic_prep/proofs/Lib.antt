@@ -10,6 +10,10 @@ pub mod Single
 pub mod Digits
 pub mod Numbers
 pub mod Keys
+pub mod PackedWords
+pub mod AddedWords
+pub mod PackedMultiples
+pub mod ReducerTails
 pub mod Reduced
 pub mod NumberWalks
 pub mod ListedColumns

@@ -2,6 +2,8 @@
 use Rattle.std.proofs.Common.{◌≡◌, ◌↔◌, ◌≤◌, ◌<◌, ◌+◌, ◌-◌, ◌++◌, ℕ, List, [], ◌∷◌, length, map, take, drop, refl, sym, ap, ◌∙◌, arith, All, Option}
 use Rattle.std.proofs.Common.{Some, None, subst, length-append, append_assoc}
 use Rattle.std.specs.List.{AllZip, Contains, slice_range}
+use Rattle.std.proofs.Math.Seq.{drop-append_seam, take-append_seam}
+use Rattle.std.proofs.lemmas.List.{length-map}
 use Rattle.std.proofs.lemmas.List.Elements.{All-cons, All-nil}
 use Rattle.std.proofs.lemmas.Option.{get_or_from_slice_get, slice_get_within}
 use Rattle.words.proofs.Members.{All-from_members}
@@ -13,7 +15,7 @@ use Rattle.ideal_laws.specs.Engine.{Elements}
 use Rattle.ideal_laws.specs.Kept.{IsKept}
 use Rattle.symbolic_prep.specs.declared.lists.Span.{Span}
 use Rattle.symbolic_prep.specs.Columns.{IsListedClosure}
-use Rattle.symbolic_prep.specs.Numbers.{AreTerms, IsSpanOf, IsSpanWithin, StandsAt, reducer_on, residues_of, terms_on}
+use Rattle.symbolic_prep.specs.Numbers.{IsSpanOf, IsSpanWithin, StandsAt, reducer_on, residues_of, terms_on}
 use Rattle.symbolic_prep.specs.Orders.{HaveOneDegree}
 use Rattle.symbolic_prep.specs.Walk.{IsWalked}
 use Rattle.symbolic_prep.proofs.Ending.{AllZip-length}
@@ -66,30 +68,14 @@ listed_walked G words from limit columns spans n r entries h = record {
   counted = record { count = h.count; size = refl; same = λ le. refl };
 }
 
-drop_before : (xs ys : List ℕ) → drop (length xs) (xs ++ ys) ≡ ys
-drop_before [] ys = refl
-drop_before (x ∷ xs) ys = drop_before xs ys
-
-take_first : (xs ys : List ℕ) → take (length xs) (xs ++ ys) ≡ xs
-take_first [] ys = refl
-take_first (x ∷ xs) ys = ap (λ (zs : List ℕ). x ∷ zs) (take_first xs ys)
-
 -- what stands between others
-pub range_is : (xs before mid behind : List ℕ) (start end : ℕ) → xs ≡ before ++ mid ++ behind → length before ≡ start → start + length mid ≡ end
-    → slice_range xs start end ≡ mid
+pub range_is : {X : Type 0} (xs before mid behind : List X) (start end : ℕ) → xs ≡ before ++ mid ++ behind → length before ≡ start →
+    start + length mid ≡ end → slice_range xs start end ≡ mid
 range_is xs before mid behind start end e first last =
     ap (slice_range xs start) (sym last) ∙ ap (λ (s : ℕ). slice_range xs s (s + length mid)) (sym first)
     ∙ (let long : length before + length mid - length before ≡ length mid = omega arith in ap (λ (k : ℕ). take k (drop (length before) xs)) long)
-    ∙ ap (λ (ys : List ℕ). take (length mid) (drop (length before) ys)) (e ∙ append_assoc before mid behind)
-    ∙ ap (take (length mid)) (drop_before before (mid ++ behind)) ∙ take_first mid behind
-
-AreTerms-many : (words : List (List ℕ)) (ns rs : List ℕ) (ts : List Term) → AreTerms words ns rs ts → length ns ≡ length ts
-AreTerms-many words [] [] [] h = refl
-AreTerms-many words [] [] (t ∷ ts) h = absurd h
-AreTerms-many words [] (r ∷ rs) ts h = absurd h
-AreTerms-many words (n ∷ ns) [] ts h = absurd h
-AreTerms-many words (n ∷ ns) (r ∷ rs) [] h = absurd h
-AreTerms-many words (n ∷ ns) (r ∷ rs) (t ∷ ts) h = omega (arith, AreTerms-many words ns rs ts h.2)
+    ∙ ap (λ ys. take (length mid) (drop (length before) ys)) (e ∙ append_assoc before mid behind)
+    ∙ ap (take (length mid)) (drop-append_seam before (mid ++ behind)) ∙ take-append_seam mid behind
 
 -- a reducer has a term
 reducer_some : (G : List (List Term)) (w : List ℕ) (f : List Term) → IsReducer G w f → 0 < length f
@@ -125,7 +111,13 @@ module _ (columns : List (List ℕ)) (n : List ℕ) (r : List (List ℕ)) where
   within_one : (s : Span) (f : List Term) → StandsAt columns n r s f → 0 < length f → IsSpanWithin (length columns) n r (Some s)
   within_one s f h some =
       let ns = range_is n h.before h.ns h.behind s.start s.end h.numbers_are h.starts h.ends in (
-        omega (arith, some, h.ends, AreTerms-many columns h.ns (residues_of f) f h.are_terms),
+        omega (
+          arith,
+          some,
+          h.ends,
+          AreTerms-length columns h.ns (residues_of f) f h.are_terms,
+          length-map f (λ (t : Term). t.coefficient),
+        ),
         omega (arith, ap length h.numbers_are, length-append (h.before ++ h.ns) h.behind, length-append h.before h.ns, h.starts, h.ends),
         slice_get_within r s.element (residues_of f) h.residues_are,
         omega (

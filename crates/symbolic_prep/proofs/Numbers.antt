@@ -2,14 +2,13 @@
 use Rattle.std.proofs.Common.{◌≡◌, ◌≢◌, ◌⊎◌, ◌↔◌, ◌+◌, ◌<◌, ◌≤◌, ℕ, List, [], ◌∷◌, ◌++◌, length, map, take, get_or, refl, sym, ap, ◌∙◌, inl, inr}
 use Rattle.std.proofs.Common.{arith, All, AllPairs, Option, Some, subst, append_assoc, length-append}
 use Rattle.std.specs.List.{AllZip, Contains, slice_get}
-use Rattle.std.proofs.lemmas.List.{append-nil, get_or-map, get_or_append_left, length-map, map-append, take-map, take_all, take_more, take-append-le}
+use Rattle.std.proofs.lemmas.List.{append-nil, get_or_append_left, map-append, take_all, take_more, take-append-le}
 use Rattle.std.proofs.lemmas.List.Elements.{Contains-append_cases, Contains-append_left, Contains-append_right}
 use Rattle.std.proofs.lemmas.Option.{get_or_from_slice_get, slice_get-get_or, slice_get_within}
 use Rattle.words.specs.Order.{IsLetterwiseGreater}
 use Rattle.words.proofs.Members.{Contains-cases, Contains-none}
 use Rattle.free_poly.specs.declared.term.Term.{Term}
 use Rattle.free_poly.specs.Poly.{IsPolynomial}
-use Rattle.free_poly.specs.Terms.{product}
 use Rattle.ideal_laws.specs.Closure.{AreColumns, HasReducer, IsInClosure, given, brought, IsReducer}
 use Rattle.ideal_laws.specs.Engine.{Elements}
 use Rattle.ideal_laws.specs.Kept.{IsKept}
@@ -20,7 +19,6 @@ use Rattle.symbolic_prep.specs.Numbers.{AreListed, AreTerms, IsGrown, IsNumbered
 use Rattle.symbolic_prep.proofs.Stays.{IsWord, stays}
 use Rattle.symbolic_prep.proofs.Listing.{brought_words, has_columns, tail_brought}
 use Rattle.symbolic_prep.proofs.Pigeons.{at_most}
-use Rattle.symbolic_prep.proofs.Sets.{first_of}
 use Rattle.symbolic_prep.proofs.Walks.{AllZip-push}
 
 -- the words that are given, each once
@@ -213,27 +211,3 @@ listed_among so_far new wanted numbers more ts h g = record {
   are_terms = subst (λ (ws : List (List ℕ)). AreTerms ws h.ns (residues_of ts) ts) (sym g.joined)
       (AreTerms-more so_far g.more h.ns (residues_of ts) ts h.are_terms);
 }
-
--- the terms of a product, one after another
-pub product_more : (u v : List ℕ) (ts : List Term) (i : ℕ) (t : Term) → i < length ts → t ≡ get_or ts i t
-    → take (i + 1) (product u ts v) ≡ take i (product u ts v) ++ record { word = u ++ t.word ++ v; coefficient = t.coefficient } ∷ []
-product_more u v ts i t lt is =
-    let f : Term → Term = λ (s : Term). record { word = u ++ s.word ++ v; coefficient = s.coefficient } in
-    take_more (map f ts) i (f t) (omega (arith, lt, length-map ts f))
-    ∙ ap (λ (x : Term). take i (map f ts) ++ x ∷ []) (get_or-map f ts i t (f t) lt ∙ ap f (sym is))
-
-pub product_words-more : (u v : List ℕ) (ts : List Term) (i : ℕ) (t : Term) → i < length ts → t ≡ get_or ts i t
-    → map (λ t. t.word) (take (i + 1) (product u ts v)) ≡ map (λ t. t.word) (take i (product u ts v)) ++ (u ++ t.word ++ v) ∷ []
-product_words-more u v ts i t lt is =
-    ap (map (λ (s : Term). s.word)) (product_more u v ts i t lt is)
-    ∙ map-append (λ (s : Term). s.word) (take i (product u ts v)) (record { word = u ++ t.word ++ v; coefficient = t.coefficient } ∷ [])
-
-pub product_all : (u v : List ℕ) (ts : List Term) (i : ℕ) → length ts ≤ i → take i (product u ts v) ≡ product u ts v
-product_all u v ts i past =
-    let f : Term → Term = λ (s : Term). record { word = u ++ s.word ++ v; coefficient = s.coefficient } in
-    take_all i (map f ts) (omega (arith, past, length-map ts f))
-
-pub product_part : (u v : List ℕ) (ts : List Term) (i : ℕ) (w : List ℕ) → Contains (map (λ t. t.word) (take i (product u ts v))) w →
-    Contains (map (λ t. t.word) (product u ts v)) w
-product_part u v ts i w m = first_of (map (λ (t : Term). t.word) (product u ts v)) i w
-    (subst (λ (ws : List (List ℕ)). Contains ws w) (sym (take-map (λ (t : Term). t.word) i (product u ts v))) m)

@@ -4,3 +4,5 @@ pub mod Walk
 pub mod Packing
 pub mod Numbers
 pub mod Orders
+pub mod PackedWords
+pub mod Tails

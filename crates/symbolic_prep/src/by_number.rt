@@ -16,7 +16,8 @@ ghost use Rattle.symbolic_prep.specs.Walk.{HasMore};
 
 use crate::closing::keeps;
 use crate::columns::ColumnWords;
-use crate::lists::{Lists, Span, push_product};
+use crate::lists::{Lists, Span, add_words};
+use crate::multiples::packed_terms;
 use crate::numbering::{Numbered, walk_by_number};
 use crate::ordering::{columns_of, ordered};
 use crate::packing::Packing;
@@ -95,17 +96,8 @@ fn table_of(
     let mut table = WordTable::new(alloc, packing);
     let mut numbers = Vec::new(alloc);
     for row in rows {
-        push_product(
-            row.terms(),
-            &[],
-            &[],
-            0,
-            0,
-            most,
-            false,
-            &mut table,
-            &mut numbers,
-        )?;
+        let words = packed_terms(alloc, packing, row.terms())?;
+        add_words(words.as_slice(), most, false, &mut table, &mut numbers)?;
     }
     Ok(table)
 }

@@ -9,6 +9,7 @@ mod closed;
 mod closing;
 mod columns;
 mod lists;
+mod multiples;
 mod numbering;
 mod ordering;
 mod packed;
@@ -16,6 +17,7 @@ mod packing;
 mod pending;
 mod residues;
 mod table;
+mod tails;
 mod walk;
 
 pub use closed::Closed;

@@ -1,14 +1,14 @@
-ghost use Rattle.std.specs.Prelude.{◌≡◌, ◌+◌, ◌^◌, ◌<◌, ◌≤◌, ◌⊎◌, ◌++◌, ◌∷◌, [], All, Contains, IfOk, IsErrOf, IsTrue};
+ghost use Rattle.std.specs.Prelude.{◌≡◌, ◌<◌, ◌≤◌, ◌⊎◌, ◌++◌, ◌∷◌, [], List, All, Contains, IfOk, IsErrOf, IsTrue};
 ghost use Rattle.std.specs.Prelude.{OnOk, length, map};
-ghost use Rattle.free_poly.specs.Terms.{product};
+ghost use Rattle.free_poly.specs.declared.term.Term.{Term};
 ghost use Rattle.symbolic_prep.specs.Numbers.{AreListed, IsGrown};
-ghost use Rattle.symbolic_prep.specs.Packing.{HasDigits, packed};
+ghost use Rattle.symbolic_prep.specs.PackedWords.{IsPackedWord, letters_in};
 ghost use Rattle.symbolic_prep.specs.Walk.{HasMore};
 
+use crate::packing::PackedWord;
 use crate::pending::ColumnFault;
 use crate::residues::ResidueLists;
 use crate::table::WordTable;
-use free_poly::Term;
 use std::alloc::AllocError;
 use words::NoMemory;
 
@@ -28,13 +28,9 @@ pub(crate) struct Span {
     pub(crate) element: u32,
 }
 
-/// Adds the words of u * f * v, of which u and v are packed, and lists their numbers if they are to be held.
-pub(crate) fn push_product(
-    terms: &[Term],
-    before: &[u8],
-    rest: &[u8],
-    before_key: u64,
-    rest_key: u64,
+/// Adds some words, and lists their numbers if they are to be held.
+pub(crate) fn add_words(
+    words: &[PackedWord],
     most: usize,
     held: bool,
     table: &mut WordTable,
@@ -42,26 +38,21 @@ pub(crate) fn push_product(
 ) -> Result<(), ColumnFault>
     requires few { length table.old.words ≤ most }
     requires small { most < 4294967296 }
-    requires over_before { HasDigits table.old.bits before.now }
-    requires over { All (λ t. HasDigits table.old.bits t.word) terms.now }
-    requires over_rest { HasDigits table.old.bits rest.now }
-    requires fits { All (λ t. length before.now + length t.word + length rest.now ≤ table.old.room) terms.now }
-    requires before_key { before_key ≡ packed (2 ^ table.old.bits) table.old.room before.now }
-    requires rest_key { rest_key ≡ packed (2 ^ table.old.bits) table.old.room rest.now }
+    requires words { All (IsPackedWord table.old.bits table.old.room) words.now }
     ensures grown { OnOk result (IsGrown table.old.words table.new.words
-        (map (λ t. t.word) (product before.now terms.now rest.now))) }
-    ensures listed { OnOk result (IsTrue held → AreListed table.new.words numbers.old.items numbers.new.items
-        (product before.now terms.now rest.now)) }
+        (map (letters_in table.old.bits table.old.room) words.now)) }
+    ensures listed { (f : List Term) → map (letters_in table.old.bits table.old.room) words.now ≡ map (λ t. t.word) f →
+        OnOk result (IsTrue held → AreListed table.new.words numbers.old.items numbers.new.items f) }
     ensures within { OnOk result (length table.new.words ≤ most) }
     ensures many { IsErrOf result ColumnFault.TooMany →
         HasMore most (λ w. Contains table.old.words w ⊎ Contains
-        (map (λ t. t.word) (product before.now terms.now rest.now)) w) }
+        (map (letters_in table.old.bits table.old.room) words.now) w) }
     ensures bits { OnOk result (table.new.bits ≡ table.old.bits) }
     ensures room { OnOk result (table.new.room ≡ table.old.room) }
 {
     let _len = table.len();
-    for term in terms {
-        let number = table.add(before, term.word.letters(), rest, before_key, rest_key)?;
+    for word in words {
+        let number = table.add(*word)?;
         if table.len() > most {
             return Err(ColumnFault::TooMany);
         }

@@ -1,20 +1,23 @@
-ghost use Rattle.std.specs.Prelude.{◌≡◌, ◌+◌, ◌^◌, ◌<◌, ◌≤◌, ◌++◌, ◌∷◌, [], List, ℕ, All, Contains, IfOk, IsErrOf};
-ghost use Rattle.std.specs.Prelude.{IsTrue, OnOk, Some, length, slice_get};
+ghost use Rattle.std.specs.Prelude.{◌≡◌, ◌+◌, ◌^◌, ◌<◌, ◌≤◌, [], List, ℕ, All, Contains, IfOk, IsErrOf, OnOk, length};
+ghost use Rattle.std.specs.Prelude.{slice_index_or};
 ghost use Rattle.words.specs.Words.{IsOver, degree_of};
 ghost use Rattle.free_poly.specs.declared.term.Term.{Term};
 ghost use Rattle.free_poly.specs.Poly.{IsPolynomial};
 ghost use Rattle.ideal_laws.specs.Closure.{AreColumns, IsInClosure};
 ghost use Rattle.lead_index.specs.Leads.{IsIndex, IsIndexOf};
 ghost use Rattle.symbolic_prep.specs.Numbers.{IsNumberWalk, IsReducedTo};
-ghost use Rattle.symbolic_prep.specs.Packing.{HasDigits};
+ghost use Rattle.symbolic_prep.specs.PackedWords.{IsPackedWord};
+ghost use Rattle.symbolic_prep.specs.Tails.{HasTail};
 ghost use Rattle.symbolic_prep.specs.Walk.{HasMore};
 
 use crate::closing::keeps;
-use crate::lists::{Span, place_behind, push_number, push_product};
-use crate::packing::{back, front};
-use crate::pending::{ColumnFault, tail_of};
+use crate::lists::{Span, add_words, place_behind, push_number};
+use crate::multiples::packed_basis;
+use crate::packing::PackedWord;
+use crate::pending::ColumnFault;
 use crate::table::WordTable;
-use crate::walk::{behind, counted, lead_len};
+use crate::tails::tails_of;
+use crate::walk::counted;
 use ideal_laws::Basis;
 use lead_index::LeadIndex;
 use std::alloc::Global;
@@ -64,25 +67,26 @@ pub(crate) fn walk_by_number(
     let mut entries = entries;
     let mut spans = Vec::new(alloc);
     let mut numbers = Vec::new(alloc);
-    let mut letters = Vec::new(alloc);
+    let elements = packed_basis(alloc, basis, table.packing())?;
     let mut next = 0;
     while next < table.len() {
-        table.read(next, &mut letters)?;
-        let word = letters.as_slice();
-        let (span, more) = push_reducer(
-            basis,
-            index,
-            word,
-            next as u32,
-            most,
-            entries,
-            limit,
-            &mut table,
-            &mut numbers,
-        )?;
-        entries = more;
-        spans.push(span)?;
-        next += 1;
+        let tails = tails_of(alloc, basis, index, elements.as_slice(), &table, next, d)?;
+        for span in &tails.spans {
+            let (span, more) = push_reducer(
+                basis,
+                *span,
+                tails.words.as_slice(),
+                next as u32,
+                most,
+                entries,
+                limit,
+                &mut table,
+                &mut numbers,
+            )?;
+            entries = more;
+            spans.push(span)?;
+            next += 1;
+        }
     }
     Ok(Numbered {
         table,
@@ -95,8 +99,8 @@ pub(crate) fn walk_by_number(
 /// Adds the words of the reducer of a word, if it has one.
 fn push_reducer(
     basis: &Basis,
-    index: &LeadIndex,
-    word: &[u8],
+    tail: Option<Span>,
+    tails: &[PackedWord],
     number: u32,
     most: usize,
     entries: u64,
@@ -104,18 +108,15 @@ fn push_reducer(
     table: &mut WordTable,
     numbers: &mut Vec<u32>,
 ) -> Result<(Option<Span>, u64), ColumnFault>
-    requires form { All IsPolynomial basis.now.elements }
-    requires index { IsIndexOf basis.now.elements index.now }
-    requires small { length word.now ≤ 64 }
-    requires number { slice_get table.old.words number ≡ Some word.now }
-    requires letters { IsOver (length basis.now.weights) word.now }
-    requires digits { length basis.now.weights < 2 ^ table.old.bits }
-    requires room { degree_of basis.now.weights word.now ≤ table.old.room }
+    requires tail { HasTail basis.now.elements table.old.bits table.old.room tails.now
+        (slice_index_or table.old.words number []) tail }
+    requires tails { All (IsPackedWord table.old.bits table.old.room) tails.now }
+    requires number { number < length table.old.words }
     requires few { length table.old.words ≤ most }
     requires most { most < 4294967296 }
 
-    ensures reduced { IfOk result (λ r. IsReducedTo basis.now.elements word.now table.old.words table.new.words
-        numbers.old.items numbers.new.items entries limit r.0 r.1) }
+    ensures reduced { IfOk result (λ r. IsReducedTo basis.now.elements (slice_index_or table.old.words number [])
+        table.old.words table.new.words numbers.old.items numbers.new.items entries limit r.0 r.1) }
     ensures within { OnOk result (length table.new.words ≤ most) }
     ensures bits { OnOk result (table.new.bits ≡ table.old.bits) }
     ensures room { OnOk result (table.new.room ≡ table.old.room) }
@@ -123,48 +124,18 @@ fn push_reducer(
         ((w : List ℕ) → Contains table.old.words w → IsInClosure basis.now.elements given w) →
         HasMore most (IsInClosure basis.now.elements given) }
 {
-    let _done = basis.done();
-    match index.first_reducer(word) {
-        Some(place) => {
-            let element = basis.element(place.element);
-            let terms = element.terms();
-            let at = place.at as usize;
-            let before = &word[..at];
-            let count = lead_len(element);
-            let rest = behind(word, at, count);
-            let packing = table.packing();
-            let key = table.key(number as usize);
-            let before_key = front(packing, word, at, key);
-            let rest_key = back(packing, word, at + count, key);
-            let entries = counted(entries, terms.len(), limit);
+    let _len = table.len();
+    match tail {
+        Some(tail) => {
+            let words = &tails[tail.start as usize..tail.end as usize];
+            let entries = counted(entries, words.len() + 1, limit);
             let held = entries <= u64::from(limit);
             let start = place_behind(numbers.len())?;
             push_number(held, number, numbers)?;
-            push_product(
-                tail_of(terms),
-                before,
-                rest,
-                before_key,
-                rest_key,
-                most,
-                held,
-                table,
-                numbers,
-            )?;
+            add_words(words, most, held, table, numbers)?;
             let end = place_behind(numbers.len())?;
-            let element = place.element;
-            Ok((
-                Some(Span {
-                    start,
-                    end,
-                    element,
-                }),
-                entries,
-            ))
+            Ok((Some(Span { start, end, ..tail }), entries))
         }
-        None => {
-            let _len = table.len();
-            Ok((None, counted(entries, 0, limit)))
-        }
+        None => Ok((None, counted(entries, 0, limit))),
     }
 }

@@ -1,5 +1,6 @@
 ghost use Rattle.std.specs.Prelude.{◌≡◌, ◌+◌, ◌*◌, ◌^◌, ◌/◌, ◌%◌, ◌<◌, ◌≤◌, ◌++◌, IfSome, OnOk, drop, length, take};
 ghost use Rattle.symbolic_prep.specs.Packing.{HasDigits, IsPacking, IsPackingFor, packed, unpacked};
+ghost use Rattle.symbolic_prep.specs.PackedWords.{IsPackedWord, letters_in};
 
 use words::NoMemory;
 
@@ -8,6 +9,13 @@ use words::NoMemory;
 pub(crate) struct Packing {
     pub(crate) bits: u32,
     pub(crate) room: u32,
+}
+
+/// A packed word, and how many letters it has.
+#[derive(Debug, Clone, Copy)]
+pub(crate) struct PackedWord {
+    pub(crate) key: u64,
+    pub(crate) len: u32,
 }
 
 /// How the words of a degree are packed, where they are short enough.
@@ -39,32 +47,48 @@ pub(crate) fn pack(packing: Packing, letters: &[u8]) -> u64
     key
 }
 
-/// Of a packed word the letters before a place, packed.
-pub(crate) fn front(packing: Packing, word: &[u8], at: usize, key: u64) -> u64
+/// The letters of a packed word before a place.
+pub(crate) fn front(packing: Packing, word: PackedWord, at: u32) -> PackedWord
     requires packing { IsPacking packing.bits packing.room }
-    requires over { HasDigits packing.bits word.now }
-    requires fits { length word.now ≤ packing.room }
-    requires within { at ≤ length word.now }
-    requires key { key ≡ packed (2 ^ packing.bits) packing.room word.now }
-    ensures { result ≡ packed (2 ^ packing.bits) packing.room (take at word.now) }
+    requires word { IsPackedWord packing.bits packing.room word }
+    requires within { at ≤ word.len }
+    ensures is { IsPackedWord packing.bits packing.room result }
+    ensures letters { letters_in packing.bits packing.room result ≡
+        take at (letters_in packing.bits packing.room word) }
 {
-    key - last_bits(key, packing.bits * (packing.room - at as u32))
+    let rest = last_bits(word.key, packing.bits * (packing.room - at));
+    PackedWord {
+        key: word.key - rest,
+        len: at,
+    }
 }
 
-/// Of a packed word the letters from a place on, packed.
-pub(crate) fn back(packing: Packing, word: &[u8], at: usize, key: u64) -> u64
+/// The letters of a packed word from a place on.
+pub(crate) fn back(packing: Packing, word: PackedWord, at: u32) -> PackedWord
     requires packing { IsPacking packing.bits packing.room }
-    requires over { HasDigits packing.bits word.now }
-    requires fits { length word.now ≤ packing.room }
-    requires within { at ≤ length word.now }
-    requires key { key ≡ packed (2 ^ packing.bits) packing.room word.now }
-    ensures { result ≡ packed (2 ^ packing.bits) packing.room (drop at word.now) }
+    requires word { IsPackedWord packing.bits packing.room word }
+    requires within { at ≤ word.len }
+    ensures is { IsPackedWord packing.bits packing.room result }
+    ensures letters { letters_in packing.bits packing.room result ≡
+        drop at (letters_in packing.bits packing.room word) }
 {
-    if at == word.len() {
+    PackedWord {
+        key: last_letters(packing, word, at),
+        len: word.len - at,
+    }
+}
+
+fn last_letters(packing: Packing, word: PackedWord, at: u32) -> u64
+    requires packing { IsPacking packing.bits packing.room }
+    requires word { IsPackedWord packing.bits packing.room word }
+    requires within { at ≤ word.len }
+    ensures { result ≡ packed (2 ^ packing.bits) packing.room
+        (drop at (letters_in packing.bits packing.room word)) }
+{
+    if at == word.len {
         return 0;
     }
-    let at = at as u32;
-    last_bits(key, packing.bits * (packing.room - at)) << (packing.bits * at)
+    last_bits(word.key, packing.bits * (packing.room - at)) << (packing.bits * at)
 }
 
 fn last_bits(key: u64, count: u32) -> u64
@@ -77,29 +101,29 @@ fn last_bits(key: u64, count: u32) -> u64
     }
 }
 
-/// The number of a word in three parts, of which the first and the last are packed.
+/// A packed word of three.
 pub(crate) fn joined(
     packing: Packing,
-    before: &[u8],
-    term: &[u8],
-    rest: &[u8],
-    before_key: u64,
-    rest_key: u64,
-) -> u64
+    before: PackedWord,
+    middle: PackedWord,
+    rest: PackedWord,
+) -> PackedWord
     requires packing { IsPacking packing.bits packing.room }
-    requires over_before { HasDigits packing.bits before.now }
-    requires over { HasDigits packing.bits term.now }
-    requires over_rest { HasDigits packing.bits rest.now }
-    requires fits { length before.now + length term.now + length rest.now ≤ packing.room }
-    requires before_key { before_key ≡ packed (2 ^ packing.bits) packing.room before.now }
-    requires rest_key { rest_key ≡ packed (2 ^ packing.bits) packing.room rest.now }
-    ensures { result ≡ packed (2 ^ packing.bits) packing.room (before.now ++ term.now ++ rest.now) }
+    requires before { IsPackedWord packing.bits packing.room before }
+    requires middle { IsPackedWord packing.bits packing.room middle }
+    requires rest { IsPackedWord packing.bits packing.room rest }
+    requires fits { before.len + middle.len + rest.len ≤ packing.room }
+    ensures is { IsPackedWord packing.bits packing.room result }
+    ensures letters { letters_in packing.bits packing.room result ≡ letters_in packing.bits packing.room before ++
+        letters_in packing.bits packing.room middle ++ letters_in packing.bits packing.room rest }
 {
-    let at = before.len() as u32;
-    let behind = at + term.len() as u32;
-    let middle = shifted(pack(packing, term), packing.bits * at);
-    let last = shifted(rest_key, packing.bits * behind);
-    before_key + middle + last
+    let behind = before.len + middle.len;
+    let second = shifted(middle.key, packing.bits * before.len);
+    let third = shifted(rest.key, packing.bits * behind);
+    PackedWord {
+        key: before.key + second + third,
+        len: behind + rest.len,
+    }
 }
 
 fn shifted(key: u64, by: u32) -> u64

@@ -1,13 +1,14 @@
-ghost use Rattle.std.specs.Prelude.{◌≡◌, ◌≢◌, ◌+◌, ◌^◌, ◌<◌, ◌≤◌, ◌++◌, ◌∷◌, [], AllPairs, IfOk, OnOk, Some};
+ghost use Rattle.std.specs.Prelude.{◌≡◌, ◌≢◌, ◌+◌, ◌<◌, ◌≤◌, ◌∷◌, [], AllPairs, IfOk, OnOk, Some};
 ghost use Rattle.std.specs.Prelude.{length, slice_get, slice_index_or};
-ghost use Rattle.symbolic_prep.specs.Packing.{HasDigits, IsPacking, packed};
+ghost use Rattle.symbolic_prep.specs.Packing.{IsPacking};
+ghost use Rattle.symbolic_prep.specs.PackedWords.{IsPackedWord, letters_in};
 ghost use Rattle.symbolic_prep.specs.Numbers.{IsGrown};
 ghost use Rattle.symbolic_prep.specs.Orders.{HaveOneDegree, IsOrder};
 ghost use Rattle.words.specs.Order.{IsLetterwiseGreater};
 
 use crate::ordering::{parted, rising};
 use crate::packed::PackedWords;
-use crate::packing::{Packing, joined, unpack};
+use crate::packing::{PackedWord, Packing, unpack};
 use indexmap::IndexSet;
 use std::alloc::Global;
 use std::marker::Model;
@@ -62,51 +63,32 @@ impl WordTable {
         self.packing
     }
 
-    /// Fills a buffer with the letters of the word of this number.
-    pub(crate) fn read(&self, number: usize, letters: &mut Vec<u8>) -> Result<(), NoMemory>
+    /// The word of this number, whose letters fill a buffer.
+    pub(crate) fn read(&self, number: usize, letters: &mut Vec<u8>) -> Result<PackedWord, NoMemory>
         requires { number < length self.now.words }
         ensures word { OnOk result (letters.new.items ≡ slice_index_or self.now.words number []) }
-        ensures over { OnOk result (HasDigits self.now.bits letters.new.items) }
-        ensures fits { OnOk result (length letters.new.items ≤ self.now.room) }
+        ensures packed { IfOk result (IsPackedWord self.now.bits self.now.room) }
+        ensures letters { IfOk result (λ p. letters_in self.now.bits self.now.room p ≡ letters.new.items) }
     {
         let key = self.keys.as_slice()[number];
         unpack(self.packing, key, letters)?;
-        Ok(())
+        let len = letters.len() as u32;
+        Ok(PackedWord { key, len })
     }
 
-    /// The packed word of this number.
-    pub(crate) fn key(&self, number: usize) -> u64
-        requires { number < length self.now.words }
-        ensures { result ≡ packed (2 ^ self.now.bits) self.now.room (slice_index_or self.now.words number []) }
-    {
-        self.keys.as_slice()[number]
-    }
-
-    /// The number of a word in three parts, of which the first and the last are packed. A new word comes last.
-    pub(crate) fn add(
-        &mut self,
-        before: &[u8],
-        term: &[u8],
-        rest: &[u8],
-        before_key: u64,
-        rest_key: u64,
-    ) -> Result<u32, NoMemory>
+    /// The number of a word. A new word comes last.
+    pub(crate) fn add(&mut self, word: PackedWord) -> Result<u32, NoMemory>
         requires few { length self.old.words < 4294967296 }
-        requires over_before { HasDigits self.old.bits before.now }
-        requires over { HasDigits self.old.bits term.now }
-        requires over_rest { HasDigits self.old.bits rest.now }
-        requires fits { length before.now + length term.now + length rest.now ≤ self.old.room }
-        requires before_key { before_key ≡ packed (2 ^ self.old.bits) self.old.room before.now }
-        requires rest_key { rest_key ≡ packed (2 ^ self.old.bits) self.old.room rest.now }
+        requires word { IsPackedWord self.old.bits self.old.room word }
         ensures grown { OnOk result (IsGrown self.old.words self.new.words
-            ((before.now ++ term.now ++ rest.now) ∷ [])) }
-        ensures number { IfOk result (λ n. slice_get self.new.words n ≡ Some (before.now ++ term.now ++ rest.now)) }
+            (letters_in self.old.bits self.old.room word ∷ [])) }
+        ensures number { IfOk result (λ n. slice_get self.new.words n ≡
+            Some (letters_in self.old.bits self.old.room word)) }
         ensures few { OnOk result (length self.new.words ≤ length self.old.words + 1) }
         ensures bits { self.new.bits ≡ self.old.bits }
         ensures room { self.new.room ≡ self.old.room }
     {
-        let key = joined(self.packing, before, term, rest, before_key, rest_key);
-        let (number, _) = self.keys.insert_full(key)?;
+        let (number, _) = self.keys.insert_full(word.key)?;
         Ok(number as u32)
     }
 

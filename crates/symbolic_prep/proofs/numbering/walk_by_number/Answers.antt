@@ -1,12 +1,13 @@
-use Rattle.std.proofs.Common.{◌≡◌, ◌<◌, [], ℕ, List, Err, Some, arith, ap, length, refl, sym, ◌∙◌}
-use Rattle.std.specs.List.{slice_get}
+use Rattle.std.proofs.Common.{◌≡◌, ◌<◌, [], Err, arith, ap, get_or, length, length-append, refl, sym, ◌∙◌}
+use Rattle.std.proofs.lemmas.List.{get_or_default}
+use Rattle.symbolic_prep.specs.Walk.{tail_words}
+use Rattle.symbolic_prep.proofs.Reduced.{grown_longer}
 use Rattle.std.proofs.lemmas.List.Elements.{All-contains}
-use Rattle.std.proofs.lemmas.Option.{get_or_from_slice_get, slice_get-get_or}
 use Rattle.std.proofs.lemmas.Result.{err_from_is_err_and}
 use Rattle.words.specs.Words.{IsOver, degree_of}
+use Rattle.words.proofs.Members.{All-from_members}
 use Rattle.symbolic_prep.proofs.Numbers.{closure_many}
 use Rattle.symbolic_prep.proofs.NumberWalks.{number_walk_more, number_walk_none}
-use Rattle.symbolic_prep.proofs.Reduced.{numbered_own}
 use Rattle.symbolic_prep.proofs.Sets.{one_fault}
 use Rattle.symbolic_prep.proofs.Stays.{stays}
 use Rattle.symbolic_prep.proofs.numbering.walk_by_number.Goals as goal
@@ -20,65 +21,46 @@ loop-next-init c = record {
   room = refl;
 }
 
-pub push_reducer-requires-clause-number : goal.push_reducer-requires-clause-number
-push_reducer-requires-clause-number c =
-    let words = c.loop-next.table.words in
-    slice_get-get_or words c.loop-next.next [] (omega (arith, c.loop-next-test.true, c.len.ensures.count))
-    ∙ ap Some (sym (c.as_slice-word.ensures.value ∙ c.in_ok-read.ensures.word))
-
-pub push_reducer-requires-clause-letters : goal.push_reducer-requires-clause-letters
-push_reducer-requires-clause-letters c =
+pub tails_of-requires-clause-words : goal.tails_of-requires-clause-words
+tails_of-requires-clause-words c =
     let b = c.args.basis.now in
-    let w : List ℕ = c.as_slice-word.result.now in
-    let words = c.loop-next.table.words in
-    let lt : c.loop-next.next < length words = omega (arith, c.loop-next-test.true, c.len.ensures.count) in
-    let number : slice_get words c.loop-next.next ≡ Some w = slice_get-get_or words c.loop-next.next [] lt
-    ∙ ap Some (sym (c.as_slice-word.ensures.value ∙ c.in_ok-read.ensures.word)) in
-    (stays b c.done-done.ensures.kept c.requires.form c.args.d c.args.table.words
-    (λ x m. All-contains (λ v. IsOver (length b.weights) v × (degree_of b.weights v ≡ c.args.d)) c.args.table.words x c.requires.words
-    m)
-    w (c.loop-next.invariant.walking.numbered.sound w (numbered_own words c.loop-next.next w number))).0
-
-pub push_reducer-requires-clause-room : goal.push_reducer-requires-clause-room
-push_reducer-requires-clause-room c =
-    let b = c.args.basis.now in
-    let w : List ℕ = c.as_slice-word.result.now in
-    let words = c.loop-next.table.words in
-    let lt : c.loop-next.next < length words = omega (arith, c.loop-next-test.true, c.len.ensures.count) in
-    let number : slice_get words c.loop-next.next ≡ Some w = slice_get-get_or words c.loop-next.next [] lt
-    ∙ ap Some (sym (c.as_slice-word.ensures.value ∙ c.in_ok-read.ensures.word)) in
-    let word = stays b c.done-done.ensures.kept c.requires.form c.args.d c.args.table.words
-    (λ x m. All-contains (λ v. IsOver (length b.weights) v × (degree_of b.weights v ≡ c.args.d)) c.args.table.words x c.requires.words
-    m)
-    w (c.loop-next.invariant.walking.numbered.sound w (numbered_own words c.loop-next.next w number)) in
-    omega (arith, word.1, c.requires.room, c.loop-next.invariant.room)
+    All-from_members (λ w. IsOver (length b.weights) w × (degree_of b.weights w ≡ c.args.d)) c.loop-next.table.words
+    (λ w m. stays b c.done-done.ensures.kept c.requires.form c.args.d c.args.table.words
+    (λ x n. All-contains (λ v. IsOver (length b.weights) v × (degree_of b.weights v ≡ c.args.d)) c.args.table.words x c.requires.words n)
+    w (c.loop-next.invariant.walking.numbered.sound w m))
 
 pub returns-in_err-span-clause-many : goal.returns-in_err-span-clause-many
 returns-in_err-span-clause-many c = λ e.
     let b = c.args.basis.now in
     let p = err_from_is_err_and c.from_residual-in_err-span.result c.from_residual-in_err-span.ensures.1 in
     let more = c.in_err-span.ensures.many (ap Err (sym p.2 ∙ one_fault c.from_residual-in_err-span.result _ _ p.1 e)) c.args.table.words
-    c.loop-next.invariant.walking.numbered.sound in
+    c.loop-span.invariant.walking.numbered.sound in
     closure_many b c.done-done.ensures.kept c.requires.form c.args.d c.args.index.now c.keeps.ensures c.requires.index c.args.table.words
     (λ x m. All-contains (λ v. IsOver (length b.weights) v × (degree_of b.weights v ≡ c.args.d)) c.args.table.words x c.requires.words m) c.args.most more
 
-pub loop-next-preserved : goal.loop-next-preserved
-loop-next-preserved c =
+pub loop-span-preserved : goal.loop-span-preserved
+loop-span-preserved c =
     let b = c.args.basis.now in
-    let w : List ℕ = c.as_slice-word.result.now in
-    let words = c.loop-next.table.words in
-    let lt : c.loop-next.next < length words = omega (arith, c.loop-next-test.true, c.len.ensures.count) in
-    let number : slice_get words c.loop-next.next ≡ Some w = slice_get-get_or words c.loop-next.next [] lt
-    ∙ ap Some (sym (c.as_slice-word.ensures.value ∙ c.in_ok-read.ensures.word)) in
+    let walk = c.loop-span in
+    let words = walk.table.words in
+    let k = c.in_ok-span.ensures.reduced in
+    let lt : walk.next < length words = omega (
+      arith,
+      walk.invariant.place,
+      c.in_ok-tails.ensures.tails.within,
+      ap length walk.invariant.longer.joined,
+      length-append c.loop-next.table.words walk.invariant.longer.more,
+    ) in
     record {
       walking =
           number_walk_more b c.done-done.ensures.kept c.requires.form c.args.d c.args.index.now c.keeps.ensures c.requires.index c.args.table.words
           (λ x m. All-contains (λ v. IsOver (length b.weights) v × (degree_of b.weights v ≡ c.args.d)) c.args.table.words x c.requires.words m)
-          words c.push_reducer.new.table.words c.loop-next.next c.args.entries c.args.limit c.loop-next.spans.items c.push.new.self.items
-          c.loop-next.numbers.items c.push_reducer.new.numbers.items c.loop-next.entries c.in_ok-span.more w
-          c.in_ok-span.span c.loop-next.invariant.walking lt
-          (sym (get_or_from_slice_get words c.loop-next.next w w number)) c.in_ok-span.ensures.reduced c.in_ok-push.ensures.items;
+          words c.push_reducer.new.table.words walk.next c.args.entries c.args.limit walk.spans.items c.push.new.self.items
+          walk.numbers.items c.push_reducer.new.numbers.items walk.entries c.in_ok-span.more (get_or words walk.next [])
+          c.in_ok-span.span walk.invariant.walking lt (get_or_default words walk.next [] (get_or words walk.next []) lt) k c.in_ok-push.ensures.items;
+      longer = grown_longer c.loop-next.table.words words c.push_reducer.new.table.words (tail_words k.reducer) walk.invariant.longer k.grown;
+      place = omega (arith, walk.invariant.place);
       within = c.in_ok-span.ensures.within;
-      bits = c.in_ok-span.ensures.bits ∙ c.loop-next.invariant.bits;
-      room = c.in_ok-span.ensures.room ∙ c.loop-next.invariant.room;
+      bits = c.in_ok-span.ensures.bits ∙ walk.invariant.bits;
+      room = c.in_ok-span.ensures.room ∙ walk.invariant.room;
     }

@@ -1,22 +1,11 @@
-use Rattle.std.proofs.Common.{◌-◌, ◌*◌, ◌%◌, ◌^◌, ◌<◌, ◌≡◌, ◌∙◌, ℕ, ap, arith, drop, length-drop, suc}
-use Rattle.std.proofs.Math.Nat.{mod-eq_of_lt}
-use Rattle.std.proofs.lemmas.List.Elements.{All-drop}
-use Rattle.symbolic_prep.specs.Packing.{packed}
-use Rattle.symbolic_prep.proofs.Digits.{back_is, packed_fits}
+use Rattle.std.proofs.Common.{refl}
+use Rattle.symbolic_prep.proofs.PackedWords.{back_as}
 use Rattle.symbolic_prep.proofs.packing.back.Goals as goal
 
-pub returns : goal.returns
-returns c =
-    let bits = c.args.packing.bits in
-    let room = c.args.packing.room in
-    let at = c.args.at in
-    let w = c.args.word.now in
-    let last = c.last_bits.ensures ∙ ap (λ (n : ℕ). n % 2 ^ (bits * (room - at))) c.requires.key in
-    let is : c.last_bits.result * 2 ^ (bits * at) ≡ packed (2 ^ bits) room (drop at w) =
-    ap (λ (n : ℕ). n * 2 ^ (bits * at)) last ∙ back_is bits room at w c.requires.over c.requires.fits c.requires.within in
-    mod-eq_of_lt (omega (
-      arith,
-      is,
-      packed_fits bits room (drop at w) c.requires.packing.whole (All-drop (λ x. suc x < 2 ^ bits) at w c.requires.over)
-          (omega (arith, length-drop at w, c.requires.fits)),
-    )) ∙ is
+pub returns-clause-is : goal.returns-clause-is
+returns-clause-is c = (back_as c.args.packing.bits c.args.packing.room c.args.word _ c.args.at c.requires.word c.requires.within refl
+    c.last_letters.ensures).is
+
+pub returns-clause-letters : goal.returns-clause-letters
+returns-clause-letters c = (back_as c.args.packing.bits c.args.packing.room c.args.word _ c.args.at c.requires.word c.requires.within refl
+    c.last_letters.ensures).letters

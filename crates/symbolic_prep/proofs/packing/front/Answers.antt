@@ -1,13 +1,11 @@
-use Rattle.std.proofs.Common.{◌-◌, ◌*◌, ◌%◌, ◌^◌, ◌∙◌, ℕ, ap, arith}
-use Rattle.symbolic_prep.proofs.Digits.{front_is}
+use Rattle.std.proofs.Common.{arith}
+use Rattle.symbolic_prep.proofs.PackedWords.{front_as}
 use Rattle.symbolic_prep.proofs.packing.front.Goals as goal
 
-pub returns : goal.returns
-returns c =
-    let left = c.args.packing.bits * (c.args.packing.room - c.args.at) in
-    omega (
-      arith,
-      c.requires.key,
-      c.last_bits.ensures ∙ ap (λ (n : ℕ). n % 2 ^ left) c.requires.key,
-      front_is c.args.packing.bits c.args.packing.room c.args.at c.args.word.now c.requires.over c.requires.fits c.requires.within,
-    )
+pub returns-clause-is : goal.returns-clause-is
+returns-clause-is c = (front_as c.args.packing.bits c.args.packing.room c.args.word _ c.requires.word c.requires.within
+    (omega (arith, c.last_bits-rest.ensures))).is
+
+pub returns-clause-letters : goal.returns-clause-letters
+returns-clause-letters c = (front_as c.args.packing.bits c.args.packing.room c.args.word _ c.requires.word c.requires.within
+    (omega (arith, c.last_bits-rest.ensures))).letters
