@@ -13,4 +13,3 @@ pub mod Echelons
 pub mod HeldLeaders
 pub mod Gathered
 pub mod OneForm
-pub mod SwappedRows

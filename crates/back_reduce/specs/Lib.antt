@@ -8,4 +8,3 @@ pub mod Pivots
 pub mod Table
 pub mod Sequential
 pub mod Leaders
-pub mod Swapped

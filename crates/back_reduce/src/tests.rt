@@ -1,5 +1,3 @@
-mod swapped;
-
 ghost use Rattle.std.specs.Prelude.{◌≡◌, IfOk, IfSome};
 
 use crate::NoMemory;
@@ -11,7 +9,6 @@ use crate::row::Row;
 use field_table::{Field, listed_moduli_law};
 use std::alloc::Global;
 use std::test::Fail;
-use swapped::swapped_pivots;
 
 /// The problem of n rows of m residues modulo 101, where the cells are that.
 fn problem_of(alloc: Global, m: u32, n: u32, cells: &[u32]) -> Result<Option<Problem>, NoMemory>
@@ -71,21 +68,5 @@ fn rows_have_their_echelon_form(rt: HostRuntime) -> Result<(), Fail> {
         let given = joined(alloc, pivots.problem().rows.as_slice())?;
         assert_eq!(rt; given.as_slice(), cells);
     }
-    Ok(())
-}
-
-/// The second of the rows (1, 2, 3) and (2, 4, 7) holds column 0 when it comes first, as (1, 2, 54).
-#[test]
-fn pivots_in_another_order_have_the_same_form(rt: HostRuntime) -> Result<(), Fail> {
-    listed_moduli_law();
-    let alloc = rt.alloc();
-    let field = Field::new(alloc, 101)?;
-    let pivots = swapped_pivots(alloc, &field, &[1, 2, 3], &[2, 4, 7])?;
-    let held = [pivots.holder(0), pivots.holder(1), pivots.holder(2)];
-    assert_eq!(rt; held, [Some(1), None, Some(0)]);
-    assert_eq!(rt; pivots.value(0, 2), 54);
-    let echelon = reduced(&rt, alloc, &field, &pivots)?;
-    let found = joined(alloc, echelon.as_slice())?;
-    assert_eq!(rt; found.as_slice(), [1, 2, 0, 0, 0, 1].as_slice());
     Ok(())
 }

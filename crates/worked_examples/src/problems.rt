@@ -197,8 +197,9 @@ fn assert_one_form<R: Abort + Threads + Sync>(
 #[test]
 fn each_schedule_finds_one_echelon_form(rt: HostRuntime) -> Result<(), Fail> {
     let alloc = rt.alloc();
-    let cases: [(u32, u32, u32, &[u32]); 4] = [
+    let cases: [(u32, u32, u32, &[u32]); 5] = [
         (101, 2, 2, &[1, 100, 1, 100]),
+        (101, 3, 2, &[1, 2, 3, 2, 4, 7]),
         (7, 3, 4, &[1, 2, 3, 2, 4, 6, 0, 1, 4, 0, 0, 0]),
         (
             2,
