@@ -15,13 +15,14 @@ pub(crate) struct Deal {
 }
 
 impl Deal {
-    /// Two hands for each processor: a hand is what a thread gets. Parts have eight rows where rows are many.
+    /// A hand for each processor: a hand is what a thread gets. Parts have eight rows where rows are many.
     pub(crate) fn new(processors: usize, rows: usize) -> Deal
+        requires some { 0 < processors }
         requires few { rows ≤ 1048576 }
         ensures whole { rows ≤ result.hands * result.turns * result.size }
     {
         let size = if rows < 32 { 1 } else { 8 };
-        let hands = (processors.min(32) + 1).next_power_of_two();
+        let hands = processors.min(32).next_power_of_two();
         let turns = rows.div_ceil(size * hands);
         Deal { size, hands, turns }
     }

@@ -21,14 +21,14 @@ returns g c =
     ap₂ range_with_len start (omega (arith, start, end)) in
     let h = c.in_ok-collect.ensures in
     let f = c.map_init.result.f in
-    let R : ℕ → Vec (List ℕ) Global → Type 0 = λ place left. AreContestedRows f.1.now f.2.now.columns f.2.now.reducers
-    (part_of f.5.size f.6.now (turned f.5.turns f.5.hands place)) left.items in
+    let R : ℕ → Vec (List ℕ) Global → Type 0 = λ place left. AreContestedRows f.3.now f.4.now.columns f.4.now.reducers
+    (part_of f.0.size f.1.now (turned f.0.turns f.0.hands place)) left.items in
     let each = AllZip-weaken (λ (place : ℕ) r. (before : MutBor Buffer) × (after : MutBor Buffer) × IfOk r (R place))
     (λ place r. IfOk r (R place)) (λ place r own. own.2) h.1.0 h.0 h.1.2 in
     let all = gathered (λ place. place) (λ v. v.items) R (range_with_len 0 (c.args.deal.hands * c.args.deal.turns)) h.1.0 h.0 c.in_ok-collect.field-0
     (map-id h.1.0 ∙ h.1.1 ∙ places) each h.2 in
-    subst (λ f. IfOk c.in_ok-collect.field-0 (λ v. AllZip (λ (place : ℕ) left. AreContestedRows f.1.now f.2.now.columns f.2.now.reducers
-    (part_of f.5.size f.6.now (turned f.5.turns f.5.hands place)) left.items)
+    subst (λ f. IfOk c.in_ok-collect.field-0 (λ v. AllZip (λ (place : ℕ) left. AreContestedRows f.3.now f.4.now.columns f.4.now.reducers
+    (part_of f.0.size f.1.now (turned f.0.turns f.0.hands place)) left.items)
     (range_with_len 0 (c.args.deal.hands * c.args.deal.turns)) v.items)) c.map_init.ensures.f all
 
 pub collect-requires-clause-ready : goal.collect-requires-clause-ready
@@ -44,7 +44,7 @@ collect-requires-clause-ready g c κs within = (
         let below : k < it.end - it.start = omega (arith, low, length-range_with_len it.start (it.end - it.start)) in
         let inside : place < c.args.deal.hands * c.args.deal.turns =
         omega (arith, get_or-range_with_len it.start (it.end - it.start) k d below, below, start, end) in
-        subst (λ f. (place < f.5.hands * f.5.turns) × All (IsRowAmong f.1.now f.2.now f.3.now) f.6.now) (sym c.map_init.ensures.f) (inside, c.requires)),
+        subst (λ f. (place < f.0.hands * f.0.turns) × All (IsRowAmong f.3.now f.4.now f.5.now) f.1.now) (sym c.map_init.ensures.f) (inside, c.requires)),
     λ p q y h. tt,
   ),
 )
