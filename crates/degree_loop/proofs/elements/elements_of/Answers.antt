@@ -37,19 +37,13 @@ returns-then-count-from-clause-limit g c = λ kind degree value e.
     let below = c.args.below.now in
     let closed = c.args.closed.now in
     let problem = g.P.PivotRows.given c.args.pivots.now in
-    let lower = c.lower_law.ensures.lower ideal c.setting_law.ensures c.args.d below
-    (record {
-      kept = c.done-done.ensures.kept;
-      next = sym c.requires.next;
-      same_weights = c.requires.weights;
-      reduced = c.requires.reduced;
-    }) in
+    let law = c.next_degree_law.ensures in
     let elements = c.in_ok-elements.elements.items in
     let columns : c.contested.result.now ≡ contested_words closed.columns closed.reducers = c.contested.ensures in
     let made : elements ≡ map (element_on c.contested.result.now) c.in_ok-echelon.echelon.items =
     c.in_ok-elements.ensures ∙ ap (map (element_on c.contested.result.now)) c.as_slice.ensures.value in
     let basis = basis_of ideal below.elements c.args.d closed problem c.requires.matrix c.rows_law.ensures.basis
-    c.setting_law.ensures lower c.in_ok-echelon.echelon.items c.in_ok-echelon.ensures
+    law.setting law.lower c.in_ok-echelon.echelon.items c.in_ok-echelon.ensures
     c.contested.result.now columns elements made in
     let count : c.saturating_add-count.result ≡ min (min (terms_in below.elements) (2 ^ 64 - 1) + min (terms_in elements) (2 ^ 64 - 1)) (2 ^ 64 - 1) =
     omega (arith, c.saturating_add-count.ensures, c.terms_below.ensures, c.terms_of.ensures, ap terms_in c.as_slice-2.ensures.value) in
@@ -62,20 +56,14 @@ returns-clause-elements g c =
     let below = c.args.below.now in
     let closed = c.args.closed.now in
     let problem = g.P.PivotRows.given c.args.pivots.now in
-    let lower = c.lower_law.ensures.lower ideal c.setting_law.ensures c.args.d below
-    (record {
-      kept = c.done-done.ensures.kept;
-      next = sym c.requires.next;
-      same_weights = c.requires.weights;
-      reduced = c.requires.reduced;
-    }) in
+    let law = c.next_degree_law.ensures in
     let elements = c.in_ok-elements.elements.items in
     let columns : c.contested.result.now ≡ contested_words closed.columns closed.reducers = c.contested.ensures in
     let made : elements ≡ map (element_on c.contested.result.now) c.in_ok-echelon.echelon.items =
     c.in_ok-elements.ensures ∙ ap (map (element_on c.contested.result.now)) c.as_slice.ensures.value in
     subst (IsReducedBasis ideal c.args.d) (sym c.from_vec.ensures)
     (basis_of ideal below.elements c.args.d closed problem c.requires.matrix c.rows_law.ensures.basis
-    c.setting_law.ensures lower c.in_ok-echelon.echelon.items c.in_ok-echelon.ensures
+    law.setting law.lower c.in_ok-echelon.echelon.items c.in_ok-echelon.ensures
     c.contested.result.now columns elements made)
 
 pub returns-clause-few : goal.returns-clause-few
