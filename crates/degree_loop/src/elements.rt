@@ -9,7 +9,7 @@ ghost use Rattle.ideal_laws.specs.Quantities.{IsFirstPassing, IsQuantity, NonePa
 ghost use Rattle.free_poly.specs.Poly.{element_on};
 ghost use Rattle.degree_loop.specs.Matrix.{IsMatrix};
 
-use crate::terms::{terms_below, terms_of};
+use crate::terms::terms_with;
 use back_reduce::{PivotRows, Row, reduced};
 use field_table::Field;
 use free_poly::Poly;
@@ -50,7 +50,7 @@ pub fn elements_of<R: Threads + Sync, P: PivotRows>(
     rows_law();
     let echelon = reduced(rt, alloc, field, pivots)?;
     let elements = elements_on(alloc, closed.contested(), echelon.as_slice())?;
-    let count = terms_below(below).saturating_add(terms_of(elements.as_slice()));
+    let count = terms_with(below, elements.as_slice());
     if count > u64::from(most) {
         return Err(EngineFault::Limit {
             kind: LimitKind::Terms,
