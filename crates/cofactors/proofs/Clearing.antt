@@ -11,10 +11,9 @@ use Rattle.free_poly.specs.declared.term.Term.{Term}
 use Rattle.free_poly.specs.Poly.{IsMonic, IsPolynomial, lead_or_none}
 use Rattle.free_poly.specs.Terms.{scaled, total_at}
 use Rattle.free_poly.proofs.NormalForms.{above_all}
-use Rattle.free_poly.proofs.Totals.{AreApart-from_polynomial, total_at-append, total_at-found, total_at-scaled}
+use Rattle.free_poly.proofs.Totals.{AreApart-from_polynomial, total_at-append, total_at-found, total_at-scaled, total_residue}
 use Rattle.cofactors.specs.declared.row.Row.{Row}
 use Rattle.cofactors.specs.Rows.{IsPlusSpan, IsPlusTimes, IsRow, IsTracked, IsZeroAtLeads, combined, lead_word}
-use Rattle.cofactors.proofs.Residues.{total_residue}
 
 -- a sum and a times another, at a word
 pub total-plus : (a : ℕ) (f g : List Term) (w : List ℕ) → total_at (f ++ scaled a g) w ≡ total_at f w + a * total_at g w

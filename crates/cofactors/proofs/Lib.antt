@@ -12,5 +12,4 @@ pub mod Certificates
 pub mod ProductLists
 pub mod FreeWords
 pub mod Echelon
-pub mod Residues
 pub mod Examples

@@ -6,7 +6,6 @@ use Rattle.words.proofs.Degrees.{words_of_degree-says}
 use Rattle.words.proofs.Members.{All-from_members, Contains-flat_map, Contains-map}
 use Rattle.free_poly.specs.declared.term.Term.{Term}
 use Rattle.free_poly.specs.Terms.{HasDegree, HasResidues, UsesLetters}
-use Rattle.free_poly.specs.Poly.{IsPolynomial}
 use Rattle.ideal_laws.specs.Ideal.{Ideal}
 use Rattle.ideal_laws.specs.declared.limits.LimitKind.{LimitKind}
 use Rattle.ideal_laws.specs.declared.limits.LimitKind.TheVariants.{PlainWords, Rows, Columns, Entries, Cells, Terms, NormalWords}
@@ -23,12 +22,6 @@ use Rattle.row_store.specs.Contested.{IsCellQuantity, IsOnColumns}
 use Rattle.degree_loop.proofs.Contested.{length-contested}
 
 module _ (ideal : Ideal) (st : IsSetting ideal) (d : ℕ) (G : List (List Term)) (lower : AreLower ideal d G) where
-  pub below_forms : All IsPolynomial G
-  below_forms = All-from_members IsPolynomial G (λ g m. ((lower g).0 m).2.inside.element.form)
-
-  pub below_residues : All (HasResidues ideal.modulus) G
-  below_residues = All-from_members (HasResidues ideal.modulus) G (λ g m. ((lower g).0 m).2.inside.element.residues)
-
   module _ (rows : List (List Term)) (are : AreRows ideal G d rows) where
     term_says : (f : List Term) → Contains rows f → (t : Term) → Contains f t → IsOver (length ideal.weights) t.word × (degree_of ideal.weights t.word ≡ d)
     term_says f m t n = words_of_degree-says ideal.weights st.are_weights d t.word

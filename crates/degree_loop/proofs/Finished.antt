@@ -1,5 +1,5 @@
 -- The elements of a degree, from the echelon form of its matrix.
-use Rattle.std.proofs.Common.{◌≡◌, Err, Result, ◌+◌, ◌-◌, ◌^◌, ◌<◌, ◌≤◌, ℕ, List, [], ◌∷◌, All, inl, length, map, min, sym, ap, ◌∙◌}
+use Rattle.std.proofs.Common.{◌≡◌, Err, Result, ◌+◌, ◌-◌, ◌^◌, ◌<◌, ◌≤◌, ℕ, List, [], ◌∷◌, All, inl, length, map, min, sym, ◌∙◌}
 use Rattle.std.proofs.Common.{arith, subst, refl}
 use Rattle.std.proofs.lemmas.Slice.Zip.{AllZip-long}
 use Rattle.words.proofs.Members.{All-from_members}
@@ -33,12 +33,12 @@ module _ (ideal : Ideal) (G : List (List Term)) (d : ℕ) (closed : ClosedColumn
       (subst (λ (n : ℕ). IsRref n problem.m (rows_of problem) echelon) h.modulus f)
 
   pub basis_of : (law : RowsGiveBasis) (st : IsSetting ideal) (lower : AreLower ideal d G) (echelon : List (List ℕ))
-      → IsRref problem.modulus problem.m (rows_of problem) echelon → (columns : List (List ℕ)) → columns ≡ contested
-      → (elements : List (List Term)) → elements ≡ map (element_on columns) echelon → IsReducedBasis ideal d elements
-  basis_of law st lower echelon f columns are elements is =
+      → IsRref problem.modulus problem.m (rows_of problem) echelon
+      → (elements : List (List Term)) → elements ≡ map (element_on contested) echelon → IsReducedBasis ideal d elements
+  basis_of law st lower echelon f elements is =
       let own = law ideal st d G lower h.rows closed.columns closed.reducers h.are_closed (rows_of problem) h.contested
       echelon (form_of echelon f) in
-      subst (IsReducedBasis ideal d) (sym (is ∙ ap (λ (ws : List (List ℕ)). map (element_on ws) echelon) are)) own
+      subst (IsReducedBasis ideal d) (sym is) own
 
 -- the problem has as many rows as the degree
 pub count_rows : (ideal : Ideal) (G : List (List Term)) (d : ℕ) (closed : ClosedColumns) (problem : Problem) →
@@ -52,7 +52,7 @@ basis_monic ideal d basis h = All-from_members IsMonic basis (λ f m. ((h.exactl
 
 -- the terms pass their limit, or do not
 module _ (ideal : Ideal) (below : Elements) (d most count : ℕ) (elements : List (List Term)) (basis : IsReducedBasis ideal d elements)
-    (few : most < 2 ^ 32) (is : count ≡ min (min (terms_in below.elements) (2 ^ 64 - 1) + min (terms_in elements) (2 ^ 64 - 1)) (2 ^ 64 - 1)) where
+    (few : most < 2 ^ 32) (is : count ≡ min (terms_in below.elements + terms_in elements) (2 ^ 64 - 1)) where
   pub terms_pass : most < count → (kind : LimitKind) (degree value : ℕ) → {T : Type 0} (r : Result T EngineFault) →
       r ≡ Err (Limit Terms d count) → r ≡ Err (Limit kind degree value)
       → (degree ≡ d) × IsFirstPassing (IsQuantity ideal below d) ((Terms, most) ∷ []) kind value

@@ -30,14 +30,21 @@ few_elements ((t ∷ f) ∷ fs) h =
     let rest = few_elements fs (All-tail IsMonic (t ∷ f) fs h) in
     omega (arith, rest, length-append f (flat_map (λ g. g) fs))
 
--- one more relation
-pub of_degree-more : (weights : List ℕ) (d : ℕ) (fs : List (List Term)) (k : ℕ) (f : List Term) (b : Bool) → k < length fs →
-    f ≡ get_or fs k f → of_degree weights d (f ∷ []) ≡ cond b (f ∷ []) []
-    → of_degree weights d (take (k + 1) fs) ≡ of_degree weights d (take k fs) ++ cond b (f ∷ []) []
-of_degree-more weights d fs k f b within is has =
-    ap (of_degree weights d) (take_more fs k f within)
-    ∙ of_degree-append weights d (take k fs) (get_or fs k f ∷ [])
-    ∙ ap (λ (gs : List (List Term)). of_degree weights d (take k fs) ++ gs) (ap (λ (g : List Term). of_degree weights d (g ∷ [])) (sym is) ∙ has)
+-- one more relation, where it has the degree or not
+module _ (weights : List ℕ) (d : ℕ) (fs : List (List Term)) (k : ℕ) (f : List Term) (b : Bool) (within : k < length fs) (is : f ≡ get_or fs k f)
+    (has : of_degree weights d (f ∷ []) ≡ cond b (f ∷ []) []) where
+  of_degree-more : of_degree weights d (take (k + 1) fs) ≡ of_degree weights d (take k fs) ++ cond b (f ∷ []) []
+  of_degree-more =
+      ap (of_degree weights d) (take_more fs k f within)
+      ∙ of_degree-append weights d (take k fs) (get_or fs k f ∷ [])
+      ∙ ap (λ (gs : List (List Term)). of_degree weights d (take k fs) ++ gs) (ap (λ (g : List Term). of_degree weights d (g ∷ [])) (sym is) ∙ has)
+
+  pub of_degree-listed : b ≡ true → of_degree weights d (take (k + 1) fs) ≡ of_degree weights d (take k fs) ++ f ∷ []
+  of_degree-listed e = of_degree-more ∙ ap (λ (c : Bool). of_degree weights d (take k fs) ++ cond c (f ∷ []) []) e
+
+  pub of_degree-left : b ≡ false → of_degree weights d (take (k + 1) fs) ≡ of_degree weights d (take k fs)
+  of_degree-left e = of_degree-more ∙ ap (λ (c : Bool). of_degree weights d (take k fs) ++ cond c (f ∷ []) []) e
+      ∙ append-nil (of_degree weights d (take k fs))
 
 -- a relation by its leading word
 pub of_degree-lead : (weights : List ℕ) (d : ℕ) (f : List Term) (w : List ℕ) (b : Bool) → Some w ≡ lead_of f →

@@ -6,9 +6,7 @@ use Rattle.ideal_laws.specs.declared.limits.LimitKind.{LimitKind}
 use Rattle.ideal_laws.specs.declared.limits.LimitKind.TheVariants.{Cells, Columns, Entries, Rows}
 use Rattle.ideal_laws.specs.declared.limits.Limits.{Limits}
 use Rattle.ideal_laws.specs.Engine.{Elements}
-use Rattle.ideal_laws.specs.Kept.{IsBelow}
-use Rattle.ideal_laws.specs.Laws.{IsSetting}
-use Rattle.ideal_laws.specs.Quantities.{AreRows, HasOneQuantity, IsFirstPassing, IsQuantity, NonePasses, words_of}
+use Rattle.ideal_laws.specs.Quantities.{AreRows, IsFirstPassing, IsQuantity, NonePasses, words_of}
 use Rattle.symbolic_prep.specs.Closed.{ClosedColumns, IsClosed, IsClosedQuantity, closing_limits}
 use Rattle.back_reduce.specs.declared.problem.Problem.{Problem}
 use Rattle.row_store.specs.Contested.{IsCellQuantity, IsContestedProblem}
@@ -68,13 +66,13 @@ module _ (ideal : Ideal) (below : Elements) (d : ℕ) (limits : Limits) where
           (none_together Q (closing_limits limits) cell_limit own_within
           (none_moved (IsCellQuantity rows closed) Q (cell_quantity ideal below d rows are closed is_closed) cell_limit cells))
 
--- the columns are within their limit
-pub few_columns : (ideal : Ideal) → IsSetting ideal → (below : Elements) (d : ℕ) → IsBelow ideal d below → HasOneQuantity → (limits : Limits)
+-- the columns are within their limit, where each quantity is one number
+pub few_columns : (ideal : Ideal) (below : Elements) (d : ℕ) → ((kind : LimitKind) (q r : ℕ) → IsQuantity ideal below d kind q →
+    IsQuantity ideal below d kind r → q ≡ r) → (limits : Limits)
     → (rows : List (List Term)) → AreRows ideal below.elements d rows → (closed : ClosedColumns) → IsClosed below.elements (words_of rows) closed
     → NonePasses (IsClosedQuantity below.elements rows) (closing_limits limits) → length closed.columns ≤ limits.columns
-few_columns ideal st below d is_below one limits rows are closed h within =
-    let Q = IsQuantity ideal below d in
-    let own : Q Columns (length closed.columns) = (rows, closed.columns, are, h.are_columns, refl) in
+few_columns ideal below d one limits rows are closed h within =
+    let own : IsQuantity ideal below d Columns (length closed.columns) = (rows, closed.columns, are, h.are_columns, refl) in
     let other = closed_quantity ideal below d rows are Columns within.0.0 within.0.1 in
-    let same : length closed.columns ≡ within.0.0 = one ideal st d below is_below Columns (length closed.columns) within.0.0 own other in
+    let same : length closed.columns ≡ within.0.0 = one Columns (length closed.columns) within.0.0 own other in
     omega (arith, same, within.0.2)

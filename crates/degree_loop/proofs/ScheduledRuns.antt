@@ -17,7 +17,7 @@ use Rattle.pivot_core.specs.Rule.{Ranges}
 use Rattle.pivot_core.specs.Runs.{HasEnded, State, after_event, opening, state_after, view_at, with_step, word_at}
 use Rattle.pivot_core.specs.Steps.{Stepped, by_phase, is_next, spot_of}
 use Rattle.pivot_core.proofs.EventsMade.{makes_state}
-use Rattle.pivot_core.proofs.Moves.{IsMove, draws, ends, looks_free, looks_held, puts, wins, loses, reads_more, reads_last}
+use Rattle.pivot_core.proofs.Moves.{seat_and_step}
 use Rattle.pivot_core.proofs.RunLaws.{after_events-append}
 use Rattle.pivot_core.proofs.Table.{made_change, move_of}
 use Rattle.field_table.specs.Draws.{next_number}
@@ -36,18 +36,6 @@ some_step problem v phase.Ended old kind.Put e = cc e
 some_step problem v phase.Ended old kind.Claim e = cc e
 some_step problem v phase.Ended old kind.Read e = cc e
 
--- a move is one step
-one_step : {problem : Problem} {v w : Sight} {old x : ℕ} {a : _} → IsMove problem v old w a x → w.steps ≡ v.steps + 1
-one_step (draws k) = k.later.steps
-one_step (ends k) = k.later.steps
-one_step (looks_free k) = k.later.steps
-one_step (looks_held k) = k.later.steps
-one_step (puts k) = k.later.steps
-one_step (wins k) = k.later.steps
-one_step (loses k) = k.later.steps
-one_step (reads_more k) = k.later.steps
-one_step (reads_last k) = k.later.steps
-
 -- the steps of all views
 abbrev pub steps_made : State → ℕ
 steps_made s = sum_by (λ (v : Sight). v.steps) s.views
@@ -65,10 +53,11 @@ one_more_step problem crew s e ranges lt next =
     let sums = change.sums (λ (u : Sight). u.steps) in
     let same : steps_made (after_event problem s e) ≡ steps_made (with_step problem s e.seat (Some some.0)) =
     ap steps_made (makes_state problem s e some.0 there next some.1) in
-    omega (arith, sums, same, one_step (move_of problem v old some.0 some.1))
+    omega (arith, sums, same, (seat_and_step (move_of problem v old some.0 some.1)).1)
 
 -- a machine after events from which on the number chooses the rest of the schedule
 pub record IsSoFar (problem : Problem) (crew schedule : ℕ) (core : Machine) (number : ℕ) : Type 0 where
+  pub setting : IsSetting problem crew
   pub problem_is : core.problem ≡ problem
   pub crew_is : core.crew ≡ crew
   pub events : List Event
@@ -79,10 +68,10 @@ pub record IsSoFar (problem : Problem) (crew schedule : ℕ) (core : Machine) (n
 abbrev pub most_steps : Problem → ℕ → ℕ
 most_steps problem crew = problem.n * steps_of_row problem.m + crew
 
-module _ (laws : ClaimedPivotsLaw) (counts : StepCounts) (problem : Problem) (crew schedule : ℕ) (setting : IsSetting problem crew) where
+module _ (laws : ClaimedPivotsLaw) (counts : StepCounts) (problem : Problem) (crew schedule : ℕ) where
   module _ (core : Machine) (number : ℕ) (h : IsSoFar problem crew schedule core number) where
     so_far_ranges : Ranges problem crew core.state
-    so_far_ranges = subst (Ranges problem crew) (sym h.reached) (laws problem crew setting h.events).ranges
+    so_far_ranges = subst (Ranges problem crew) (sym h.reached) (laws problem crew h.setting h.events).ranges
 
     pub so_far_views : length core.state.views ≡ crew
     so_far_views = so_far_ranges.count
@@ -103,6 +92,7 @@ module _ (laws : ClaimedPivotsLaw) (counts : StepCounts) (problem : Problem) (cr
 
       pub next_so_far : after.problem ≡ core.problem → after.crew ≡ core.crew → IsSoFar problem crew schedule after found
       next_so_far problem_is crew_is = record {
+        setting = h.setting;
         problem_is = problem_is ∙ h.problem_is;
         crew_is = crew_is ∙ h.crew_is;
         events = h.events ++ e ∷ [];
@@ -122,7 +112,7 @@ module _ (laws : ClaimedPivotsLaw) (counts : StepCounts) (problem : Problem) (cr
           ∙ one_more_step problem crew core.state e so_far_ranges lt own_chosen.kind in
           let most : steps_made after.state ≤ most_steps problem crew =
           subst (λ (s : State). steps_made s ≤ most_steps problem crew) (sym reached_next)
-          (counts problem crew setting (h.events ++ e ∷ [])).all_steps in
+          (counts problem crew h.setting (h.events ++ e ∷ [])).all_steps in
           omega (arith, one, most)
 
     pub ended_schedule : HasEnded core.problem core.state → (f : Finished) → f.problem ≡ core.problem → f.logs ≡ logs_of core.state →

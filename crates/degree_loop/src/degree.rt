@@ -1,9 +1,8 @@
-ghost use Rattle.std.specs.Prelude.{◌≡◌, ◌+◌, ◌≤◌, ℕ, All, Err, IfOk, OnOk, length};
-ghost use Rattle.free_poly.specs.Terms.{HasResidues};
+ghost use Rattle.std.specs.Prelude.{◌≡◌, ◌≤◌, ℕ, Err, IfOk, OnOk, length};
 ghost use Rattle.ideal_laws.specs.Ideal.{ideal_of};
 ghost use Rattle.ideal_laws.specs.declared.limits.LimitKind.{LimitKind};
 ghost use Rattle.ideal_laws.specs.Basis.{IsReducedBasis};
-ghost use Rattle.ideal_laws.specs.Engine.{IsReducedUpto};
+ghost use Rattle.ideal_laws.specs.Engine.{IsNextDegree};
 ghost use Rattle.ideal_laws.specs.Limits.{AreLimits};
 ghost use Rattle.ideal_laws.specs.Quantities.{IsFirstPassing, IsQuantity, NonePasses};
 ghost use Rattle.degree_loop.specs.Accounts.{IsAccountOf};
@@ -30,11 +29,7 @@ pub fn degree_by<R: Threads + Sync, F: PivotFinder>(
     limits: &Limits,
     finder: &F,
 ) -> Result<DegreeReport, EngineFault>
-    requires next { d ≡ below.now.done + 1 }
-    requires small { d ≤ 64 }
-    requires weights { below.now.weights ≡ presentation.now.alphabet.weights }
-    requires reduced { IsReducedUpto field.now presentation.now.relations below.now }
-    requires residues { All (HasResidues field.now) presentation.now.relations }
+    requires next { IsNextDegree field.now presentation.now below.now d }
     requires limits { AreLimits limits.now }
 
     ensures elements { IfOk result (λ report. IsReducedBasis (ideal_of field.now presentation.now) d report.elements) }

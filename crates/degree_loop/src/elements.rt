@@ -1,20 +1,19 @@
-ghost use Rattle.std.specs.Prelude.{◌≡◌, ◌+◌, ◌<◌, ◌≤◌, ◌∷◌, [], ℕ, All, AllPairs, Err, IfOk, OnOk, length, map};
+ghost use Rattle.std.specs.Prelude.{◌≡◌, ◌≤◌, ◌∷◌, [], ℕ, All, AllPairs, Err, IfOk, OnOk, length, map};
 ghost use Rattle.words.specs.Order.{IsLetterwiseGreater};
-ghost use Rattle.free_poly.specs.Terms.{HasResidues};
 ghost use Rattle.ideal_laws.specs.Ideal.{ideal_of};
 ghost use Rattle.ideal_laws.specs.declared.limits.LimitKind.{LimitKind};
 ghost use Rattle.ideal_laws.specs.declared.limits.LimitKind.TheVariants.{Terms};
 ghost use Rattle.ideal_laws.specs.Basis.{IsReducedBasis};
-ghost use Rattle.ideal_laws.specs.Engine.{IsReducedUpto};
+ghost use Rattle.ideal_laws.specs.Engine.{IsNextDegree};
 ghost use Rattle.ideal_laws.specs.Quantities.{IsFirstPassing, IsQuantity, NonePasses};
 ghost use Rattle.free_poly.specs.Poly.{element_on};
 ghost use Rattle.degree_loop.specs.Matrix.{IsMatrix};
 
-use crate::terms::{terms_below, terms_of};
+use crate::terms::terms_with;
 use back_reduce::{PivotRows, Row, reduced};
 use field_table::Field;
 use free_poly::Poly;
-use ideal_laws::{Basis, EngineFault, LimitKind, Presentation, lower_law, setting_law};
+use ideal_laws::{Basis, EngineFault, LimitKind, Presentation, next_degree_law};
 use row_laws::{element_of, rows_law};
 use std::alloc::Global;
 use std::thread::Threads;
@@ -34,11 +33,7 @@ pub fn elements_of<R: Threads + Sync, P: PivotRows>(
     pivots: &P,
     most: u32,
 ) -> Result<Items<Poly>, EngineFault>
-    requires next { d ≡ below.now.done + 1 }
-    requires small { d ≤ 64 }
-    requires weights { below.now.weights ≡ presentation.now.alphabet.weights }
-    requires reduced { IsReducedUpto field.now presentation.now.relations below.now }
-    requires residues { All (HasResidues field.now) presentation.now.relations }
+    requires next { IsNextDegree field.now presentation.now below.now d }
     requires matrix { IsMatrix (ideal_of field.now presentation.now)
         below.now.elements d closed.now (P.given pivots.now) }
 
@@ -51,13 +46,11 @@ pub fn elements_of<R: Threads + Sync, P: PivotRows>(
         → (degree ≡ d) × IsFirstPassing (IsQuantity (ideal_of field.now presentation.now) below.now d)
         ((Terms, most) ∷ []) kind value }
 {
-    lower_law();
+    next_degree_law(field, presentation, below, d);
     rows_law();
-    setting_law(field, presentation);
-    let _done = below.done();
     let echelon = reduced(rt, alloc, field, pivots)?;
     let elements = elements_on(alloc, closed.contested(), echelon.as_slice())?;
-    let count = terms_below(below).saturating_add(terms_of(elements.as_slice()));
+    let count = terms_with(below, elements.as_slice());
     if count > u64::from(most) {
         return Err(EngineFault::Limit {
             kind: LimitKind::Terms,

@@ -1,8 +1,7 @@
-ghost use Rattle.std.specs.Prelude.{◌≡◌, ◌+◌, ◌≤◌, ℕ, All, Err, IfOk, OnOk};
-ghost use Rattle.free_poly.specs.Terms.{HasResidues};
+ghost use Rattle.std.specs.Prelude.{◌≡◌, ℕ, Err, IfOk, OnOk};
 ghost use Rattle.ideal_laws.specs.Ideal.{ideal_of};
 ghost use Rattle.ideal_laws.specs.declared.limits.LimitKind.{LimitKind};
-ghost use Rattle.ideal_laws.specs.Engine.{IsReducedUpto};
+ghost use Rattle.ideal_laws.specs.Engine.{IsNextDegree};
 ghost use Rattle.ideal_laws.specs.Limits.{AreLimits};
 ghost use Rattle.ideal_laws.specs.Quantities.{IsFirstPassing, IsQuantity, NonePasses};
 ghost use Rattle.degree_loop.specs.Limits.{matrix_limits};
@@ -11,9 +10,7 @@ ghost use Rattle.degree_loop.specs.Matrix.{IsMatrix};
 use crate::rows::rows_of_degree;
 use back_reduce::Problem;
 use field_table::Field;
-use ideal_laws::{
-    Basis, EngineFault, Limits, Presentation, lower_law, quantities_law, setting_law,
-};
+use ideal_laws::{Basis, EngineFault, Limits, Presentation, next_degree_law};
 use lead_index::index_of;
 use row_store::contested_rows;
 use std::alloc::Global;
@@ -38,11 +35,7 @@ pub fn matrix_of<R: Threads + Sync>(
     d: u32,
     limits: &Limits,
 ) -> Result<Matrix, EngineFault>
-    requires next { d ≡ below.now.done + 1 }
-    requires small { d ≤ 64 }
-    requires weights { below.now.weights ≡ presentation.now.alphabet.weights }
-    requires reduced { IsReducedUpto field.now presentation.now.relations below.now }
-    requires residues { All (HasResidues field.now) presentation.now.relations }
+    requires next { IsNextDegree field.now presentation.now below.now d }
     requires limits { AreLimits limits.now }
 
     ensures matrix { IfOk result (λ matrix. IsMatrix (ideal_of field.now presentation.now) below.now.elements d
@@ -54,13 +47,11 @@ pub fn matrix_of<R: Threads + Sync>(
         → (degree ≡ d) × IsFirstPassing (IsQuantity (ideal_of field.now presentation.now) below.now d)
         (matrix_limits limits.now) kind value }
 {
-    lower_law();
-    quantities_law();
-    setting_law(field, presentation);
-    let _done = below.done();
+    next_degree_law(field, presentation, below, d);
     let rows = rows_of_degree(alloc, field, presentation, below, d, limits.rows)?;
+    let rows = rows.as_slice();
     let index = index_of(alloc, below)?;
-    let closed = close(alloc, field, below, &index, rows.as_slice(), d, limits)?;
-    let problem = contested_rows(rt, alloc, field, &closed, rows.as_slice(), d, limits)?;
+    let closed = close(alloc, field, below, &index, rows, d, limits)?;
+    let problem = contested_rows(rt, alloc, field, &closed, rows, d, limits)?;
     Ok(Matrix { closed, problem })
 }

@@ -59,7 +59,7 @@ fn going_count(core: &Core, crew: u32) -> u32
 {
     let mut count = 0;
     for seat in 0..crew {
-        if goes_on(core.view(seat).phase) {
+        if goes_on(core, seat) {
             count += 1;
         }
     }
@@ -77,7 +77,7 @@ fn seat_at(core: &Core, crew: u32, place: u32) -> u32
 {
     let mut before = 0;
     for seat in 0..crew {
-        if goes_on(core.view(seat).phase) {
+        if goes_on(core, seat) {
             if before == place {
                 return seat;
             }
@@ -87,11 +87,12 @@ fn seat_at(core: &Core, crew: u32, place: u32) -> u32
     unreachable!()
 }
 
-/// Whether a view in this phase has not ended.
-fn goes_on(phase: Phase) -> bool
-    ensures { result ≡ (is_ended phase == 0) }
+/// Whether the seat has not ended.
+fn goes_on(core: &Core, seat: u32) -> bool
+    requires { seat < core.now.crew }
+    ensures { result ≡ (is_ended (view_at core.now.problem core.now.state seat).phase == 0) }
 {
-    match phase {
+    match core.view(seat).phase {
         Phase::Ended => false,
         _ => true,
     }

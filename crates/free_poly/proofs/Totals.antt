@@ -1,8 +1,8 @@
 -- What a sum of terms has at a word.
 use Rattle.std.proofs.Common.{ap₂, ◌*◌, Bool, mul-zero, ◌≡◌, ◌≢◌, ◌+◌, ◌<◌, ℕ, suc, zero, true, false, cond, List, [], ◌∷◌, ◌++◌, length, get_or}
-use Rattle.std.proofs.Common.{refl, sym, ap, ◌∙◌, arith, bytes_eq, add_assoc, zero-add, add-zero, All, AllPairs}
+use Rattle.std.proofs.Common.{refl, sym, ap, ◌∙◌, arith, bytes_eq, add_assoc, zero-add, add-zero, All, AllPairs, inl, inr, subst}
 use Rattle.std.proofs.Math.Nat.{mul-add}
-use Rattle.std.proofs.lemmas.Bool.{false_from_ne_true}
+use Rattle.std.proofs.lemmas.Bool.{cases_Bool, false_from_ne_true}
 use Rattle.std.proofs.lemmas.List.Elements.{All-head, All-tail}
 use Rattle.std.proofs.lemmas.Slice.Eq.{bytes_eq-Decides}
 use Rattle.std.specs.Ordering.{nat_cmp, ordering_then}
@@ -10,7 +10,7 @@ use Rattle.std.specs.declared.cmp.Ordering.{Ordering}
 use Rattle.words.specs.Order.{IsLetterwiseGreater, letterwise_cmp}
 use Rattle.words.proofs.OrderFacts.{self_cmp}
 use Rattle.free_poly.specs.declared.term.Term.{Term}
-use Rattle.free_poly.specs.Terms.{scaled, total_at}
+use Rattle.free_poly.specs.Terms.{HasResidues, scaled, total_at}
 use Rattle.free_poly.specs.Poly.{IsPolynomial}
 
 pub not_here : (a b : List ℕ) → a ≢ b → bytes_eq a b ≡ false
@@ -51,6 +51,20 @@ rest_apart t f h k d within e = h zero (suc k) d (omega arith) (omega arith) (sy
 
 pub AreApart-tail : (t : Term) (f : List Term) → AreApart (t ∷ f) → AreApart f
 AreApart-tail t f h i j d below within = h (suc i) (suc j) d (omega arith) (omega arith)
+
+-- a polynomial has residues at all words
+pub total_residue : (p : ℕ) → 0 < p → (f : List Term) → AreApart f → HasResidues p f → (w : List ℕ) → total_at f w < p
+total_residue p pos [] h r w = pos
+total_residue p pos (t ∷ f) h r w = elim (cases_Bool (bytes_eq t.word w)) [
+  | inl is ↦
+      let own = (bytes_eq-Decides t.word w).0 is in
+      let none : total_at f w ≡ 0 = total_at-absent f w (λ k d within e. h zero (suc k) d (omega arith) (omega (arith, within)) (own ∙ sym e)) in
+      subst (λ (n : ℕ). n < p) (sym (ap₂ (λ (b : Bool) (n : ℕ). cond b t.coefficient 0 + n) is none ∙ add-zero t.coefficient))
+      (All-head (λ s. s.coefficient < p) t f r)
+  | inr other ↦
+      subst (λ (n : ℕ). n < p) (sym (ap (λ (b : Bool). cond b t.coefficient 0 + total_at f w) other ∙ zero-add (total_at f w)))
+      (total_residue p pos f (AreApart-tail t f h) (All-tail (λ s. s.coefficient < p) t f r) w)
+]
 
 -- at a word of its own a sum has the coefficient of its term
 pub total_at-found : (f : List Term) (i : ℕ) (d : Term) (w : List ℕ) → AreApart f → i < length f → (get_or f i d).word ≡ w →

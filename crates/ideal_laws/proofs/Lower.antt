@@ -9,11 +9,11 @@ use Rattle.std.proofs.lemmas.List.Elements.{All-contains, All-head}
 use Rattle.std.proofs.lemmas.Option.{get_or_from_slice_get, slice_get_within}
 use Rattle.std.proofs.lemmas.Slice.Eq.{bytes_eq-Decides}
 use Rattle.words.specs.Words.{AreWeights, degree_of}
-use Rattle.words.proofs.Members.{Contains-cases, Contains-first, Contains-more, Contains-none}
+use Rattle.words.proofs.Members.{All-from_members, Contains-cases, Contains-first, Contains-more, Contains-none}
 use Rattle.words.proofs.Weights.{degree_of-positive}
 use Rattle.free_poly.specs.declared.term.Term.{Term}
-use Rattle.free_poly.specs.Terms.{HasDegree, product, total_at}
-use Rattle.free_poly.specs.Poly.{IsMonic, lead_of}
+use Rattle.free_poly.specs.Terms.{HasDegree, HasResidues, product, total_at}
+use Rattle.free_poly.specs.Poly.{IsMonic, IsPolynomial, lead_of}
 use Rattle.free_poly.proofs.Products.{degree_of-round}
 use Rattle.free_poly.proofs.Totals.{letterwise-apart}
 use Rattle.ideal_laws.specs.Ideal.{Ideal, IsMultiple, Multiple, ideal_over, terms_of}
@@ -161,3 +161,11 @@ pub lists_factor_free : ListsFactorFree
 lists_factor_free ideal st d below h =
     factor_free ideal.modulus ideal.relations below (subst (λ (ws : List ℕ). IsSetting (record ideal { weights = ws })) (sym h.same_weights) st) h.kept
     h.reduced
+
+-- so its elements are polynomials with residues
+module _ (ideal : Ideal) (d : ℕ) (G : List (List Term)) (lower : AreLower ideal d G) where
+  pub lower_forms : All IsPolynomial G
+  lower_forms = All-from_members IsPolynomial G (λ g m. ((lower g).0 m).2.inside.element.form)
+
+  pub lower_residues : All (HasResidues ideal.modulus) G
+  lower_residues = All-from_members (HasResidues ideal.modulus) G (λ g m. ((lower g).0 m).2.inside.element.residues)

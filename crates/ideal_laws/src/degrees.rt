@@ -6,7 +6,7 @@ ghost use Rattle.ideal_laws.specs.declared.account.Account.{Account};
 ghost use Rattle.ideal_laws.specs.declared.limits.LimitKind.{LimitKind};
 ghost use Rattle.ideal_laws.specs.declared.presentation.Presentation.{Presentation};
 ghost use Rattle.ideal_laws.specs.Basis.{IsReducedBasis};
-ghost use Rattle.ideal_laws.specs.Engine.{Elements, IsReducedUpto};
+ghost use Rattle.ideal_laws.specs.Engine.{Elements, IsNextDegree, IsReducedUpto};
 ghost use Rattle.ideal_laws.specs.Kept.{IsKept};
 ghost use Rattle.ideal_laws.specs.Quantities.{IsFirstPassing, IsFirstRefused, IsQuantity, NonePasses, NonePassesUpto};
 
@@ -27,10 +27,7 @@ pub fn advance<R: Threads + Sync, E: DegreeEngine>(
     presentation: &Presentation,
     basis: &mut Basis,
 ) -> Result<Account, EngineFault>
-    requires small { basis.old.done < 64 }
-    requires weights { basis.old.weights ≡ presentation.now.alphabet.weights }
-    requires reduced { IsReducedUpto field.now presentation.now.relations basis.old }
-    requires residues { All (HasResidues field.now) presentation.now.relations }
+    requires { IsNextDegree field.now presentation.now basis.old (basis.old.done + 1) }
 
     ensures weights { basis.new.weights ≡ basis.old.weights }
     ensures kept { IsKept basis.old × IsKept basis.new }

@@ -1,13 +1,11 @@
 ghost use Rattle.std.specs.Prelude.{◌≡◌, ◌+◌, ◌++◌, ◌≤◌, ◌<◌, ◌↔◌, ℕ, List, All, Err, IfOk, OnErr, OnOk, length};
 ghost use Rattle.std.specs.Thread.{IsSync};
-ghost use Rattle.free_poly.specs.declared.term.Term.{Term};
-ghost use Rattle.free_poly.specs.Terms.{HasResidues};
 ghost use Rattle.ideal_laws.specs.Ideal.{ideal_of};
 ghost use Rattle.ideal_laws.specs.declared.account.Account.{Account};
 ghost use Rattle.ideal_laws.specs.declared.limits.LimitKind.{LimitKind};
 ghost use Rattle.ideal_laws.specs.declared.presentation.Presentation.{Presentation};
 ghost use Rattle.ideal_laws.specs.Basis.{IsReducedBasis};
-ghost use Rattle.ideal_laws.specs.Engine.{Elements, IsReducedUpto};
+ghost use Rattle.ideal_laws.specs.Engine.{Elements, IsNextDegree};
 ghost use Rattle.ideal_laws.specs.Quantities.{IsFirstPassing, IsQuantity, NonePasses};
 
 use crate::account::Account;
@@ -77,11 +75,7 @@ pub trait DegreeEngine {
         d: u32,
     ) -> Result<DegreeReport, EngineFault>
         requires sync { IsSync R.row }
-        requires next { d ≡ below.now.done + 1 }
-        requires small { d ≤ 64 }
-        requires weights { below.now.weights ≡ presentation.now.alphabet.weights }
-        requires reduced { IsReducedUpto field.now presentation.now.relations below.now }
-        requires residues { All (HasResidues field.now) presentation.now.relations }
+        requires next { IsNextDegree field.now presentation.now below.now d }
 
         ensures elements { IfOk result (λ report. IsReducedBasis (ideal_of field.now presentation.now) d
             report.elements) }

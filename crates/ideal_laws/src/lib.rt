@@ -16,7 +16,7 @@ pub use account::{Account, Answer, Call};
 pub use basis::Basis;
 pub use degrees::{advance, run};
 pub use engine::{DegreeEngine, DegreeReport, EngineFault};
-pub use laws::{basis_laws, lower_law, overlaps_law, quantities_law, setting_law};
+pub use laws::{basis_laws, lower_law, next_degree_law, overlaps_law, quantities_law, setting_law};
 pub use limits::{LimitKind, Limits};
 pub use presentation::Presentation;
 

@@ -5,7 +5,7 @@ ghost use Rattle.free_poly.specs.Poly.{IsMonic};
 ghost use Rattle.free_poly.specs.Terms.{HasResidues, UsesLetters};
 ghost use Rattle.ideal_laws.specs.declared.account.Account.{Account};
 ghost use Rattle.ideal_laws.specs.declared.presentation.Presentation.{Presentation};
-ghost use Rattle.ideal_laws.specs.Engine.{Elements, IsReducedUpto, of_degree};
+ghost use Rattle.ideal_laws.specs.Engine.{Elements, IsNextDegree, IsReducedUpto, of_degree};
 ghost use Rattle.ideal_laws.specs.Kept.{IsKept};
 ghost use Rattle.ideal_laws.specs.Limits.{standard_limits};
 ghost use Rattle.poly_writer.specs.Texts.{degree_text, element_line, series_text};
@@ -158,10 +158,7 @@ fn print_next<R: Threads + Sync, E: DegreeEngine, K: Sink, T: Sink>(
     err: &mut T,
     failed: &mut bool,
 ) -> Result<(), PrintFault>
-    requires small { basis.old.done < 64 }
-    requires weights { basis.old.weights ≡ given.now.alphabet.weights }
-    requires reduced { IsReducedUpto field.now given.now.relations basis.old }
-    requires residues { All (HasResidues field.now) given.now.relations }
+    requires next { IsNextDegree field.now given.now basis.old (basis.old.done + 1) }
     requires printable { asked.trace ≡ true → ArePrintable (E.may_account engine.old) field.now given.now }
 
     ensures weights { basis.new.weights ≡ basis.old.weights }

@@ -149,3 +149,15 @@ module _ (problem : Problem) (v : Sight) (old : ℕ) (w : Sight) (a : Spot) (x :
     loses : IsLostClaim → IsMove
     reads_more : IsMoreRead → IsMove
     reads_last : IsLastRead → IsMove
+
+-- a move keeps the seat and is one step
+pub seat_and_step : {problem : Problem} {v w : Sight} {old x : ℕ} {a : Spot} → IsMove problem v old w a x → (w.seat ≡ v.seat) × (w.steps ≡ v.steps + 1)
+seat_and_step (draws k) = (k.later.seat, k.later.steps)
+seat_and_step (ends k) = (k.later.seat, k.later.steps)
+seat_and_step (looks_free k) = (k.later.seat, k.later.steps)
+seat_and_step (looks_held k) = (k.later.seat, k.later.steps)
+seat_and_step (puts k) = (k.later.seat, k.later.steps)
+seat_and_step (wins k) = (k.later.seat, k.later.steps)
+seat_and_step (loses k) = (k.later.seat, k.later.steps)
+seat_and_step (reads_more k) = (k.later.seat, k.later.steps)
+seat_and_step (reads_last k) = (k.later.seat, k.later.steps)

@@ -19,7 +19,7 @@ use Rattle.pivot_core.proofs.ClaimWords.{few_rows, told}
 use Rattle.pivot_core.proofs.Effects.{claims_cases, won_elsewhere}
 use Rattle.pivot_core.proofs.Zeros.{length-zeros}
 use Rattle.pivot_core.proofs.Moves.{IsMove, IsSettling, IsWonClaim, given_up, goes_on, draws, ends, looks_free, looks_held, puts, wins, loses}
-use Rattle.pivot_core.proofs.Moves.{reads_more, reads_last}
+use Rattle.pivot_core.proofs.Moves.{reads_more, reads_last, seat_and_step}
 
 -- a view by its phase and lists
 sight_of_parts : (m n : ℕ) (w : Sight) (f : Phase) (current seen : List ℕ) → w.phase ≡ f → w.current ≡ current → w.seen ≡ seen →
@@ -95,17 +95,6 @@ module _ (problem : Problem) (v : Sight) (old : ℕ) (w : Sight) (a : Spot) (x :
       settled_sight (difference problem.modulus v.current (set v.seen k.at old)) k.row numbers.0
       (length-plus_multiple problem.modulus (negative_of problem.modulus 1) v.current (set v.seen k.at old) ∙ before.current) k.settling
 
-  pub same_seat : IsMove problem v old w a x → w.seat ≡ v.seat
-  same_seat (draws k) = k.later.seat
-  same_seat (ends k) = k.later.seat
-  same_seat (looks_free k) = k.later.seat
-  same_seat (looks_held k) = k.later.seat
-  same_seat (puts k) = k.later.seat
-  same_seat (wins k) = k.later.seat
-  same_seat (loses k) = k.later.seat
-  same_seat (reads_more k) = k.later.seat
-  same_seat (reads_last k) = k.later.seat
-
 module _ (problem : Problem) (crew : ℕ) (s t : State) (seat : ℕ) (w : Sight) (a : Spot) (x : ℕ) (c : IsChange problem crew s t seat w a x) where
   abbrev Move : Type 0
   Move = IsMove problem (view_at problem s seat) (word_at problem s a) w a x
@@ -119,7 +108,7 @@ module _ (problem : Problem) (crew : ℕ) (s t : State) (seat : ℕ) (w : Sight)
     words = c.word_count ∙ r.words;
     count = c.view_count ∙ r.count;
     seats = each_view problem crew s t seat w a x c (λ i u. u.seat ≡ i)
-        (same_seat problem (view_at problem s seat) (word_at problem s a) w a x (r.views seat c.below) move ∙ r.seats seat c.below)
+        ((seat_and_step move).0 ∙ r.seats seat c.below)
         (λ i lt other. r.seats i lt);
     views = each_view problem crew s t seat w a x c (λ i u. IsSight problem.m problem.n u)
         (sight_after problem (view_at problem s seat) (word_at problem s a) w a x (r.views seat c.below)

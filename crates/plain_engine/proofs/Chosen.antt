@@ -1,36 +1,19 @@
--- Coefficients of polynomials, and the elements row by row.
-use Rattle.std.proofs.Common.{ap₂, ◌≡◌, ◌+◌, ◌<◌, ℕ, zero, suc, Bool, cond, List, [], ◌∷◌, ◌++◌, length, take, get_or, sym, ap, ◌∙◌, inl, inr}
-use Rattle.std.proofs.Common.{arith, All, AllPairs, bytes_eq, add-zero, zero-add, subst, Some}
+-- The elements row by row.
+use Rattle.std.proofs.Common.{◌≡◌, ◌+◌, ◌<◌, ℕ, List, [], ◌∷◌, ◌++◌, length, take, get_or, sym, ap, ◌∙◌, inl, inr}
+use Rattle.std.proofs.Common.{arith, All, AllPairs, subst, Some}
 use Rattle.std.specs.List.{Contains}
 use Rattle.std.proofs.Math.Seq.{get_or-append_seam}
-use Rattle.std.proofs.lemmas.Bool.{cases_Bool, cases_lt}
+use Rattle.std.proofs.lemmas.Bool.{cases_lt}
 use Rattle.std.proofs.lemmas.List.{get_or_append_left, length_push, take_more}
 use Rattle.std.proofs.lemmas.List.Quantifiers.{all_pairs_push}
-use Rattle.std.proofs.lemmas.List.Elements.{All-contains, All-head, All-tail, Contains-append_left, Contains-get_or, Contains-push, Contains-push_cases}
-use Rattle.std.proofs.lemmas.Slice.Eq.{bytes_eq-Decides}
+use Rattle.std.proofs.lemmas.List.Elements.{All-contains, Contains-append_left, Contains-get_or, Contains-push, Contains-push_cases}
 use Rattle.words.specs.Words.{OccursAt}
 use Rattle.free_poly.specs.declared.term.Term.{Term}
-use Rattle.free_poly.specs.Terms.{HasResidues, total_at}
 use Rattle.free_poly.specs.Poly.{lead_of, element_on}
-use Rattle.free_poly.proofs.Totals.{AreApart, AreApart-tail, total_at-absent}
 use Rattle.ideal_laws.specs.Closure.{IsNormal}
 use Rattle.back_reduce.specs.Entries.{IsLead}
 use Rattle.ideal_laws.specs.Basis.{HasGreaterLead}
 use Rattle.plain_engine.specs.Elements.{AreElements, HasNormalLead, StandsAbove}
-
--- a polynomial has residues at all words
-pub total_residue : (p : ℕ) → 0 < p → (f : List Term) → AreApart f → HasResidues p f → (w : List ℕ) → total_at f w < p
-total_residue p pos [] h r w = pos
-total_residue p pos (t ∷ f) h r w = elim (cases_Bool (bytes_eq t.word w)) [
-  | inl is ↦
-      let own = (bytes_eq-Decides t.word w).0 is in
-      let none : total_at f w ≡ 0 = total_at-absent f w (λ k d within e. h zero (suc k) d (omega arith) (omega (arith, within)) (own ∙ sym e)) in
-      subst (λ (n : ℕ). n < p) (sym (ap₂ (λ (b : Bool) (n : ℕ). cond b t.coefficient 0 + n) is none ∙ add-zero t.coefficient))
-      (All-head (λ s. s.coefficient < p) t f r)
-  | inr other ↦
-      subst (λ (n : ℕ). n < p) (sym (ap (λ (b : Bool). cond b t.coefficient 0 + total_at f w) other ∙ zero-add (total_at f w)))
-      (total_residue p pos f (AreApart-tail t f h) (All-tail (λ s. s.coefficient < p) t f r) w)
-]
 
 -- one more element none of whose leading words stands in the word
 pub normal_more : (fs : List (List Term)) (i : ℕ) (e : List Term) (w : List ℕ) → i < length fs → e ≡ get_or fs i e → IsNormal (take i fs) w

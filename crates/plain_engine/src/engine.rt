@@ -7,7 +7,7 @@ use degree_words::{counts_of, lists_of};
 use field_table::Field;
 use ideal_laws::{
     Account, Basis, DegreeEngine, DegreeReport, EngineFault, LimitKind, Limits, Presentation,
-    lower_law, setting_law,
+    next_degree_law,
 };
 use std::alloc::Global;
 use std::thread::Threads;
@@ -49,9 +49,7 @@ impl DegreeEngine for PlainEngine {
         below: &Basis,
         d: u32,
     ) -> Result<DegreeReport, EngineFault> {
-        lower_law();
-        setting_law(field, presentation);
-        let _done = below.done();
+        next_degree_law(field, presentation, below, d);
         let alphabet = &presentation.alphabet;
         let counts = counts_of(alphabet, d);
         let count = counts[d as usize];

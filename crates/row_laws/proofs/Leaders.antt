@@ -52,6 +52,12 @@ module _ (p m : ℕ) (fm : IsFieldModulus p) (cells echelon : List (List ℕ)) (
   abbrev pub led_rows : List (ℕ × N)
   led_rows = zip rref.leads (map row_vector echelon)
 
+  -- a row of the form that leads at the column with this word
+  pub record IsLedBy (columns : List (List ℕ)) (w : List ℕ) : Type 0 where
+    pub row : ℕ × N
+    pub among : Contains led_rows row
+    pub word : get_or columns row.0 [] ≡ w
+
   basis : IsBasis Kn ℕ (range_with_len 0 m) (map row_vector cells) led_rows
   basis = rref.basis fm
 

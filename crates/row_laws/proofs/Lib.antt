@@ -15,4 +15,5 @@ pub mod OneRow
 pub mod Mixtures
 pub mod Leaders
 pub mod NormalLeads
+pub mod RowElements
 pub mod RowBasis

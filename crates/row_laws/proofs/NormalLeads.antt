@@ -25,7 +25,7 @@ use Rattle.row_laws.specs.Contested.{AreContestedRows}
 use Rattle.row_laws.proofs.ClosedColumns.{contested_falling, in_degree}
 use Rattle.row_laws.proofs.ContestedRows.{zero_at_reducible}
 use Rattle.row_laws.proofs.DegreeRows.{term_there}
-use Rattle.row_laws.proofs.Leaders.{first_leads, led_rows}
+use Rattle.row_laws.proofs.Leaders.{IsLedBy, first_leads}
 use Rattle.row_laws.proofs.Mixtures.{ideal_mixed}
 use Rattle.row_laws.proofs.Reducers.{above_lead}
 use Rattle.row_laws.proofs.Spread.{spread, spread-absent, spread-at}
@@ -48,12 +48,6 @@ module _ (ideal : Ideal) (st : IsSetting ideal) (d : ℕ) (G : List (List Term))
   abbrev onto : N → List ℕ → Residue ideal.modulus
   onto e = spread ideal.modulus st.modulus contested e
 
-  -- a row of the form that leads at the column with this word
-  pub record IsLedBy (w : List ℕ) : Type 0 where
-    pub row : ℕ × N
-    pub among : Contains (led_rows ideal.modulus (length contested) st.modulus cells echelon rref) row
-    pub word : get_or contested row.0 [] ≡ w
-
   falling : AllPairs IsLetterwiseGreater contested
   falling = contested_falling columns reducers closed.are_columns.falling
 
@@ -65,10 +59,10 @@ module _ (ideal : Ideal) (st : IsSetting ideal) (d : ℕ) (G : List (List Term))
 
   -- by the member that it leads: above the word the member is 0, so its sum of reducers is, and the rest leads at the
   -- word
-  pub normal_led : (w : List ℕ) → IsLeadingWord ideal d w → IsNormal G w → IsLedBy w
+  pub normal_led : (w : List ℕ) → IsLeadingWord ideal d w → IsNormal G w → IsLedBy ideal.modulus (length contested) st.modulus cells echelon rref contested w
   normal_led w l normal = by_first l.member l.inside l.lead
     where
-      by_first : (f : List Term) → IsInIdeal ideal d f → lead_of f ≡ Some w → IsLedBy w
+      by_first : (f : List Term) → IsInIdeal ideal d f → lead_of f ≡ Some w → IsLedBy ideal.modulus (length contested) st.modulus cells echelon rref contested w
       by_first [] i e = cc e
       by_first (t ∷ f) i e =
           let is : t.word ≡ w = cc e in

@@ -1,6 +1,6 @@
-ghost use Rattle.std.specs.Prelude.{◌≡◌, All};
+ghost use Rattle.std.specs.Prelude.{All};
 ghost use Rattle.free_poly.specs.Terms.{HasResidues};
-ghost use Rattle.ideal_laws.specs.Engine.{IsReducedUpto};
+ghost use Rattle.ideal_laws.specs.Engine.{IsNextDegree};
 ghost use Rattle.ideal_laws.specs.Limits.{AreLimits};
 
 use crate::presented::{Algebra, algebra_of, assert_elements, assert_words, presented, residues};
@@ -42,10 +42,7 @@ fn assert_degree<R: Abort + Threads + Sync, E: DegreeEngine>(
     algebra: &Algebra,
     refused: Option<(LimitKind, u64)>,
 ) -> Result<(), Fail>
-    requires done { algebra.now.basis.done ≡ 3 }
-    requires weights { algebra.now.basis.weights ≡ algebra.now.given.alphabet.weights }
-    requires reduced { IsReducedUpto algebra.now.field algebra.now.given.relations algebra.now.basis }
-    requires residues { All (HasResidues algebra.now.field) algebra.now.given.relations }
+    requires next { IsNextDegree algebra.now.field algebra.now.given algebra.now.basis 4 }
 {
     match engine.degree(rt, alloc, &algebra.field, &algebra.given, &algebra.basis, 4) {
         Ok(report) => {
@@ -83,10 +80,7 @@ fn assert_races<R: Abort + Threads + Sync>(
     refused: Option<(LimitKind, u64)>,
 ) -> Result<(), Fail>
     requires limits { AreLimits limits }
-    requires done { algebra.now.basis.done ≡ 3 }
-    requires weights { algebra.now.basis.weights ≡ algebra.now.given.alphabet.weights }
-    requires reduced { IsReducedUpto algebra.now.field algebra.now.given.relations algebra.now.basis }
-    requires residues { All (HasResidues algebra.now.field) algebra.now.given.relations }
+    requires next { IsNextDegree algebra.now.field algebra.now.given algebra.now.basis 4 }
 {
     let gate = PlannedGate::open(alloc);
     for workers in [1, 2, 4] {

@@ -1,12 +1,11 @@
-ghost use Rattle.std.specs.Prelude.{◌≡◌, All, IfOk};
-ghost use Rattle.free_poly.specs.Poly.{IsPolynomial};
+ghost use Rattle.std.specs.Prelude.{◌+◌, All, IfOk};
 ghost use Rattle.free_poly.specs.Terms.{HasResidues};
 ghost use Rattle.ideal_laws.specs.Closure.{IsFactorFree};
-ghost use Rattle.ideal_laws.specs.Engine.{IsReducedUpto};
+ghost use Rattle.ideal_laws.specs.Engine.{IsNextDegree};
 
 use field_table::{Field, listed_moduli_law};
 use free_poly::Poly;
-use ideal_laws::{Basis, Limits, Presentation, lower_law, run, setting_law};
+use ideal_laws::{Basis, Limits, Presentation, next_degree_law, run};
 use plain_engine::PlainEngine;
 use relation_reader::read;
 use std::alloc::Global;
@@ -55,21 +54,15 @@ pub fn algebra_of<R: Abort + Threads + Sync>(
     text: &str,
     done: u32,
 ) -> Result<Algebra, Fail>
-    ensures residues { IfOk result (λ a. All (HasResidues a.field) a.given.relations) }
-    ensures done { IfOk result (λ a. a.basis.done ≡ done) }
-    ensures weights { IfOk result (λ a. a.basis.weights ≡ a.given.alphabet.weights) }
-    ensures reduced { IfOk result (λ a. IsReducedUpto a.field a.given.relations a.basis) }
+    ensures next { IfOk result (λ a. IsNextDegree a.field a.given a.basis (done + 1)) }
     ensures factor_free { IfOk result (λ a. IsFactorFree a.basis.elements) }
-    ensures forms { IfOk result (λ a. All IsPolynomial a.basis.elements) }
-    ensures elements { IfOk result (λ a. All (HasResidues a.field) a.basis.elements) }
 {
-    assert!(rt; 0 < done && done <= 64);
+    assert!(rt; 0 < done && done < 64);
     let field = residues(rt, alloc, 101)?;
     let given = presented(rt, alloc, &field, text)?;
     let mut plain = PlainEngine::new(Limits::standard());
     let basis = run(rt, alloc, &mut plain, &field, &given, done)?;
-    lower_law();
-    setting_law(&field, &given);
+    next_degree_law(&field, &given, &basis, done + 1);
     Ok(Algebra {
         field,
         given,

@@ -1,9 +1,8 @@
-ghost use Rattle.std.specs.Prelude.{◌≡◌, ◌+◌, [], All, IfOk, IsTrue, Some, length};
+ghost use Rattle.std.specs.Prelude.{◌≡◌, [], All, IfOk, IsTrue, Some, length};
 ghost use Rattle.std.specs.List.{AllZip};
-ghost use Rattle.free_poly.specs.Poly.{IsPolynomial, lead_of};
-ghost use Rattle.free_poly.specs.Terms.{HasDegree, HasResidues, UsesLetters};
-ghost use Rattle.ideal_laws.specs.Closure.{IsFactorFree};
-ghost use Rattle.ideal_laws.specs.Engine.{IsReducedUpto, of_degree};
+ghost use Rattle.free_poly.specs.Poly.{lead_of};
+ghost use Rattle.free_poly.specs.Terms.{HasDegree, UsesLetters};
+ghost use Rattle.ideal_laws.specs.Engine.{IsNextDegree, of_degree};
 ghost use Rattle.ideal_laws.specs.Ideal.{ideal_of};
 ghost use Rattle.ideal_laws.specs.Quantities.{AreRows, words_of};
 ghost use Rattle.overlaps.specs.Listed.{AreListed, IsOf, IsRowFor};
@@ -13,7 +12,7 @@ use crate::presented::{Algebra, algebra_of, assert_elements, assert_words};
 use crate::problems::assert_rows;
 use field_table::Field;
 use free_poly::Poly;
-use ideal_laws::{Basis, EngineFault, LimitKind, Limits, Presentation, lower_law, setting_law};
+use ideal_laws::{Basis, EngineFault, LimitKind, Limits, Presentation, next_degree_law};
 use lead_index::index_of;
 use overlaps::{Obstruction, OverlapFault, obstruction_rows, obstructions};
 use row_store::contested_rows;
@@ -63,20 +62,14 @@ fn rows_above(
     d: u32,
     found: &[Obstruction],
 ) -> Result<Vec<Poly>, NoMemory>
-    requires next { basis.now.done + 1 ≡ d }
-    requires weights { basis.now.weights ≡ given.now.alphabet.weights }
-    requires reduced { IsReducedUpto field.now given.now.relations basis.now }
-    requires residues { All (HasResidues field.now) given.now.relations }
+    requires next { IsNextDegree field.now given.now basis.now d }
     requires none { of_degree given.now.alphabet.weights d given.now.relations ≡ [] }
-    requires elements { All (HasResidues field.now) basis.now.elements }
     requires listed { AreListed basis.now.weights basis.now.elements d found.now }
     ensures rows { IfOk result (λ rows. AreRows (ideal_of field.now given.now) basis.now.elements d rows.items) }
     ensures degree { IfOk result (λ rows. All (HasDegree basis.now.weights d) rows.items) }
     ensures letters { IfOk result (λ rows. All (UsesLetters (length basis.now.weights)) rows.items) }
 {
-    lower_law();
-    setting_law(field, given);
-    let _done = basis.done();
+    next_degree_law(field, given, basis, d);
     let rows = obstruction_rows(alloc, field, basis, found)?;
     Ok(rows)
 }
@@ -119,16 +112,11 @@ fn assert_cells<R: Abort + Threads + Sync>(
     rows: &[Poly],
     closed: &Closed,
 ) -> Result<(), Fail>
-    requires done { algebra.now.basis.done ≡ 3 }
-    requires weights { algebra.now.basis.weights ≡ algebra.now.given.alphabet.weights }
-    requires reduced { IsReducedUpto algebra.now.field algebra.now.given.relations algebra.now.basis }
-    requires residues { All (HasResidues algebra.now.field) algebra.now.given.relations }
+    requires next { IsNextDegree algebra.now.field algebra.now.given algebra.now.basis 4 }
     requires rows { AreRows (ideal_of algebra.now.field algebra.now.given) algebra.now.basis.elements 4 rows.now }
     requires closed { IsClosed algebra.now.basis.elements (words_of rows.now) closed.now }
 {
-    lower_law();
-    setting_law(&algebra.field, &algebra.given);
-    let _done = algebra.basis.done();
+    next_degree_law(&algebra.field, &algebra.given, &algebra.basis, 4);
     assert_eq!(rt; (rows.len(), closed.len()), (2, 4));
     for (cells, refused) in [(3, Some(4)), (4, None)] {
         let mut limits = Limits::standard();
@@ -162,16 +150,12 @@ fn assert_closures<R: Abort + Threads + Sync>(
     algebra: &Algebra,
     rows: &[Poly],
 ) -> Result<(), Fail>
-    requires done { algebra.now.basis.done ≡ 3 }
-    requires weights { algebra.now.basis.weights ≡ algebra.now.given.alphabet.weights }
-    requires reduced { IsReducedUpto algebra.now.field algebra.now.given.relations algebra.now.basis }
-    requires residues { All (HasResidues algebra.now.field) algebra.now.given.relations }
+    requires next { IsNextDegree algebra.now.field algebra.now.given algebra.now.basis 4 }
     requires rows { AreRows (ideal_of algebra.now.field algebra.now.given) algebra.now.basis.elements 4 rows.now }
-    requires factor_free { IsFactorFree algebra.now.basis.elements }
-    requires forms { All IsPolynomial algebra.now.basis.elements }
     requires degree { All (HasDegree algebra.now.basis.weights 4) rows.now }
     requires letters { All (UsesLetters (length algebra.now.basis.weights)) rows.now }
 {
+    next_degree_law(&algebra.field, &algebra.given, &algebra.basis, 4);
     let index = index_of(alloc, &algebra.basis)?;
     for (columns, entries, refused) in [
         (3, 8, Some((LimitKind::Columns, 4))),

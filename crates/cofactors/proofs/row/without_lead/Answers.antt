@@ -3,12 +3,11 @@ use Rattle.std.proofs.Math.Nat.{add-mod-mod, mod_self}
 use Rattle.std.specs.Result.{IfOk}
 use Rattle.free_poly.specs.Poly.{lead_or_none}
 use Rattle.free_poly.specs.Terms.{total_at}
-use Rattle.free_poly.proofs.Totals.{AreApart-from_polynomial}
+use Rattle.free_poly.proofs.Totals.{AreApart-from_polynomial, total_residue}
 use Rattle.field_table.specs.Residues.{negative_of}
 use Rattle.cofactors.specs.declared.row.Row.{Row}
 use Rattle.cofactors.specs.Rows.{IsPlusTimes, IsRow}
 use Rattle.cofactors.proofs.Clearing.{one_at_lead, plus_none, zero_here}
-use Rattle.cofactors.proofs.Residues.{total_residue}
 use Rattle.cofactors.proofs.row.without_lead.Goals as goal
 
 pub returns-then-entry-eq0-clause-plus : goal.returns-then-entry-eq0-clause-plus

@@ -1,6 +1,4 @@
-use Rattle.std.proofs.Common.{◌≡◌, ◌==◌, ◌∷◌, [], length, length-append, sym, ap, ◌∙◌, arith}
-use Rattle.pivot_core.specs.declared.sight.Sight.{Sight}
-use Rattle.pivot_core.specs.Phases.{is_ended}
+use Rattle.std.proofs.Common.{◌∷◌, [], length, length-append, sym, ap, ◌∙◌, arith}
 use Rattle.degree_loop.proofs.Going.{going_below, going_test, passing-none, passing-one, passing_few}
 use Rattle.degree_loop.proofs.schedule.going_count.Goals as goal
 use Rattle.degree_loop.proofs.schedule.going_count.Goals.{then-goes_on, else-goes_on}
@@ -20,15 +18,14 @@ loop-seat-preserved c =
     let problem = c.args.core.now.problem in
     let s = c.args.core.now.state in
     let i = c.loop-seat.seat in
-    let test : c.goes_on.result ≡ going_test problem s i = c.goes_on.ensures ∙ ap (λ (v : Sight). is_ended v.phase == 0) c.view.ensures in
     elim c.if-goes_on.branch [
       | then-goes_on w ↦
           omega (
             arith,
             w.count-is,
             c.loop-seat.invariant,
-            ap length (passing-one (going_test problem s) i (sym test ∙ w.if-goes_on.true)),
+            ap length (passing-one (going_test problem s) i (sym c.goes_on.ensures ∙ w.if-goes_on.true)),
             length-append (going_below problem s i) (i ∷ []),
           )
-      | else-goes_on w ↦ w.count-is ∙ c.loop-seat.invariant ∙ sym (ap length (passing-none (going_test problem s) i (sym test ∙ w.if-goes_on.false)))
+      | else-goes_on w ↦ w.count-is ∙ c.loop-seat.invariant ∙ sym (ap length (passing-none (going_test problem s) i (sym c.goes_on.ensures ∙ w.if-goes_on.false)))
     ]

@@ -1,6 +1,4 @@
-use Rattle.std.proofs.Common.{rules, subst}
-use Rattle.field_table.specs.Residues.{IsFieldModulus}
-use Rattle.pivot_core.specs.Laws.{IsSetting}
+use Rattle.std.proofs.Common.{rules}
 use Rattle.degree_loop.proofs.Going.{none_going}
 use Rattle.degree_loop.proofs.ScheduledRuns.{ended_schedule, fewer_left, next_so_far}
 use Rattle.degree_loop.proofs.schedule.scheduled_pivots.Goals as goal
@@ -14,12 +12,7 @@ chosen-event-requires-clause-some c = λ none.
 pub loop-number-smaller : goal.loop-number-smaller
 loop-number-smaller c =
     let laws = c.claim_laws.ensures in
-    let setting : IsSetting c.args.problem c.args.crew = record {
-      field = subst IsFieldModulus c.requires.field c.modulus-modulus.ensures.field;
-      some = c.requires.some;
-      few = c.requires.few;
-    } in
-    fewer_left laws.claimed_pivots laws.step_counts c.args.problem c.args.crew c.args.schedule setting c.loop-number.core
+    fewer_left laws.claimed_pivots laws.step_counts c.args.problem c.args.crew c.args.schedule c.loop-number.core
     c.loop-number.number c.loop-number.invariant
     c.number_after-number.result c.number_after-number.ensures c.chosen-event.result c.chosen-event.ensures.below
     c.chosen-event.ensures.chosen c.step-reply.new.self c.step-reply.ensures.state
@@ -27,12 +20,7 @@ loop-number-smaller c =
 pub loop-number-preserved : goal.loop-number-preserved
 loop-number-preserved c =
     let laws = c.claim_laws.ensures in
-    let setting : IsSetting c.args.problem c.args.crew = record {
-      field = subst IsFieldModulus c.requires.field c.modulus-modulus.ensures.field;
-      some = c.requires.some;
-      few = c.requires.few;
-    } in
-    next_so_far laws.claimed_pivots laws.step_counts c.args.problem c.args.crew c.args.schedule setting c.loop-number.core
+    next_so_far laws.claimed_pivots laws.step_counts c.args.problem c.args.crew c.args.schedule c.loop-number.core
     c.loop-number.number c.loop-number.invariant
     c.number_after-number.result c.number_after-number.ensures c.chosen-event.result c.chosen-event.ensures.below
     c.chosen-event.ensures.chosen c.step-reply.new.self c.step-reply.ensures.state
@@ -41,12 +29,7 @@ loop-number-preserved c =
 pub returns : goal.returns
 returns c =
     let laws = c.claim_laws.ensures in
-    let setting : IsSetting c.args.problem c.args.crew = record {
-      field = subst IsFieldModulus c.requires.field c.modulus-modulus.ensures.field;
-      some = c.requires.some;
-      few = c.requires.few;
-    } in
     let ended = c.ended.ensures.0 (search rules) in
-    ended_schedule laws.claimed_pivots laws.step_counts c.args.problem c.args.crew c.args.schedule setting c.loop-number.core
+    ended_schedule laws.claimed_pivots laws.step_counts c.args.problem c.args.crew c.args.schedule c.loop-number.core
     c.loop-number.number c.loop-number.invariant
     ended c.finish.result c.finish.ensures.problem c.finish.ensures.logs

@@ -3,14 +3,20 @@ use Rattle.std.proofs.lemmas.Result.{err_from_is_err_and}
 use Rattle.free_poly.specs.declared.term.Term.{Term}
 use Rattle.free_poly.specs.Terms.{HasDegree, UsesLetters}
 use Rattle.ideal_laws.specs.Basis.{IsReducedBasis}
+use Rattle.ideal_laws.specs.declared.presentation.Presentation.{Presentation}
+use Rattle.ideal_laws.specs.Engine.{Elements, IsNextDegree}
 use Rattle.ideal_laws.specs.Ideal.{ideal_of, ideal_over}
 use Rattle.ideal_laws.specs.Quantities.{IsFirstPassing, IsQuantity, NonePasses}
 use Rattle.ideal_laws.proofs.Grown.{next_from_reduced, reduced_upto_grown}
 use Rattle.ideal_laws.proofs.degrees.advance.Goals as goal
 
--- what is said by the presentation's weights and the asked degree, by the basis' own
-moved : (P : List ℕ → ℕ → Type 0) (own weights : List ℕ) (asked done : ℕ) → own ≡ weights → asked ≡ done → P weights (asked + 1) → P own (done + 1)
-moved P own weights asked done same is h = subst (λ (n : ℕ). P own (n + 1)) is (subst (λ (ws : List ℕ). P ws (asked + 1)) (sym same) h)
+-- the basis that was found, by the weights of the basis below and its degree
+own_basis : (p : ℕ) (given : Presentation) (basis : Elements) (elements : List (List Term)) → IsNextDegree p given basis (basis.done + 1) → (done : ℕ) →
+    done ≡ basis.done → IsReducedBasis (ideal_of p given) (done + 1) elements →
+    IsReducedBasis (ideal_over p basis.weights given.relations) (basis.done + 1) elements
+own_basis p given basis elements next done is h =
+    subst (λ (ws : List ℕ). IsReducedBasis (ideal_over p ws given.relations) (basis.done + 1) elements) (sym next.same_weights)
+    (subst (λ (n : ℕ). IsReducedBasis (ideal_of p given) (n + 1) elements) is h)
 
 one_fault : {T E : Type 0} (r : Result T E) (a b : E) → r ≡ Err a → r ≡ Err b → a ≡ b
 one_fault r a b h k = cc
@@ -26,8 +32,8 @@ pub push_degree-requires-clause-letters : goal.push_degree-requires-clause-lette
 push_degree-requires-clause-letters g c =
     let basis = c.args.basis.now in
     let elements = c.in_ok-report.report.elements in
-    let h = moved (λ ws d. IsReducedBasis (ideal_over c.args.field.now ws c.args.presentation.now.relations) d elements) basis.weights _ c.done-d.result
-    basis.done c.requires.weights c.done-d.ensures.value c.in_ok-report.ensures.elements in
+    let h = own_basis c.args.field.now c.args.presentation.now basis elements c.requires c.done-d.result c.done-d.ensures.value
+    c.in_ok-report.ensures.elements in
     subst (All (UsesLetters (length basis.weights))) (sym c.into_vec.ensures)
     (next_from_reduced c.args.field.now c.args.presentation.now.relations basis elements c.in_ok-report.ensures.few h).letters
 
@@ -35,8 +41,8 @@ pub push_degree-requires-clause-degree : goal.push_degree-requires-clause-degree
 push_degree-requires-clause-degree g c =
     let basis = c.args.basis.now in
     let elements = c.in_ok-report.report.elements in
-    let h = moved (λ ws d. IsReducedBasis (ideal_over c.args.field.now ws c.args.presentation.now.relations) d elements) basis.weights _ c.done-d.result
-    basis.done c.requires.weights c.done-d.ensures.value c.in_ok-report.ensures.elements in
+    let h = own_basis c.args.field.now c.args.presentation.now basis elements c.requires c.done-d.result c.done-d.ensures.value
+    c.in_ok-report.ensures.elements in
     subst (All (HasDegree basis.weights (basis.done + 1))) (sym c.into_vec.ensures)
     (next_from_reduced c.args.field.now c.args.presentation.now.relations basis elements c.in_ok-report.ensures.few h).degree
 
@@ -44,8 +50,8 @@ pub returns-clause-reduced : goal.returns-clause-reduced
 returns-clause-reduced g c =
     let basis = c.args.basis.now in
     let elements = c.in_ok-report.report.elements in
-    let h = moved (λ ws d. IsReducedBasis (ideal_over c.args.field.now ws c.args.presentation.now.relations) d elements) basis.weights _ c.done-d.result
-    basis.done c.requires.weights c.done-d.ensures.value c.in_ok-report.ensures.elements in
+    let h = own_basis c.args.field.now c.args.presentation.now basis elements c.requires c.done-d.result c.done-d.ensures.value
+    c.in_ok-report.ensures.elements in
     let pushed = c.in_ok-push_degree.ensures in
     reduced_upto_grown c.args.field.now c.args.presentation.now.relations basis c.push_degree.new.self elements c.done-d.ensures.kept
     c.requires.reduced c.in_ok-report.ensures.few h

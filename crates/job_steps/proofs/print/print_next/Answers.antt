@@ -25,7 +25,7 @@ pub returns-then-not-asked-clause-printed : goal.returns-then-not-asked-clause-p
 returns-then-not-asked-clause-printed g c =
     let next = c.in-Ok.ensures in
     hidden_next c.args.field.now c.args.given.now.alphabet c.args.given.now.relations (g.E.DegreeEngine.kinds c.args.engine.now)
-    c.args.basis.now c.advance.new.basis c.requires.weights next.weights next.done next.reduced next.within
+    c.args.basis.now c.advance.new.basis c.requires.next.same_weights next.weights next.done next.reduced next.within
     c.args.asked.basis _ _ _ _ _ _ (is_hidden c.args.asked.basis c.if-not-asked.true)
     (all_none (g.K.Sink.held c.args.out.now) (g.K.Sink.room c.args.out.now) (g.K.Sink.faults c.args.out.now))
 
@@ -34,24 +34,24 @@ tell_degree-requires g c =
     let next = c.in-Ok.ensures in
     let basis = c.args.basis.now in
     let is_below : IsBelow (ideal_of c.args.field.now c.args.given.now) (basis.done + 1) basis =
-    record { kept = next.kept.0; next = refl; same_weights = c.requires.weights; reduced = c.requires.reduced } in
+    record { kept = next.kept.0; next = refl; same_weights = c.requires.next.same_weights; reduced = c.requires.next.reduced } in
     record {
       printable = λ traces. c.requires.printable traces basis (basis.done + 1) next.elements.0 c.in-Ok.account
-          (omega (arith, c.requires.small)) c.setting_law.ensures is_below next.elements.1 next.account;
+          c.requires.next.small c.setting_law.ensures is_below next.elements.1 next.account;
     }
 
 pub write_degree-requires-clause-residues : goal.write_degree-requires-clause-residues
 write_degree-requires-clause-residues g c =
     let next = c.in-Ok.ensures in
     residues_of c.args.field.now c.args.given.now.alphabet c.args.given.now.relations (g.E.DegreeEngine.kinds c.args.engine.now)
-    c.args.basis.now c.advance.new.basis c.requires.weights next.weights next.done next.reduced next.within
+    c.args.basis.now c.advance.new.basis c.requires.next.same_weights next.weights next.done next.reduced next.within
     c.setting_law.ensures next.kept.1
 
 pub returns-in-Ok-write_degree-clause-printed : goal.returns-in-Ok-write_degree-clause-printed
 returns-in-Ok-write_degree-clause-printed g c =
     let next = c.in-Ok.ensures in
     shown_next c.args.field.now c.args.given.now.alphabet c.args.given.now.relations (g.E.DegreeEngine.kinds c.args.engine.now)
-    c.args.basis.now c.advance.new.basis c.requires.weights next.weights next.done next.reduced next.within
+    c.args.basis.now c.advance.new.basis c.requires.next.same_weights next.weights next.done next.reduced next.within
     c.args.asked.basis _ _ _ _ _ _ (is_shown c.args.asked.basis c.if-not-asked.false) c.in-Ok-write_degree.ensures.written
 
 pub returns-clause-undone : goal.returns-clause-undone
@@ -62,6 +62,6 @@ returns-clause-undone g c =
     let told = subst (λ (d : ℕ). Told (trace_of c.args.asked.trace c.args.given.now.alphabet.names d c.in-Ok.account))
     (c.done-d.ensures.value ∙ next.done) c.in_ok-tell_degree-in-Ok.ensures.told in
     undone_shown c.args.field.now c.args.given.now.alphabet c.args.given.now.relations (g.E.DegreeEngine.kinds c.args.engine.now)
-    c.args.basis.now c.advance.new.basis c.requires.weights next.weights next.done next.reduced next.within
+    c.args.basis.now c.advance.new.basis c.requires.next.same_weights next.weights next.done next.reduced next.within
     c.args.asked.basis _ _ _ _ _ _ _ c.in-Err.fault (is_shown c.args.asked.basis c.if-not-asked.false) (c.in-Ok.account, next.account, told)
     c.in-Err.ensures.unwritten

@@ -3,11 +3,10 @@ use Rattle.std.proofs.lemmas.List.{length-map, length_push}
 use Rattle.std.proofs.lemmas.List.Elements.{All-map, All-push}
 use Rattle.free_poly.specs.Terms.{HasResidues, product, total_at}
 use Rattle.free_poly.proofs.Products.{HasResidues-product}
-use Rattle.free_poly.proofs.Totals.{AreApart-from_polynomial}
+use Rattle.free_poly.proofs.Totals.{AreApart-from_polynomial, total_residue}
 use Rattle.back_reduce.specs.Rows.{IsRow}
 use Rattle.plain_engine.specs.Products.{coefficients}
 use Rattle.plain_engine.specs.Spans.{HaveOneSpan, SpansAll}
-use Rattle.plain_engine.proofs.Chosen.{total_residue}
 use Rattle.plain_engine.proofs.RowSpans.{one_span-append, one_span-full, spans_all-append}
 use Rattle.plain_engine.proofs.products.add_product.Goals as goal
 

@@ -1,7 +1,6 @@
-use Rattle.std.proofs.Common.{◌++◌, ℕ, List, All, length, subst, sym}
+use Rattle.std.proofs.Common.{◌++◌, ℕ, List, subst}
 use Rattle.std.specs.List.{AllZip}
 use Rattle.free_poly.specs.declared.term.Term.{Term}
-use Rattle.free_poly.specs.Terms.{HasDegree, UsesLetters}
 use Rattle.ideal_laws.specs.Ideal.{ideal_of}
 use Rattle.ideal_laws.specs.Quantities.{AreRows}
 use Rattle.overlaps.specs.Listed.{AreListed, IsRowFor}
@@ -15,49 +14,21 @@ obstruction_rows-requires-clause-obstructions c = each_is c.args.basis.now.weigh
 pub returns-clause-rows : goal.returns-clause-rows
 returns-clause-rows c =
     let p = c.args.field.now in
-    let ws = c.args.given.now.alphabet.weights in
-    let rs = c.args.given.now.relations in
     let G = c.args.basis.now.elements in
     let d = c.args.d in
     let found = c.args.found.now in
     let rows = c.in_ok-rows.rows.items in
-    let listed = subst (λ (w : List ℕ). AreListed w G d found) c.requires.weights c.requires.listed in
-    let each = subst (λ (w : List ℕ). AllZip (IsRowFor p w G) found rows) c.requires.weights c.in_ok-rows.ensures in
+    let listed = subst (λ (w : List ℕ). AreListed w G d found) c.requires.next.same_weights c.requires.listed in
+    let each = subst (λ (w : List ℕ). AllZip (IsRowFor p w G) found rows) c.requires.next.same_weights c.in_ok-rows.ensures in
     subst (λ (fs : List (List Term)). AreRows (ideal_of c.args.field.now c.args.given.now) G d (fs ++ rows)) c.requires.none
     (are_rows (ideal_of c.args.field.now c.args.given.now) G d found rows listed each)
 
 pub returns-clause-degree : goal.returns-clause-degree
 returns-clause-degree c =
-    let ideal = ideal_of c.args.field.now c.args.given.now in
-    let ws = c.args.given.now.alphabet.weights in
-    let rs = c.args.given.now.relations in
-    let b = c.args.basis.now in
-    let d = c.args.d in
-    let rows = c.in_ok-rows.rows.items in
-    let lower = c.lower_law.ensures.lower ideal c.setting_law.ensures d b
-    (record {
-      kept = c.done-done.ensures.kept;
-      next = c.requires.next;
-      same_weights = c.requires.weights;
-      reduced = c.requires.reduced;
-    }) in
-    subst (λ (w : List ℕ). All (HasDegree w d) rows) (sym c.requires.weights)
-    (rows_degree ideal c.setting_law.ensures d b.elements lower rows (returns-clause-rows c))
+    let law = c.next_degree_law.ensures in
+    rw law.below.same_weights (rows_degree _ law.setting _ _ law.lower _ (returns-clause-rows c))
 
 pub returns-clause-letters : goal.returns-clause-letters
 returns-clause-letters c =
-    let ideal = ideal_of c.args.field.now c.args.given.now in
-    let ws = c.args.given.now.alphabet.weights in
-    let rs = c.args.given.now.relations in
-    let b = c.args.basis.now in
-    let d = c.args.d in
-    let rows = c.in_ok-rows.rows.items in
-    let lower = c.lower_law.ensures.lower ideal c.setting_law.ensures d b
-    (record {
-      kept = c.done-done.ensures.kept;
-      next = c.requires.next;
-      same_weights = c.requires.weights;
-      reduced = c.requires.reduced;
-    }) in
-    subst (λ (w : List ℕ). All (UsesLetters (length w)) rows) (sym c.requires.weights)
-    (rows_letters ideal c.setting_law.ensures d b.elements lower rows (returns-clause-rows c))
+    let law = c.next_degree_law.ensures in
+    rw law.below.same_weights (rows_letters _ law.setting _ _ law.lower _ (returns-clause-rows c))

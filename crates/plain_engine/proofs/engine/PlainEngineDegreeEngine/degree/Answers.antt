@@ -22,7 +22,7 @@ elements_of-requires-clause-falling g c =
     let al = subst (λ (ls : List (List (List ℕ))). AreLists weights d ls (d + 1)) (sym c.as_slice-lists.ensures.value) c.in_ok-words.ensures in
     let columns : c.as_slice-columns.result.now ≡ words_of_degree weights d = c.as_slice-columns.ensures
     ∙ get_or_read lists d c.index-lists-d.result (omega (arith, al.size)) c.index-lists-d.is [] ∙ last_list weights d lists al in
-    subst (AllPairs IsLetterwiseGreater) (sym columns) (words_of_degree-falling weights c.setting_law.ensures.are_weights d)
+    subst (AllPairs IsLetterwiseGreater) (sym columns) (words_of_degree-falling weights c.next_degree_law.ensures.setting.are_weights d)
 
 pub elements_of-requires-clause-width : goal.elements_of-requires-clause-width
 elements_of-requires-clause-width g c =
@@ -37,7 +37,7 @@ returns-clause-elements g c =
     let relations = c.args.presentation.now.relations in
     let below = c.args.below.now in
     let d = c.args.d in
-    let st = c.setting_law.ensures in
+    let law = c.next_degree_law.ensures in
     let lists = c.as_slice-lists.result.now in
     let echelon = c.in_ok-echelon.echelon.items in
     let elements = c.in_ok-elements.elements.items in
@@ -46,15 +46,8 @@ returns-clause-elements g c =
     ∙ get_or_read lists d c.index-lists-d.result (omega (arith, al.size)) c.index-lists-d.is [] ∙ last_list weights d lists al in
     let rref = subst (λ (ws : List (List ℕ)). IsRref p (length ws) (flat_map (relation_rows weights lists d ws) relations) echelon) columns
     c.in_ok-echelon.ensures.form in
-    let lower = c.lower_law.ensures.lower (ideal_of c.args.field.now c.args.presentation.now) st d below
-    (record {
-      kept = c.done-done.ensures.kept;
-      next = sym c.requires.next;
-      same_weights = c.requires.weights;
-      reduced = c.requires.reduced;
-    }) in
     let are = subst (λ (ws : List (List ℕ)). AreElements ws below.elements echelon elements) columns
     (subst (λ (rows : List (List ℕ)). AreElements c.as_slice-columns.result.now below.elements rows elements) c.as_slice-rows.ensures.value
     c.in_ok-elements.ensures) in
     subst (IsReducedBasis (ideal_of c.args.field.now c.args.presentation.now) d) (sym c.from_vec.ensures)
-    (basis_from_elements (ideal_of c.args.field.now c.args.presentation.now) st d lists al echelon rref below.elements lower elements are)
+    (basis_from_elements (ideal_of c.args.field.now c.args.presentation.now) law.setting d lists al echelon rref below.elements law.lower elements are)
