@@ -1,7 +1,6 @@
 -- What is written of the answers is the beginning of an outcome.
 use Rattle.std.proofs.Common.{◌≡◌, ◌+◌, ◌-◌, ◌<◌, ◌≤◌, ℕ, zero, suc, List, [], ◌∷◌, ◌++◌, All, length, refl, sym, ap, ◌∙◌, inl, inr, arith, subst, take}
 use Rattle.std.specs.Prelude.{slice_index_or}
-use Rattle.std.specs.declared.option.Option.{Option}
 use Rattle.std.proofs.lemmas.Bool.{cases_lt}
 use Rattle.std.proofs.lemmas.List.{length-take-le, take_all, take_more}
 use Rattle.words.specs.Names.{Letters}
@@ -21,6 +20,7 @@ use Rattle.job_steps.specs.declared.status.Status.{Status}
 use Rattle.job_steps.specs.declared.status.Status.TheVariants.{Done, Products}
 use Rattle.job_steps.specs.Gains.{GainsAll, GainsPart}
 use Rattle.job_steps.specs.Progress.{IsBeginning}
+use Rattle.job_steps.specs.States.{SinkState}
 use Rattle.job_steps.specs.Statuses.{HasGainedPart, HasGainedSome}
 use Rattle.job_steps.proofs.Gaining.{beginning_front, beginning_self, beginning_trans, unwritten_before, unwritten_behind}
 use Rattle.bergman_cli.specs.Normal.{AreAnswers, HasManyTriples, HasNone, IsAnsweredBy, most_triples}
@@ -132,15 +132,15 @@ module _ (p : ℕ) (letters : Letters) (relations : List (List Term)) where
     begun st forms lists are place le text none answers =
         goes_on (λ at within. has_answer st forms lists (At at) (are at [] within)) (length questions - place) place text (omega (arith, le)) none answers
 
-    module _ (held now : Option (List ℕ)) (room left : Option ℕ) (f g : ℕ) (text : List ℕ) (all : GainsAll held now room left f g text) where
+    module _ (before now : SinkState) (text : List ℕ) (all : GainsAll before now text) where
       -- some of it was gained
-      pub some_gained : Begins text → HasGainedSome held now Outcome
+      pub some_gained : Begins text → HasGainedSome before now Outcome
       some_gained b = (b.status, b.whole, b.outcome, record { gained = text; appended = all.appended; beginning = b.beginning })
 
       -- and then a proper prefix of the next answer
-      pub cut_off : (more : Option (List ℕ)) (h : ℕ) (answer : List ℕ) → Rose g h → GainsPart now more left answer → Begins (text ++ answer) →
-          Rose f h × HasGainedPart held more room Outcome
-      cut_off more h answer rose part b =
-          let u = unwritten_before held more room f h (text ++ answer) b.whole WriteFault b.beginning
-          (unwritten_behind held now more room left f g h text answer WriteFault all (rose, part)) in
+      pub cut_off : (after : SinkState) (answer : List ℕ) → Rose now.faults after.faults → GainsPart now after answer → Begins (text ++ answer) →
+          Rose before.faults after.faults × HasGainedPart before after Outcome
+      cut_off after answer rose part b =
+          let u = unwritten_before before after (text ++ answer) b.whole WriteFault b.beginning
+          (unwritten_behind before now after text answer WriteFault all (rose, part)) in
           (u.0, (b.status, b.whole, b.outcome, u.1))

@@ -1,5 +1,6 @@
 ghost use Rattle.std.specs.Prelude.{◌≡◌, ◌≢◌, ℕ, List, All};
 ghost use Rattle.free_poly.specs.Terms.{HasResidues};
+ghost use Rattle.job_steps.specs.States.{state_of};
 ghost use Rattle.job_steps.specs.Statuses.{IsTaskEnd};
 ghost use Rattle.job_steps.specs.Traces.{IsTaskTrace, Tells};
 ghost use Rattle.bergman_cli.specs.Engines.{IsEngineOf, accounts_of, traces_of};
@@ -31,13 +32,13 @@ pub fn run_gb<R: Threads + Sync, E: DegreeEngine, K: Sink, T: Sink>(
     requires sound { IsSound job.now }
     requires residues { All (HasResidues field.now) given.now.relations }
 
-    ensures end { IsTaskEnd (gb_task job.now given.now.alphabet given.now.relations) (K.held out.old)
-        (K.held out.new) (K.room out.old) (K.faults out.old) (K.faults out.new) result }
+    ensures end { IsTaskEnd (gb_task job.now given.now.alphabet given.now.relations) (state_of K.Sink out.old)
+        (state_of K.Sink out.new) result }
     ensures writes { result ≢ Status.WriteFault → K.faults out.new ≡ K.faults out.old }
     ensures told { (trace : List ℕ) × IsTaskTrace (accounts_of job.now) (traces_of job.now)
-        (gb_task job.now given.now.alphabet given.now.relations) (K.held out.old) (K.held out.new) (K.room out.old)
+        (gb_task job.now given.now.alphabet given.now.relations) (state_of K.Sink out.old) (state_of K.Sink out.new)
         result trace
-        × Tells (T.held err.old) (T.held err.new) (T.faults err.old) (T.faults err.new) failed.old failed.new trace }
+        × Tells (state_of T.Sink err.old) (state_of T.Sink err.new) failed.old failed.new trace }
 {
     setting_law(field, given);
     let asked = asked_of(job);

@@ -8,6 +8,7 @@ ghost use Rattle.command_words.specs.declared.job.UsageFault.{UsageFault};
 ghost use Rattle.command_words.specs.JobOf.{IsJob, IsUsageFault};
 ghost use Rattle.job_steps.specs.Inputs.{IsInputEnd, IsTaken};
 ghost use Rattle.job_steps.specs.Lines.{fault_line};
+ghost use Rattle.job_steps.specs.States.{source_state, state_of};
 ghost use Rattle.job_steps.specs.Status.{IsOfInput, PrintsNothing, ReadsNothing};
 ghost use Rattle.job_steps.specs.Statuses.{HasGained, IsOwn};
 ghost use Rattle.job_steps.specs.Traces.{IsTold, Tells};
@@ -51,7 +52,7 @@ pub fn bergman<R: Threads + Sync, S: Source, K: Sink, T: Sink>(
     // A status that the work ends with by itself: its text was gained.
     ensures ended { IsOwn result
         → OfWork (map string_bytes words.now) (S.left source.old) (S.left source.new)
-        (λ job letters relations. HasGained (K.held out.old) (K.held out.new)
+        (λ job letters relations. HasGained (state_of K.Sink out.old) (state_of K.Sink out.new)
         (IsOutcome job letters relations result)) }
 
     // Each other status comes only for its cause, and of what words and source decide exactly there.
@@ -63,28 +64,28 @@ pub fn bergman<R: Threads + Sync, S: Source, K: Sink, T: Sink>(
     ensures calls { CountsAtMost (S.calls source.old) (S.calls source.new) 1048577 }
     ensures input { IsOfInput result
         → OfJob (map string_bytes words.now) (λ job. ReadsSource job.command
-        × IsInputEnd job.modulus (S.left source.old) (S.left source.new) (S.faults source.old)
-        (S.faults source.new) result) }
+        × IsInputEnd job.modulus (source_state S.Source source.old) (source_state S.Source source.new) result) }
     ensures write { result ≡ Status.WriteFault → Rose (K.faults out.old) (K.faults out.new) }
     ensures part { result ≡ Status.WriteFault
         → OfWork (map string_bytes words.now) (S.left source.old) (S.left source.new)
-        (λ job letters relations. HasWrittenPart job letters relations (K.held out.old) (K.held out.new)
-        (K.room out.old)) }
+        (λ job letters relations. HasWrittenPart job letters relations (state_of K.Sink out.old)
+        (state_of K.Sink out.new)) }
     ensures memory { result ≡ Status.NoMemory → Appends (K.held out.old) (K.held out.new) []
         ⊎ OfWork (map string_bytes words.now) (S.left source.old) (S.left source.new)
-        (λ job letters relations. HasWrittenSome job letters relations (K.held out.old) (K.held out.new)) }
+        (λ job letters relations. HasWrittenSome job letters relations (state_of K.Sink out.old)
+        (state_of K.Sink out.new)) }
     ensures nothing { PrintsNothing result → out.new ≡ out.old }
     ensures reads { result ≢ Status.ReadFault → S.faults source.new ≡ S.faults source.old }
     ensures writes { result ≢ Status.WriteFault → K.faults out.new ≡ K.faults out.old }
 
     // The trace is told, and then the line of the status. A fault of telling them changes no status.
     ensures told { (trace : List ℕ) × IsRunTrace (map string_bytes words.now) (S.left source.old)
-        (S.left source.new) (K.held out.old) (K.held out.new) (K.room out.old) result trace
-        × IsTold (T.held err.old) (T.held err.new) (T.faults err.old) (T.faults err.new) (trace ++ fault_line result) }
+        (S.left source.new) (state_of K.Sink out.old) (state_of K.Sink out.new) result trace
+        × IsTold (state_of T.Sink err.old) (state_of T.Sink err.new) (trace ++ fault_line result) }
 
     // And where the bytes are told, it comes where its cause stands.
-    ensures complete { Completes (map string_bytes words.now) (S.left source.old) (S.faults source.old)
-        (S.faults source.new) (K.faults out.old) (K.faults out.new) result }
+    ensures complete { Completes (map string_bytes words.now) (source_state S.Source source.old)
+        (source_state S.Source source.new) (state_of K.Sink out.old) (state_of K.Sink out.new) result }
 {
     words_law();
     reading_laws();
@@ -105,9 +106,8 @@ fn run_words<R: Threads + Sync, S: Source, K: Sink, T: Sink>(
     gate: &PlannedGate,
     failed: &mut bool,
 ) -> Status
-    ensures end { IsEnd (map string_bytes words.now) (S.left source.old) (S.left source.new) (S.faults source.old)
-        (S.faults source.new) (K.held out.old) (K.held out.new) (K.room out.old) (K.faults out.old)
-        (K.faults out.new) result }
+    ensures end { IsEnd (map string_bytes words.now) (source_state S.Source source.old)
+        (source_state S.Source source.new) (state_of K.Sink out.old) (state_of K.Sink out.new) result }
     ensures taken { IsTaken (S.left source.old) (S.left source.new) result }
     ensures calls { CountsAtMost (S.calls source.old) (S.calls source.new) 1048577 }
     ensures unread { ReadsNothing result → source.new ≡ source.old }
@@ -116,8 +116,8 @@ fn run_words<R: Threads + Sync, S: Source, K: Sink, T: Sink>(
     ensures reads { result ≢ Status.ReadFault → S.faults source.new ≡ S.faults source.old }
     ensures writes { result ≢ Status.WriteFault → K.faults out.new ≡ K.faults out.old }
     ensures told { (trace : List ℕ) × IsRunTrace (map string_bytes words.now) (S.left source.old)
-        (S.left source.new) (K.held out.old) (K.held out.new) (K.room out.old) result trace
-        × Tells (T.held err.old) (T.held err.new) (T.faults err.old) (T.faults err.new) failed.old failed.new trace }
+        (S.left source.new) (state_of K.Sink out.old) (state_of K.Sink out.new) result trace
+        × Tells (state_of T.Sink err.old) (state_of T.Sink err.new) failed.old failed.new trace }
 {
     words_law();
     let job = match read_words(words) {
@@ -161,9 +161,8 @@ fn run_job<R: Threads + Sync, E: DegreeEngine, S: Source, K: Sink, T: Sink>(
     requires engine { IsEngineOf job.now (E.kinds engine.old) (E.may_account engine.old) }
     requires sound { IsSound job.now }
 
-    ensures end { IsJobEnd job.now (S.left source.old) (S.left source.new) (S.faults source.old)
-        (S.faults source.new) (K.held out.old) (K.held out.new) (K.room out.old) (K.faults out.old)
-        (K.faults out.new) result }
+    ensures end { IsJobEnd job.now (source_state S.Source source.old) (source_state S.Source source.new)
+        (state_of K.Sink out.old) (state_of K.Sink out.new) result }
     ensures taken { IsTaken (S.left source.old) (S.left source.new) result }
     ensures calls { CountsAtMost (S.calls source.old) (S.calls source.new) 1048577 }
     ensures made { job.now.command ≡ Command.Make → source.new ≡ source.old }
@@ -171,8 +170,8 @@ fn run_job<R: Threads + Sync, E: DegreeEngine, S: Source, K: Sink, T: Sink>(
     ensures reads { result ≢ Status.ReadFault → S.faults source.new ≡ S.faults source.old }
     ensures writes { result ≢ Status.WriteFault → K.faults out.new ≡ K.faults out.old }
     ensures told { (trace : List ℕ) × ((words : List (List ℕ)) → IsJob words job.now →
-        IsRunTrace words (S.left source.old) (S.left source.new) (K.held out.old) (K.held out.new) (K.room out.old)
-        result trace) × Tells (T.held err.old) (T.held err.new) (T.faults err.old) (T.faults err.new) failed.old
+        IsRunTrace words (S.left source.old) (S.left source.new) (state_of K.Sink out.old) (state_of K.Sink out.new)
+        result trace) × Tells (state_of T.Sink err.old) (state_of T.Sink err.new) failed.old
         failed.new trace }
 {
     let Ok(field) = Field::new(alloc, job.modulus) else {
@@ -197,8 +196,8 @@ fn read_given<S: Source>(
     requires modulus { field.now ≡ job.now.modulus }
     requires sound { IsSound job.now }
     ensures given { MatchResult result (λ given. IsGivenReading job.now (S.left source.old) (S.left source.new)
-        given.alphabet given.relations) (IsUngivenTo job.now.command job.now.modulus (S.left source.old)
-        (S.left source.new) (S.faults source.old) (S.faults source.new)) }
+        given.alphabet given.relations) (IsUngivenTo job.now.command job.now.modulus
+        (source_state S.Source source.old) (source_state S.Source source.new)) }
     ensures taken { MatchResult result (λ _. LosesAtMost (S.left source.old) (S.left source.new) 1048576)
         (IsTaken (S.left source.old) (S.left source.new)) }
     ensures calls { CountsAtMost (S.calls source.old) (S.calls source.new) 1048577 }
@@ -232,13 +231,13 @@ fn work<R: Threads + Sync, E: DegreeEngine, K: Sink, T: Sink>(
     requires modulus { field.now ≡ job.now.modulus }
     requires residues { All (HasResidues field.now) given.now.relations }
 
-    ensures end { IsWorkEnd job.now given.now.alphabet given.now.relations (K.held out.old) (K.held out.new)
-        (K.room out.old) (K.faults out.old) (K.faults out.new) result }
+    ensures end { IsWorkEnd job.now given.now.alphabet given.now.relations (state_of K.Sink out.old)
+        (state_of K.Sink out.new) result }
     ensures nothing { PrintsNothing result → out.new ≡ out.old }
     ensures writes { result ≢ Status.WriteFault → K.faults out.new ≡ K.faults out.old }
-    ensures told { (trace : List ℕ) × IsWorkTrace job.now given.now.alphabet given.now.relations (K.held out.old)
-        (K.held out.new) (K.room out.old) result trace
-        × Tells (T.held err.old) (T.held err.new) (T.faults err.old) (T.faults err.new) failed.old failed.new trace }
+    ensures told { (trace : List ℕ) × IsWorkTrace job.now given.now.alphabet given.now.relations
+        (state_of K.Sink out.old) (state_of K.Sink out.new) result trace
+        × Tells (state_of T.Sink err.old) (state_of T.Sink err.new) failed.old failed.new trace }
 {
     if job.command == Command::Gb {
         return run_gb(rt, alloc, job, engine, field, given, out, err, failed);

@@ -1,5 +1,6 @@
 ghost use Rattle.std.specs.Prelude.{◌≡◌, ◌<◌, [], List, ℕ, OnErr, OnOk, length, true};
 ghost use Rattle.job_steps.specs.Lines.{fault_line};
+ghost use Rattle.job_steps.specs.States.{state_of};
 ghost use Rattle.job_steps.specs.Traces.{IsPrintable, Tells, trace_of};
 
 use crate::lines::fault_line;
@@ -21,9 +22,9 @@ pub fn tell_degree<T: Sink>(
     failed: &mut bool,
 ) -> Result<(), NoMemory>
     requires printable { traces ≡ true → IsPrintable (length alphabet.now.weights) account.now }
-    ensures told { OnOk result (Tells (T.held err.old) (T.held err.new) (T.faults err.old) (T.faults err.new)
+    ensures told { OnOk result (Tells (state_of T.Sink err.old) (state_of T.Sink err.new)
         failed.old failed.new (trace_of traces alphabet.now.names d account.now)) }
-    ensures untold { OnErr result (Tells (T.held err.old) (T.held err.new) (T.faults err.old) (T.faults err.new)
+    ensures untold { OnErr result (Tells (state_of T.Sink err.old) (state_of T.Sink err.new)
         failed.old failed.new []) }
 {
     if !traces {
@@ -36,7 +37,7 @@ pub fn tell_degree<T: Sink>(
 
 /// Tells the line of the status.
 pub fn tell_status<T: Sink>(err: &mut T, failed: &mut bool, status: Status)
-    ensures { Tells (T.held err.old) (T.held err.new) (T.faults err.old) (T.faults err.new) failed.old failed.new
+    ensures { Tells (state_of T.Sink err.old) (state_of T.Sink err.new) failed.old failed.new
         (fault_line status) }
 {
     let line = fault_line(&status);
@@ -45,7 +46,7 @@ pub fn tell_status<T: Sink>(err: &mut T, failed: &mut bool, status: Status)
 
 /// Tells a text, unless a write has failed before.
 fn tell<T: Sink>(err: &mut T, failed: &mut bool, text: &[u8])
-    ensures { Tells (T.held err.old) (T.held err.new) (T.faults err.old) (T.faults err.new) failed.old failed.new
+    ensures { Tells (state_of T.Sink err.old) (state_of T.Sink err.new) failed.old failed.new
         text.now }
 {
     if *failed {

@@ -6,6 +6,7 @@ use Rattle.ideal_laws.specs.Ideal.{ideal_of, ideal_over}
 use Rattle.ideal_laws.specs.Kept.{lead_degree}
 use Rattle.job_steps.specs.declared.status.Status.TheVariants.{Products}
 use Rattle.job_steps.specs.Gains.{GainsAll, GainsPart}
+use Rattle.job_steps.specs.States.{state_of}
 use Rattle.job_steps.proofs.Gaining.{all_behind}
 use Rattle.cofactors.specs.Certificate.{IsCertificate}
 use Rattle.cofactors.specs.ProductList.{triples}
@@ -64,7 +65,7 @@ returns-in-Err-NoMemory-clause-end g c =
     let place = c.loop-place.place in
     let written = c.loop-place.invariant.written in
     let laws = c.normal_form_laws.ensures in
-    inr (some_gained p letters relations questions _ _ _ _ _ _ written.0 written.2
+    inr (some_gained p letters relations questions _ _ written.0 written.2
     (begun p letters relations questions c.setting_law.ensures laws.one laws.products c.requires.elements place
     (omega (arith, c.loop-place-test.true)) written.0 c.loop-place.invariant.none written.1))
 
@@ -77,7 +78,7 @@ returns-in_default-answer_text-clause-end g c =
     let place = c.loop-place.place in
     let written = c.loop-place.invariant.written in
     let laws = c.normal_form_laws.ensures in
-    inr (some_gained p letters relations questions _ _ _ _ _ _ written.0 written.2
+    inr (some_gained p letters relations questions _ _ written.0 written.2
     (begun p letters relations questions c.setting_law.ensures laws.one laws.products c.requires.elements place
     (omega (arith, c.loop-place-test.true)) written.0 c.loop-place.invariant.none written.1))
 
@@ -104,9 +105,9 @@ returns-in-Err-clause-end g c =
     let answers = one_more p letters relations questions place written.0 f at c.loop-place-test.true written.1 own is in
     let printed : c.as_slice.result.now ≡ answer_text letters.names p (place + 1) own = c.as_slice.ensures.value ∙ c.in-Ok-answer_text.ensures in
     let failed = c.in-Err.ensures in
-    let part = subst (GainsPart (g.K.Sink.held c.loop-place.out) (g.K.Sink.held c.write_all.new.sink) (g.K.Sink.room c.loop-place.out)) printed
+    let part = subst (GainsPart (state_of g.K.Sink c.loop-place.out) (state_of g.K.Sink c.write_all.new.sink)) printed
     (record { gained = failed.part.0; appended = failed.part.2; cut_short = failed.part.1; no_room = failed.taken }) in
-    cut_off p letters relations questions _ _ _ _ _ _ written.0 written.2 _ _ _ failed.cause.failed part
+    cut_off p letters relations questions _ _ written.0 written.2 (state_of g.K.Sink c.write_all.new.sink) _ failed.cause.failed part
     (begun p letters relations questions c.setting_law.ensures laws.one laws.products c.requires.elements (place + 1)
     (omega (arith, c.loop-place-test.true)) text none answers)
 
@@ -132,7 +133,6 @@ loop-place-preserved g c =
     let answers = one_more p letters relations questions place written.0 f at c.loop-place-test.true written.1 own is in
     let printed : c.as_slice.result.now ≡ answer_text letters.names p (place + 1) own = c.as_slice.ensures.value ∙ c.in-Ok-answer_text.ensures in
     let gained = c.in-Ok-write_all.ensures in
-    let all = subst (GainsAll (g.K.Sink.held c.loop-place.out) (g.K.Sink.held c.write_all.new.sink) (g.K.Sink.room c.loop-place.out)
-    (g.K.Sink.room c.write_all.new.sink) (g.K.Sink.faults c.loop-place.out) (g.K.Sink.faults c.write_all.new.sink)) printed
+    let all = subst (GainsAll (state_of g.K.Sink c.loop-place.out) (state_of g.K.Sink c.write_all.new.sink)) printed
     (record { appended = gained.all; falls = gained.room; kept = gained.cause.kept }) in
-    record { none = none; written = (text, answers, all_behind _ _ _ _ _ _ _ _ _ written.0 _ written.2 all) }
+    record { none = none; written = (text, answers, all_behind _ _ _ written.0 _ written.2 all) }
