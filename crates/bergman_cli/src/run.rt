@@ -8,7 +8,7 @@ ghost use Rattle.command_words.specs.declared.job.UsageFault.{UsageFault};
 ghost use Rattle.command_words.specs.JobOf.{IsJob, IsUsageFault};
 ghost use Rattle.job_steps.specs.Inputs.{IsInputEnd, IsTaken};
 ghost use Rattle.job_steps.specs.Lines.{fault_line};
-ghost use Rattle.job_steps.specs.States.{source_state, state_of};
+ghost use Rattle.job_steps.specs.States.{source_state, state_of, teller_state};
 ghost use Rattle.job_steps.specs.Status.{IsOfInput, PrintsNothing, ReadsNothing};
 ghost use Rattle.job_steps.specs.Statuses.{HasGained, IsOwn};
 ghost use Rattle.job_steps.specs.Traces.{IsTold, Tells};
@@ -29,7 +29,7 @@ use degree_loop::{CoreEngine, RaceEngine, SeqEngine, claim_history_law};
 use field_table::{Field, listed_moduli_law};
 use generated_text::generated_presentation;
 use ideal_laws::{DegreeEngine, Limits, Presentation, lower_law, setting_law};
-use job_steps::{Answer, Status, read_input, tell_status, write_answer};
+use job_steps::{Answer, Status, Teller, read_input, tell_status, write_answer};
 use plain_engine::PlainEngine;
 use relation_reader::reading_laws;
 use std::alloc::Global;
@@ -89,9 +89,9 @@ pub fn bergman<R: Threads + Sync, S: Source, K: Sink, T: Sink>(
 {
     words_law();
     reading_laws();
-    let mut failed = false;
-    let status = run_words(rt, alloc, words, source, out, err, gate, &mut failed);
-    tell_status(err, &mut failed, status);
+    let mut teller = Teller { err, failed: false };
+    let status = run_words(rt, alloc, words, source, out, gate, &mut teller);
+    tell_status(&mut teller, status);
     status
 }
 
@@ -102,9 +102,8 @@ fn run_words<R: Threads + Sync, S: Source, K: Sink, T: Sink>(
     words: &[String],
     source: &mut S,
     out: &mut K,
-    err: &mut T,
     gate: &PlannedGate,
-    failed: &mut bool,
+    teller: &mut Teller<'_, T>,
 ) -> Status
     ensures end { IsEnd (map string_bytes words.now) (source_state S.Source source.old)
         (source_state S.Source source.new) (state_of K.Sink out.old) (state_of K.Sink out.new) result }
@@ -115,9 +114,10 @@ fn run_words<R: Threads + Sync, S: Source, K: Sink, T: Sink>(
     ensures nothing { PrintsNothing result → out.new ≡ out.old }
     ensures reads { result ≢ Status.ReadFault → S.faults source.new ≡ S.faults source.old }
     ensures writes { result ≢ Status.WriteFault → K.faults out.new ≡ K.faults out.old }
+    ensures same_sink { teller.new.err.ghost_name ≡ teller.old.err.ghost_name }
     ensures told { (trace : List ℕ) × IsRunTrace (map string_bytes words.now) (S.left source.old)
         (S.left source.new) (state_of K.Sink out.old) (state_of K.Sink out.new) result trace
-        × Tells (state_of T.Sink err.old) (state_of T.Sink err.new) failed.old failed.new trace }
+        × Tells (teller_state T.Sink teller.old) (teller_state T.Sink teller.new) trace }
 {
     words_law();
     let job = match read_words(words) {
@@ -130,19 +130,19 @@ fn run_words<R: Threads + Sync, S: Source, K: Sink, T: Sink>(
     match job.engine {
         EngineKind::Plain => {
             let mut engine = PlainEngine::new(Limits::standard());
-            run_job(rt, alloc, &job, &mut engine, source, out, err, failed)
+            run_job(rt, alloc, &job, &mut engine, source, out, teller)
         }
         EngineKind::Seq => {
             let mut engine = SeqEngine::new(Limits::standard());
-            run_job(rt, alloc, &job, &mut engine, source, out, err, failed)
+            run_job(rt, alloc, &job, &mut engine, source, out, teller)
         }
         EngineKind::Core => {
             let mut engine = CoreEngine::new(Limits::standard(), job.workers, job.schedule);
-            run_job(rt, alloc, &job, &mut engine, source, out, err, failed)
+            run_job(rt, alloc, &job, &mut engine, source, out, teller)
         }
         EngineKind::Race => {
             let mut engine = RaceEngine::new(Limits::standard(), job.workers, gate);
-            run_job(rt, alloc, &job, &mut engine, source, out, err, failed)
+            run_job(rt, alloc, &job, &mut engine, source, out, teller)
         }
     }
 }
@@ -155,8 +155,7 @@ fn run_job<R: Threads + Sync, E: DegreeEngine, S: Source, K: Sink, T: Sink>(
     engine: &mut E,
     source: &mut S,
     out: &mut K,
-    err: &mut T,
-    failed: &mut bool,
+    teller: &mut Teller<'_, T>,
 ) -> Status
     requires engine { IsEngineOf job.now (E.kinds engine.old) (E.may_account engine.old) }
     requires sound { IsSound job.now }
@@ -169,10 +168,10 @@ fn run_job<R: Threads + Sync, E: DegreeEngine, S: Source, K: Sink, T: Sink>(
     ensures nothing { PrintsNothing result → out.new ≡ out.old }
     ensures reads { result ≢ Status.ReadFault → S.faults source.new ≡ S.faults source.old }
     ensures writes { result ≢ Status.WriteFault → K.faults out.new ≡ K.faults out.old }
+    ensures same_sink { teller.new.err.ghost_name ≡ teller.old.err.ghost_name }
     ensures told { (trace : List ℕ) × ((words : List (List ℕ)) → IsJob words job.now →
         IsRunTrace words (S.left source.old) (S.left source.new) (state_of K.Sink out.old) (state_of K.Sink out.new)
-        result trace) × Tells (state_of T.Sink err.old) (state_of T.Sink err.new) failed.old
-        failed.new trace }
+        result trace) × Tells (teller_state T.Sink teller.old) (teller_state T.Sink teller.new) trace }
 {
     let Ok(field) = Field::new(alloc, job.modulus) else {
         return Status::NoMemory;
@@ -183,7 +182,7 @@ fn run_job<R: Threads + Sync, E: DegreeEngine, S: Source, K: Sink, T: Sink>(
     };
     setting_law(&field, &given);
     let _letters = given.alphabet.len();
-    work(rt, alloc, job, engine, &field, &given, out, err, failed)
+    work(rt, alloc, job, engine, &field, &given, out, teller)
 }
 
 /// The letters and relations that the job works on, or the status that stands in their place.
@@ -223,8 +222,7 @@ fn work<R: Threads + Sync, E: DegreeEngine, K: Sink, T: Sink>(
     field: &Field,
     given: &Presentation,
     out: &mut K,
-    err: &mut T,
-    failed: &mut bool,
+    teller: &mut Teller<'_, T>,
 ) -> Status
     requires engine { IsEngineOf job.now (E.kinds engine.old) (E.may_account engine.old) }
     requires sound { IsSound job.now }
@@ -235,12 +233,13 @@ fn work<R: Threads + Sync, E: DegreeEngine, K: Sink, T: Sink>(
         (state_of K.Sink out.new) result }
     ensures nothing { PrintsNothing result → out.new ≡ out.old }
     ensures writes { result ≢ Status.WriteFault → K.faults out.new ≡ K.faults out.old }
+    ensures same_sink { teller.new.err.ghost_name ≡ teller.old.err.ghost_name }
     ensures told { (trace : List ℕ) × IsWorkTrace job.now given.now.alphabet given.now.relations
         (state_of K.Sink out.old) (state_of K.Sink out.new) result trace
-        × Tells (state_of T.Sink err.old) (state_of T.Sink err.new) failed.old failed.new trace }
+        × Tells (teller_state T.Sink teller.old) (teller_state T.Sink teller.new) trace }
 {
     if job.command == Command::Gb {
-        return run_gb(rt, alloc, job, engine, field, given, out, err, failed);
+        return run_gb(rt, alloc, job, engine, field, given, out, teller);
     }
     if job.command == Command::Normal {
         return run_normal(rt, alloc, job, engine, field, given, out);

@@ -1,7 +1,8 @@
 -- What the source and the sinks of a run tell of themselves.
-use Rattle.std.specs.Prelude.{ℕ, List, Option}
+use Rattle.std.specs.Prelude.{ℕ, Bool, List, Option}
 use Rattle.bg_io.specs.declared.ends.Sink.{Ghosts as SinkOf}
 use Rattle.bg_io.specs.declared.ends.Source.{Ghosts as SourceOf}
+use Rattle.job_steps.specs.declared.telling.Teller.{Teller}
 
 -- what a sink tells: the bytes taken so far, how many more it surely takes, how many writes failed and how many were
 -- made
@@ -13,6 +14,14 @@ pub record SinkState : Type 0 where
 
 abbrev pub state_of : {K : Type 0} → SinkOf K → K → SinkState
 state_of k sink = record { held = k.held sink; room = k.room sink; faults = k.faults sink; calls = k.calls sink }
+
+-- where lines are told: the sink of the lines, and whether telling has failed
+pub record TellerState : Type 0 where
+  pub err : SinkState
+  pub failed : Bool
+
+abbrev pub teller_state : {T : Type 0} → SinkOf T → Teller T → TellerState
+teller_state t teller = record { err = state_of t teller.err.now; failed = teller.failed }
 
 -- what a source tells: the bytes still to come, and how many reads failed
 pub record SourceState : Type 0 where

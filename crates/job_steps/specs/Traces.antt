@@ -14,7 +14,7 @@ use Rattle.ideal_laws.specs.Laws.{IsSetting}
 use Rattle.poly_writer.specs.Texts.{trace_text}
 use Rattle.job_steps.specs.Gains.{GainsSome, HasPrintedPart, HasPrintedSome}
 use Rattle.job_steps.specs.Progress.{IsPart, IsReach, IsStoppedBy, Reach, Task, ideal_of_task, last_degree}
-use Rattle.job_steps.specs.States.{SinkState}
+use Rattle.job_steps.specs.States.{SinkState, TellerState}
 use Rattle.job_steps.specs.declared.status.Status.{Status}
 use Rattle.job_steps.specs.declared.status.Status.TheVariants.{Done, Limit, WriteFault, NoMemory}
 
@@ -80,11 +80,12 @@ OfNextTrace May p given below traces Holds = (account : Account) × May p given 
     × Holds (trace_of traces given.alphabet.names (below.done + 1) account)
 
 -- a text is told after others: the whole, or a prefix where a write fails; and nothing where one has failed before
-pub record Tells (before after : SinkState) (failed fails : Bool) (text : List ℕ) : Type 0 where
-  pub later : before.faults ≤ after.faults
-  pub silent : failed ≡ true → (fails ≡ true) × Appends before.held after.held []
-  pub whole : failed ≡ false → fails ≡ false → Appends before.held after.held text
-  pub part : failed ≡ false → fails ≡ true → Rose before.faults after.faults × GainsSome before after text
+pub record Tells (before after : TellerState) (text : List ℕ) : Type 0 where
+  pub later : before.err.faults ≤ after.err.faults
+  pub silent : before.failed ≡ true → (after.failed ≡ true) × Appends before.err.held after.err.held []
+  pub whole : before.failed ≡ false → after.failed ≡ false → Appends before.err.held after.err.held text
+  pub part : before.failed ≡ false → after.failed ≡ true →
+      Rose before.err.faults after.err.faults × GainsSome before.err after.err text
 
 -- the whole was told, or the count of faults rose and a prefix was told
 pub record IsTold (before after : SinkState) (text : List ℕ) : Type 0 where

@@ -12,10 +12,10 @@ ghost use Rattle.poly_writer.specs.Texts.{degree_text, element_line, series_text
 ghost use Rattle.job_steps.specs.Gains.{CountsWrites, GainsAll, HasPrinted, IsUndone, IsUnwritten};
 ghost use Rattle.job_steps.specs.Printing.{IsBasisUndone, IsNextUndone, IsSeriesUndone, IsWholeSeries, OfNext, task_of};
 ghost use Rattle.job_steps.specs.Progress.{IsBasisSoFar, whole};
-ghost use Rattle.job_steps.specs.States.{state_of};
+ghost use Rattle.job_steps.specs.States.{state_of, teller_state};
 ghost use Rattle.job_steps.specs.Traces.{ArePrintable, OfNextTrace, OfTrace, Tells};
 
-use crate::telling::tell_degree;
+use crate::telling::{Teller, tell_degree};
 use bg_io::{Sink, write_all};
 use field_table::Field;
 use free_poly::Poly;
@@ -72,8 +72,7 @@ pub fn print_job<R: Threads + Sync, E: DegreeEngine, K: Sink, T: Sink>(
     given: &Presentation,
     asked: Asked,
     out: &mut K,
-    err: &mut T,
-    failed: &mut bool,
+    teller: &mut Teller<'_, T>,
 ) -> Result<(), PrintFault>
     requires small { asked.bound ≤ 64 }
     requires residues { All (HasResidues field.now) given.now.relations }
@@ -83,17 +82,17 @@ pub fn print_job<R: Threads + Sync, E: DegreeEngine, K: Sink, T: Sink>(
         (state_of K.Sink out.old) (state_of K.Sink out.new)) }
     ensures told { OnOk result (OfTrace (E.may_account engine.old)
         (task_of field.now given.now (E.kinds engine.old) asked) asked.trace asked.bound
-        (Tells (state_of T.Sink err.old) (state_of T.Sink err.new) failed.old failed.new)) }
+        (Tells (teller_state T.Sink teller.old) (teller_state T.Sink teller.new))) }
     ensures undone { IfErr result (IsUndone (task_of field.now given.now (E.kinds engine.old) asked)
         (state_of K.Sink out.old) (state_of K.Sink out.new)
         (λ e. OfTrace (E.may_account engine.old) (task_of field.now given.now (E.kinds engine.old) asked)
-        asked.trace e (Tells (state_of T.Sink err.old) (state_of T.Sink err.new) failed.old
-        failed.new))) }
+        asked.trace e (Tells (teller_state T.Sink teller.old) (teller_state T.Sink teller.new)))) }
     ensures steady { result ≢ Err PrintFault.WriteFault → K.faults out.new ≡ K.faults out.old }
     ensures calls { CountsWrites (state_of K.Sink out.old) (state_of K.Sink out.new) result }
+    ensures same_sink { teller.new.err.ghost_name ≡ teller.old.err.ghost_name }
 {
     setting_law(field, given);
-    let basis = print_basis(rt, alloc, engine, field, given, asked, out, err, failed)?;
+    let basis = print_basis(rt, alloc, engine, field, given, asked, out, teller)?;
     if !asked.series {
         return Ok(());
     }
@@ -112,8 +111,7 @@ fn print_basis<R: Threads + Sync, E: DegreeEngine, K: Sink, T: Sink>(
     given: &Presentation,
     asked: Asked,
     out: &mut K,
-    err: &mut T,
-    failed: &mut bool,
+    teller: &mut Teller<'_, T>,
 ) -> Result<Basis, PrintFault>
     requires small { asked.bound ≤ 64 }
     requires residues { All (HasResidues field.now) given.now.relations }
@@ -127,19 +125,19 @@ fn print_basis<R: Threads + Sync, E: DegreeEngine, K: Sink, T: Sink>(
         × GainsAll (state_of K.Sink out.old) (state_of K.Sink out.new) text) }
     ensures told { OnOk result (OfTrace (E.may_account engine.old)
         (task_of field.now given.now (E.kinds engine.old) asked) asked.trace asked.bound
-        (Tells (state_of T.Sink err.old) (state_of T.Sink err.new) failed.old failed.new)) }
+        (Tells (teller_state T.Sink teller.old) (teller_state T.Sink teller.new))) }
     ensures undone { IfErr result (IsBasisUndone (task_of field.now given.now (E.kinds engine.old) asked)
         (state_of K.Sink out.old) (state_of K.Sink out.new)
         (λ e. OfTrace (E.may_account engine.old) (task_of field.now given.now (E.kinds engine.old) asked)
-        asked.trace e (Tells (state_of T.Sink err.old) (state_of T.Sink err.new) failed.old
-        failed.new))) }
+        asked.trace e (Tells (teller_state T.Sink teller.old) (teller_state T.Sink teller.new)))) }
     ensures steady { result ≢ Err PrintFault.WriteFault → K.faults out.new ≡ K.faults out.old }
     ensures calls { CountsWrites (state_of K.Sink out.old) (state_of K.Sink out.new) result }
+    ensures same_sink { teller.new.err.ghost_name ≡ teller.old.err.ghost_name }
 {
     let mut basis = Basis::new(alloc, &given.alphabet);
     for _degree in 0..asked.bound {
         print_next(
-            rt, alloc, engine, field, given, asked, &mut basis, out, err, failed,
+            rt, alloc, engine, field, given, asked, &mut basis, out, teller,
         )?;
     }
     Ok(basis)
@@ -155,8 +153,7 @@ fn print_next<R: Threads + Sync, E: DegreeEngine, K: Sink, T: Sink>(
     asked: Asked,
     basis: &mut Basis,
     out: &mut K,
-    err: &mut T,
-    failed: &mut bool,
+    teller: &mut Teller<'_, T>,
 ) -> Result<(), PrintFault>
     requires small { basis.old.done < 64 }
     requires weights { basis.old.weights ≡ given.now.alphabet.weights }
@@ -171,15 +168,16 @@ fn print_next<R: Threads + Sync, E: DegreeEngine, K: Sink, T: Sink>(
     ensures printed { OnOk result (OfNext (task_of field.now given.now (E.kinds engine.old) asked) basis.old
         (GainsAll (state_of K.Sink out.old) (state_of K.Sink out.new))) }
     ensures told { OnOk result (OfNextTrace (E.may_account engine.old) field.now given.now basis.old asked.trace
-        (Tells (state_of T.Sink err.old) (state_of T.Sink err.new) failed.old failed.new)) }
+        (Tells (teller_state T.Sink teller.old) (teller_state T.Sink teller.new))) }
     ensures undone { IfErr result (IsNextUndone (task_of field.now given.now (E.kinds engine.old) asked) basis.old
         (state_of K.Sink out.old) (state_of K.Sink out.new)
-        (Tells (state_of T.Sink err.old) (state_of T.Sink err.new) failed.old failed.new [])
+        (Tells (teller_state T.Sink teller.old) (teller_state T.Sink teller.new) [])
         (OfNextTrace (E.may_account engine.old) field.now given.now basis.old asked.trace
-        (Tells (state_of T.Sink err.old) (state_of T.Sink err.new) failed.old failed.new))) }
+        (Tells (teller_state T.Sink teller.old) (teller_state T.Sink teller.new)))) }
     ensures steady { result ≢ Err PrintFault.WriteFault → K.faults out.new ≡ K.faults out.old }
     ensures calls { CountsWrites (state_of K.Sink out.old) (state_of K.Sink out.new) result }
 
+    ensures same_sink { teller.new.err.ghost_name ≡ teller.old.err.ghost_name }
     ensures kinds { E.kinds engine.new ≡ E.kinds engine.old }
     ensures accounts { (p : ℕ) (rs : Presentation) (b : Elements) (e : ℕ) (a : Account) →
         E.may_account engine.new p rs b e a → E.may_account engine.old p rs b e a }
@@ -200,15 +198,7 @@ fn print_next<R: Threads + Sync, E: DegreeEngine, K: Sink, T: Sink>(
         Err(EngineFault::NoMemory) => Err(PrintFault::NoMemory),
         Ok(account) => {
             let d = basis.done();
-            tell_degree(
-                alloc,
-                asked.trace,
-                &given.alphabet,
-                d,
-                &account,
-                err,
-                failed,
-            )?;
+            tell_degree(alloc, asked.trace, &given.alphabet, d, &account, teller)?;
             if !asked.basis {
                 return Ok(());
             }

@@ -1,4 +1,4 @@
-use Rattle.std.proofs.Common.{false, map, refl, string_bytes}
+use Rattle.std.proofs.Common.{map, refl, rules, string_bytes}
 use Rattle.job_steps.specs.Lines.{fault_line}
 use Rattle.job_steps.specs.States.{source_state, state_of}
 use Rattle.job_steps.proofs.Traced.{tells_behind, told_end}
@@ -38,12 +38,9 @@ returns-clause-memory g c = end_memory (map string_bytes c.args.words.now) (sour
 
 pub returns-clause-told : goal.returns-clause-told
 returns-clause-told g c =
-    let told = c.run_words-status.ensures.told in (
-      told.0,
-      told.1,
-      told_end _ _ false c.tell_status.new.failed _ refl
-          (tells_behind _ _ _ told.0 (fault_line c.run_words-status.result) false _ _ told.2 c.tell_status.ensures),
-    )
+    let told = c.run_words-status.ensures.told in
+    let whole = told_end _ _ _ refl (tells_behind _ _ _ told.0 (fault_line c.run_words-status.result) told.2 c.tell_status.ensures.told) in
+    (told.0, told.1, search (whole, rules))
 
 pub returns-clause-complete : goal.returns-clause-complete
 returns-clause-complete g c =

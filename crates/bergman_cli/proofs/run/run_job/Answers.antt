@@ -1,13 +1,13 @@
 use Rattle.std.proofs.Common.{ℕ, [], refl, inl, subst}
 use Rattle.ideal_laws.specs.Ideal.{ideal_of}
 use Rattle.ideal_laws.specs.Laws.{IsSetting}
-use Rattle.job_steps.specs.States.{state_of}
+use Rattle.job_steps.specs.States.{state_of, teller_state}
 use Rattle.job_steps.proofs.Traced.{tells_none}
 use Rattle.bergman_cli.proofs.RunTraces.{work_trace}
 use Rattle.bergman_cli.proofs.run.run_job.Goals as goal
 
 pub returns-in_default-clause-told : goal.returns-in_default-clause-told
-returns-in_default-clause-told g c = ([], λ words is. inl refl, tells_none (state_of g.T.Sink c.args.err.now) c.args.failed.now)
+returns-in_default-clause-told g c = ([], λ words is. inl refl, tells_none (teller_state g.T.Sink c.args.teller.now))
 
 pub returns-clause-told : goal.returns-clause-told
 returns-clause-told g c =

@@ -1,6 +1,6 @@
 use Rattle.std.proofs.Common.{◌≢◌, [], refl, rules, subst}
 use Rattle.command_words.specs.declared.job.Command.TheVariants.{Gb, Normal}
-use Rattle.job_steps.specs.States.{state_of}
+use Rattle.job_steps.specs.States.{state_of, teller_state}
 use Rattle.job_steps.specs.Status.{PrintsNothing}
 use Rattle.job_steps.proofs.Statuses.{answered_status}
 use Rattle.job_steps.proofs.Traced.{tells_none}
@@ -42,7 +42,7 @@ returns-then-eq-2-clause-told g c =
       [],
       no_trace job c.args.given.now.alphabet c.args.given.now.relations (state_of g.K.Sink c.args.out.now)
           (state_of g.K.Sink c.run_normal.new.out) [] job.command c.run_normal.result other refl,
-      tells_none (state_of g.T.Sink c.args.err.now) c.args.failed.now,
+      tells_none (teller_state g.T.Sink c.args.teller.now),
     )
 
 pub returns-in-Ok-clause-told : goal.returns-in-Ok-clause-told
@@ -52,7 +52,7 @@ returns-in-Ok-clause-told g c =
       [],
       no_trace job c.args.given.now.alphabet c.args.given.now.relations (state_of g.K.Sink c.args.out.now)
           (state_of g.K.Sink c.write_answer.new.out) [] job.command c.write_answer.result other refl,
-      tells_none (state_of g.T.Sink c.args.err.now) c.args.failed.now,
+      tells_none (teller_state g.T.Sink c.args.teller.now),
     )
 
 pub returns-in-Err-clause-told : goal.returns-in-Err-clause-told
@@ -62,5 +62,5 @@ returns-in-Err-clause-told g c =
       [],
       no_trace job c.args.given.now.alphabet c.args.given.now.relations (state_of g.K.Sink c.args.out.now)
           (state_of g.K.Sink c.args.out.now) [] job.command _ other refl,
-      tells_none (state_of g.T.Sink c.args.err.now) c.args.failed.now,
+      tells_none (teller_state g.T.Sink c.args.teller.now),
     )

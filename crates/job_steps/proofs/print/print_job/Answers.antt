@@ -3,7 +3,7 @@ use Rattle.std.proofs.lemmas.Result.{err_from_is_err_and}
 use Rattle.ideal_laws.specs.Limits.{standard_limits}
 use Rattle.job_steps.specs.Gains.{IsUndone}
 use Rattle.job_steps.specs.Printing.{IsSeriesUndone, IsWholeSeries, task_of}
-use Rattle.job_steps.specs.States.{state_of}
+use Rattle.job_steps.specs.States.{state_of, teller_state}
 use Rattle.job_steps.specs.Traces.{OfTrace, Tells}
 use Rattle.job_steps.proofs.Ended.{done_with_series, undone_series}
 use Rattle.job_steps.proofs.DegreeLines.{if_err, is_shown}
@@ -15,7 +15,7 @@ pub returns-in_err-basis-clause-undone : goal.returns-in_err-basis-clause-undone
 returns-in_err-basis-clause-undone g c =
     let task = task_of c.args.field.now c.args.given.now (g.E.DegreeEngine.kinds c.args.engine.now) c.args.asked in
     let e = err_from_is_err_and c.from_residual.result c.from_residual.ensures.1 in
-    let Told = Tells (state_of g.T.Sink c.args.err.now) (state_of g.T.Sink c.print_basis.new.err) c.args.failed.now c.print_basis.new.failed in
+    let Told = Tells (teller_state g.T.Sink c.args.teller.now) (teller_state g.T.Sink c.print_basis.new.teller) in
     let Holds : ℕ → Type 0 = λ e. OfTrace (g.E.DegreeEngine.may_account c.args.engine.now) task c.args.asked.trace e Told in
     if_err c.from_residual.result e.0 _ (IsUndone task (state_of g.K.Sink c.args.out.now) (state_of g.K.Sink c.print_basis.new.out) Holds) e.1 e.2
     (undone_basis task c.setting_law.ensures (state_of g.K.Sink c.args.out.now) (state_of g.K.Sink c.print_basis.new.out) Holds _ c.in_err-basis.ensures.undone)
@@ -33,7 +33,7 @@ pub returns-clause-undone : goal.returns-clause-undone
 returns-clause-undone g c =
     let task = task_of c.args.field.now c.args.given.now (g.E.DegreeEngine.kinds c.args.engine.now) c.args.asked in
     let May = g.E.DegreeEngine.may_account c.args.engine.now in
-    let Told = Tells (state_of g.T.Sink c.args.err.now) (state_of g.T.Sink c.print_basis.new.err) c.args.failed.now c.print_basis.new.failed in
+    let Told = Tells (teller_state g.T.Sink c.args.teller.now) (teller_state g.T.Sink c.print_basis.new.teller) in
     let Holds : ℕ → Type 0 = λ e. OfTrace May task c.args.asked.trace e Told in
     let told = c.in_ok-basis.ensures.told in
     let basis = c.in_ok-basis.ensures.printed in

@@ -4,7 +4,7 @@ use Rattle.ideal_laws.specs.Ideal.{ideal_of}
 use Rattle.ideal_laws.specs.Kept.{IsBelow}
 use Rattle.ideal_laws.specs.Quantities.{IsFirstPassing, IsQuantity}
 use Rattle.job_steps.specs.Printing.{task_of}
-use Rattle.job_steps.specs.States.{state_of}
+use Rattle.job_steps.specs.States.{state_of, teller_state}
 use Rattle.job_steps.specs.Traces.{Tells, trace_of}
 use Rattle.job_steps.proofs.Gaining.{all_none}
 use Rattle.job_steps.proofs.Traced.{tells_none}
@@ -20,7 +20,7 @@ returns-in-Err-Limit-clause-undone g c =
       c.in-Err-Limit.degree-is ∙ u.0,
       limit_moved (IsFirstPassing Q limits) _ _ _ _ c.in-Err-Limit.kind-is c.in-Err-Limit.value-is u.1,
       Appends-nil (g.K.Sink.held c.args.out.now),
-      tells_none (state_of g.T.Sink c.args.err.now) c.args.failed.now,
+      tells_none (teller_state g.T.Sink c.args.teller.now),
     )
 
 pub returns-then-not-asked-clause-printed : goal.returns-then-not-asked-clause-printed
@@ -59,7 +59,7 @@ returns-in-Ok-write_degree-clause-printed g c =
 pub returns-clause-undone : goal.returns-clause-undone
 returns-clause-undone g c =
     let next = c.in-Ok.ensures in
-    let Told = Tells (state_of g.T.Sink c.args.err.now) (state_of g.T.Sink c.tell_degree.new.err) c.args.failed.now c.tell_degree.new.failed in
+    let Told = Tells (teller_state g.T.Sink c.args.teller.now) (teller_state g.T.Sink c.tell_degree.new.teller) in
     let told = subst (λ (d : ℕ). Told (trace_of c.args.asked.trace c.args.given.now.alphabet.names d c.in-Ok.account))
     (c.done-d.ensures.value ∙ next.done) c.in_ok-tell_degree-in-Ok.ensures.told in
     undone_shown (task_of c.args.field.now c.args.given.now (g.E.DegreeEngine.kinds c.args.engine.now) c.args.asked)
