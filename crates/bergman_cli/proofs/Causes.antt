@@ -1,5 +1,5 @@
 -- What the end of a run says of its status.
-use Rattle.std.proofs.Common.{◌≡◌, ◌≢◌, ◌⊎◌, ◌↔◌, ◌≤◌, ℕ, List, [], refl, ap, inl, inr, subst}
+use Rattle.std.proofs.Common.{◌≡◌, ◌≢◌, ◌⊎◌, ◌↔◌, ◌≤◌, ◌∙◌, ℕ, List, [], refl, ap, inl, inr, subst}
 use Rattle.std.specs.Io.KnownBytes.{Appends}
 use Rattle.bg_io.specs.Ends.{Rose}
 use Rattle.command_words.specs.declared.job.Command.{Command}
@@ -68,27 +68,30 @@ own_is_not status other none own is = none (subst IsOwn is own)
 of_input_is_not : (status other : Status) → (IsOfInput other → ⊥) → IsOfInput status → status ≢ other
 of_input_is_not status other none own is = none (subst IsOfInput is own)
 
+-- a usage fault, or a status of a run that read its words as a job
+usage_or_job : (status : Status) → ((fault : UsageFault) × (status ≡ Usage fault)) ⊎ (ReadsNothing status → ⊥)
+usage_or_job Done = inr (λ none. none)
+usage_or_job (Usage fault) = inl (fault, refl)
+usage_or_job (Input problem) = inr (λ none. none)
+usage_or_job (Limit kind d value) = inr (λ none. none)
+usage_or_job (Chains d value) = inr (λ none. none)
+usage_or_job (Products d value) = inr (λ none. none)
+usage_or_job ReadFault = inr (λ none. none)
+usage_or_job WriteFault = inr (λ none. none)
+usage_or_job NoMemory = inr (λ none. none)
+
+-- what no usage fault has, no status has of a run that reads nothing
+pub reads_nothing_not : (P : Status → Type 0) → ((fault : UsageFault) → P (Usage fault) → ⊥) → (status : Status) → ReadsNothing status → P status → ⊥
+reads_nothing_not P never status none h = elim (usage_or_job status) [
+  | inl own ↦ never own.0 (subst P own.1 h)
+  | inr some ↦ some none
+]
+
 not_both : (status : Status) → ReadsNothing status → IsOwn status → ⊥
-not_both (Usage fault) none own = own
-not_both Done none own = none
-not_both (Input problem) none own = none
-not_both (Limit kind d value) none own = none
-not_both (Chains d value) none own = none
-not_both (Products d value) none own = none
-not_both ReadFault none own = none
-not_both WriteFault none own = none
-not_both NoMemory none own = none
+not_both status none own = reads_nothing_not IsOwn (λ fault h. h) status none own
 
 not_both_input : (status : Status) → ReadsNothing status → IsOfInput status → ⊥
-not_both_input (Usage fault) none of = of
-not_both_input Done none of = none
-not_both_input (Input problem) none of = none
-not_both_input (Limit kind d value) none of = none
-not_both_input (Chains d value) none of = none
-not_both_input (Products d value) none of = none
-not_both_input ReadFault none of = none
-not_both_input WriteFault none of = none
-not_both_input NoMemory none of = none
+not_both_input status none of = reads_nothing_not IsOfInput (λ fault h. h) status none of
 
 module _ (job : Job) (unread rest : SourceState) (before after : SinkState) where
   abbrev Ends : Status → Type 0
@@ -167,29 +170,26 @@ module _ (words : List (List ℕ)) (unread rest : SourceState) (before after : S
   abbrev JobEnds : Job → Status → Type 0
   JobEnds job = IsJobEnd job unread rest before after
 
+  -- but for a usage fault, a run ends as its job does
+  as_job : (status : Status) → (ReadsNothing status → ⊥) →
+      (OfJob words (λ job. JobEnds job status) → End status) × (End status → OfJob words (λ job. JobEnds job status))
+  as_job Done some = (λ h. h, λ h. h)
+  as_job (Usage fault) some = absurd (some tt)
+  as_job (Input problem) some = (λ h. h, λ h. h)
+  as_job (Limit kind d value) some = (λ h. h, λ h. h)
+  as_job (Chains d value) some = (λ h. h, λ h. h)
+  as_job (Products d value) some = (λ h. h, λ h. h)
+  as_job ReadFault some = (λ h. h, λ h. h)
+  as_job WriteFault some = (λ h. h, λ h. h)
+  as_job NoMemory some = (λ h. h, λ h. h)
+
   -- a status of a job is one of the run
   pub end_of_job : (status : Status) (job : Job) → IsJob words job → JobEnds job status → End status
-  end_of_job Done job is h = (job, is, h)
-  end_of_job (Usage fault) job is h = absurd (job_reads job unread rest before after (Usage fault) h tt)
-  end_of_job (Input problem) job is h = (job, is, h)
-  end_of_job (Limit kind d value) job is h = (job, is, h)
-  end_of_job (Chains d value) job is h = (job, is, h)
-  end_of_job (Products d value) job is h = (job, is, h)
-  end_of_job ReadFault job is h = (job, is, h)
-  end_of_job WriteFault job is h = (job, is, h)
-  end_of_job NoMemory job is h = (job, is, h)
+  end_of_job status job is h = (as_job status (job_reads job unread rest before after status h)).0 (job, is, h)
 
   -- and back
-  job_of_end : (status : Status) → End status → (ReadsNothing status → ⊥) → OfJob words (λ job. JobEnds job status)
-  job_of_end Done end some = end
-  job_of_end (Usage fault) end some = absurd (some tt)
-  job_of_end (Input problem) end some = end
-  job_of_end (Limit kind d value) end some = end
-  job_of_end (Chains d value) end some = end
-  job_of_end (Products d value) end some = end
-  job_of_end ReadFault end some = end
-  job_of_end WriteFault end some = end
-  job_of_end NoMemory end some = end
+  pub job_of_end : (status : Status) → End status → (ReadsNothing status → ⊥) → OfJob words (λ job. JobEnds job status)
+  job_of_end status end some = (as_job status some).1 end
 
   module _ (status : Status) (end : End status) where
     pub end_own : IsOwn status → OfWork words unread.left rest.left (λ job letters relations. HasGained before after (IsOutcome job letters relations status))
@@ -226,15 +226,10 @@ module _ (words : List (List ℕ)) (unread rest : SourceState) (before after : S
 
     -- with a job there is no usage fault, and so on
     usage_only : (fault : UsageFault) (status : Status) → IsUsageFault words fault → End status → status ≡ Usage fault
-    usage_only fault (Usage own) h end = ap Usage (one_fault words one own fault end h)
-    usage_only fault Done h end = absurd (fault_and_job fault _ h end)
-    usage_only fault (Input problem) h end = absurd (fault_and_job fault _ h end)
-    usage_only fault (Limit kind d value) h end = absurd (fault_and_job fault _ h end)
-    usage_only fault (Chains d value) h end = absurd (fault_and_job fault _ h end)
-    usage_only fault (Products d value) h end = absurd (fault_and_job fault _ h end)
-    usage_only fault ReadFault h end = absurd (fault_and_job fault _ h end)
-    usage_only fault WriteFault h end = absurd (fault_and_job fault _ h end)
-    usage_only fault NoMemory h end = absurd (fault_and_job fault _ h end)
+    usage_only fault status h end = elim (usage_or_job status) [
+      | inl own ↦ own.1 ∙ ap Usage (one_fault words one own.0 fault (subst End own.1 end) h)
+      | inr some ↦ absurd (fault_and_job fault _ h (job_of_end status end some))
+    ]
 
     pub usage_exactly : (fault : UsageFault) (status : Status) → End status → (status ≡ Usage fault) ↔ IsUsageFault words fault
     usage_exactly fault status end = (λ is. subst End is end, λ h. usage_only fault status h end)

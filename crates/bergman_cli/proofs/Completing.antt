@@ -14,10 +14,12 @@ use Rattle.job_steps.specs.declared.status.InputProblem.TheVariants.{TooLong, Te
 use Rattle.job_steps.specs.declared.status.Status.{Status}
 use Rattle.job_steps.specs.declared.status.Status.TheVariants.{Done, Usage, Input, Limit, Chains, Products, ReadFault, WriteFault, NoMemory}
 use Rattle.job_steps.specs.States.{SinkState, SourceState}
+use Rattle.job_steps.specs.Status.{ReadsNothing}
 use Rattle.job_steps.specs.Statuses.{IsOwn}
 use Rattle.bergman_cli.specs.Jobs.{OfJob}
 use Rattle.bergman_cli.specs.Outcomes.{IsDue, IsWorkEnd}
 use Rattle.bergman_cli.specs.Run.{Completes, IsCaused, IsDueTo, IsEnd, IsJobEnd, IsMishap, IsUngivenTo, ReadsSource}
+use Rattle.bergman_cli.proofs.Causes.{job_of_end, reads_nothing_not}
 use Rattle.bergman_cli.proofs.Given.{fault_mishap, given_input, given_is, input_is, long_mishap, make_or_reads, no_text_fault, one_reading}
 use Rattle.bergman_cli.proofs.Given.{read_mishap, told_input, ungiven_input}
 use Rattle.bergman_cli.proofs.Jobs.{listed, listed_some, no_fault, one_job}
@@ -141,15 +143,9 @@ module _ (words : List (List ℕ)) (unread rest : SourceState) (before after : S
 
   -- the run of a job ends as the job does
   ends_of : (status : Status) → End status → JobEnds status
-  ends_of Done end = same_job Done end
-  ends_of (Usage fault) end = absurd (no_fault words one job fault is end)
-  ends_of (Input problem) end = same_job (Input problem) end
-  ends_of (Limit kind d value) end = same_job (Limit kind d value) end
-  ends_of (Chains d value) end = same_job (Chains d value) end
-  ends_of (Products d value) end = same_job (Products d value) end
-  ends_of ReadFault end = same_job ReadFault end
-  ends_of WriteFault end = same_job WriteFault end
-  ends_of NoMemory end = same_job NoMemory end
+  ends_of status end =
+      let some : ReadsNothing status → ⊥ = λ none. reads_nothing_not End (λ fault h. no_fault words one job fault is h) status none end in
+      same_job status (job_of_end words unread rest before after status end some)
 
   pub job_completes : HasOneReading → (own status : Status) → End status → IsCaused job unread.left own →
       (status ≡ own) ⊎ IsMishap job.command own unread rest before after status
