@@ -22,12 +22,13 @@ use Rattle.job_steps.specs.declared.status.Status.TheVariants.{Done, Usage, Inpu
 use Rattle.job_steps.specs.Gains.{IsUndone}
 use Rattle.job_steps.specs.Printing.{task_of}
 use Rattle.job_steps.specs.Progress.{Task, ideal_of_task}
-use Rattle.job_steps.specs.States.{SinkState}
+use Rattle.job_steps.specs.States.{SinkState, TellerState}
 use Rattle.bergman_cli.specs.Engines.{AreAmong, IsEngineOf, accounts_of, limits_of, traces_of}
 use Rattle.bergman_cli.specs.Gb.{gb_task, shows_basis, shows_series}
 use Rattle.bergman_cli.specs.Outcomes.{IsWorkTrace, IsWorkTraceOf}
 use Rattle.bergman_cli.specs.Run.{IsGivenReading, IsRunTrace, OfWork}
-use Rattle.job_steps.specs.Traces.{Accounts, AreAccounts, IsAccountOf, IsTaskTrace, IsTrace, IsTracePart, OfTrace}
+use Rattle.job_steps.specs.Traces.{Accounts, AreAccounts, IsAccountOf, IsTaskTrace, IsTrace, IsTracePart, OfTrace, Tells}
+use Rattle.job_steps.proofs.Traced.{tells_none}
 
 -- what a task that ended so has for its trace
 module _ (May Own : Accounts) (t : Task) (st : IsSetting (ideal_of_task t)) where
@@ -174,6 +175,12 @@ module _ (job : Job) (letters : Letters) (relations : List (List Term)) (before 
   no_trace commands.Module status other h = h
   no_trace commands.Chains status other h = h
   no_trace commands.Normal status other h = h
+
+-- nothing is told of its work
+pub untold : (job : Job) (letters : Letters) (relations : List (List Term)) (before after : SinkState) (status : Status) → job.command ≢ commands.Gb →
+    (teller : TellerState) → (trace : List ℕ) × IsWorkTrace job letters relations before after status trace × Tells teller teller trace
+untold job letters relations before after status other teller =
+    ([], no_trace job letters relations before after [] job.command status other refl, tells_none teller)
 
 module _ (words : List (List ℕ)) (left now : Option (List ℕ)) (before after : SinkState) where
   abbrev Traces : Status → List ℕ → Type 0

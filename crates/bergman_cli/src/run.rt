@@ -96,6 +96,7 @@ pub fn bergman<R: Threads + Sync, S: Source, K: Sink, T: Sink>(
 }
 
 /// Runs the words by the engine that they name.
+#[tactic(auto, using(crate::proofs::Jobs::some_workers, crate::proofs::Jobs::few_workers))]
 fn run_words<R: Threads + Sync, S: Source, K: Sink, T: Sink>(
     rt: &R,
     alloc: Global,

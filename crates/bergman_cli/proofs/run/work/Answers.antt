@@ -1,10 +1,9 @@
-use Rattle.std.proofs.Common.{◌≢◌, [], refl, rules, subst}
+use Rattle.std.proofs.Common.{◌≢◌, rules, subst}
 use Rattle.command_words.specs.declared.job.Command.TheVariants.{Gb, Normal}
 use Rattle.job_steps.specs.States.{state_of, teller_state}
 use Rattle.job_steps.specs.Status.{PrintsNothing}
 use Rattle.job_steps.proofs.Statuses.{answered_status}
-use Rattle.job_steps.proofs.Traced.{tells_none}
-use Rattle.bergman_cli.proofs.RunTraces.{no_trace}
+use Rattle.bergman_cli.proofs.RunTraces.{untold}
 use Rattle.bergman_cli.proofs.Works.{answer_ends, due_own, outcome_due, quiet}
 use Rattle.bergman_cli.proofs.run.work.Goals as goal
 
@@ -37,30 +36,18 @@ returns-in-Ok-clause-nothing g c = λ none.
 
 pub returns-then-eq-2-clause-told : goal.returns-then-eq-2-clause-told
 returns-then-eq-2-clause-told g c =
-    let job = c.args.job.now in
-    let other : job.command ≢ Gb = search rules in (
-      [],
-      no_trace job c.args.given.now.alphabet c.args.given.now.relations (state_of g.K.Sink c.args.out.now)
-          (state_of g.K.Sink c.run_normal.new.out) [] job.command c.run_normal.result other refl,
-      tells_none (teller_state g.T.Sink c.args.teller.now),
-    )
+    let other : c.args.job.now.command ≢ Gb = search rules in
+    untold c.args.job.now c.args.given.now.alphabet c.args.given.now.relations (state_of g.K.Sink c.args.out.now)
+    (state_of g.K.Sink c.run_normal.new.out) c.run_normal.result other (teller_state g.T.Sink c.args.teller.now)
 
 pub returns-in-Ok-clause-told : goal.returns-in-Ok-clause-told
 returns-in-Ok-clause-told g c =
-    let job = c.args.job.now in
-    let other : job.command ≢ Gb = search rules in (
-      [],
-      no_trace job c.args.given.now.alphabet c.args.given.now.relations (state_of g.K.Sink c.args.out.now)
-          (state_of g.K.Sink c.write_answer.new.out) [] job.command c.write_answer.result other refl,
-      tells_none (teller_state g.T.Sink c.args.teller.now),
-    )
+    let other : c.args.job.now.command ≢ Gb = search rules in
+    untold c.args.job.now c.args.given.now.alphabet c.args.given.now.relations (state_of g.K.Sink c.args.out.now)
+    (state_of g.K.Sink c.write_answer.new.out) c.write_answer.result other (teller_state g.T.Sink c.args.teller.now)
 
 pub returns-in-Err-clause-told : goal.returns-in-Err-clause-told
 returns-in-Err-clause-told g c =
-    let job = c.args.job.now in
-    let other : job.command ≢ Gb = search rules in (
-      [],
-      no_trace job c.args.given.now.alphabet c.args.given.now.relations (state_of g.K.Sink c.args.out.now)
-          (state_of g.K.Sink c.args.out.now) [] job.command _ other refl,
-      tells_none (teller_state g.T.Sink c.args.teller.now),
-    )
+    let other : c.args.job.now.command ≢ Gb = search rules in
+    untold c.args.job.now c.args.given.now.alphabet c.args.given.now.relations (state_of g.K.Sink c.args.out.now)
+    (state_of g.K.Sink c.args.out.now) _ other (teller_state g.T.Sink c.args.teller.now)
