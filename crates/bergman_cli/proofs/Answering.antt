@@ -1,9 +1,8 @@
 -- What is written of the answers is the beginning of an outcome.
-use Rattle.std.proofs.Common.{◌≡◌, ◌+◌, ◌-◌, ◌<◌, ◌≤◌, ℕ, zero, suc, List, [], ◌∷◌, ◌++◌, All, length, refl, sym, ap, ◌∙◌, inl, inr, arith, subst, take}
+use Rattle.std.proofs.Common.{◌≡◌, ◌+◌, ◌-◌, ◌<◌, ◌≤◌, ℕ, zero, suc, List, [], ◌∷◌, ◌++◌, All, get_or, length, refl, sym, ap, ◌∙◌, inl, inr, arith, subst, take}
 use Rattle.std.specs.Prelude.{slice_index_or}
-use Rattle.std.specs.declared.option.Option.{Option}
 use Rattle.std.proofs.lemmas.Bool.{cases_lt}
-use Rattle.std.proofs.lemmas.List.{length-take-le, take_all, take_more}
+use Rattle.std.proofs.lemmas.List.{get_or_default, length-take-le, take_all, take_more}
 use Rattle.words.specs.Names.{Letters}
 use Rattle.free_poly.specs.declared.term.Term.{Term}
 use Rattle.bg_io.specs.Ends.{Rose}
@@ -21,6 +20,7 @@ use Rattle.job_steps.specs.declared.status.Status.{Status}
 use Rattle.job_steps.specs.declared.status.Status.TheVariants.{Done, Products}
 use Rattle.job_steps.specs.Gains.{GainsAll, GainsPart}
 use Rattle.job_steps.specs.Progress.{IsBeginning}
+use Rattle.job_steps.specs.States.{SinkState}
 use Rattle.job_steps.specs.Statuses.{HasGainedPart, HasGainedSome}
 use Rattle.job_steps.proofs.Gaining.{beginning_front, beginning_self, beginning_trans, unwritten_before, unwritten_behind}
 use Rattle.bergman_cli.specs.Normal.{AreAnswers, HasManyTriples, HasNone, IsAnsweredBy, most_triples}
@@ -80,6 +80,25 @@ module _ (p : ℕ) (letters : Letters) (relations : List (List Term)) where
         subst (λ (fs : List (List Term)). Answers fs (text ++ answer_text letters.names p (place + 1) c)) (sym more)
         (AreAnswers-append p letters relations 1 (take place questions) text f c (place + 1) number answers is)
 
+    -- the answers to the questions before this place, all of which have few triples
+    pub record AreFirst (place : ℕ) (text : List ℕ) : Type 0 where
+      pub none : NoneBefore place
+      pub answers : Answers (take place questions) text
+
+    -- the certificate of a question with few triples is one answer more, where the weights are those of the letters
+    pub next_answer : (weights : List ℕ) → weights ≡ letters.weights → (place : ℕ) (text : List ℕ) (f : List Term) → f ≡ get_or questions place f →
+        place < length questions → AreFirst place text → (c : Certificate) → IsCertificate (ideal_over p weights relations) (lead_degree weights f) f c
+        → length (triples weights relations (lead_degree weights f)) ≤ most_triples → AreFirst (place + 1) (text ++ answer_text letters.names p (place + 1) c)
+    next_answer weights same place text f found within first c is within_limit =
+        let at = found ∙ get_or_default questions place f [] within in
+        let own = subst (λ (ws : List ℕ). IsCertificate (ideal_over p ws relations) (lead_degree ws f) f c) same is in
+        let few = subst (λ (ws : List ℕ). length (triples ws relations (lead_degree ws f)) ≤ most_triples) same within_limit in
+        record {
+          none = none_next Many questions place f at first.none
+              (few_are_not_many (length (triples letters.weights relations (lead_degree letters.weights f))) few);
+          answers = one_more place text f at within first.answers c own;
+        }
+
     -- the text is the beginning of that of an outcome
     pub record Begins (text : List ℕ) : Type 0 where
       pub status : Status
@@ -128,19 +147,27 @@ module _ (p : ℕ) (letters : Letters) (relations : List (List Term)) where
     -- the answers to the first questions are the beginning of an outcome, whatever the others are
     pub begun : IsSetting (ideal_over p letters.weights relations) → HasNormalForm → HasProductList → All (IsRelation p letters.weights) questions
         → (place : ℕ) →
-        place ≤ length questions → (text : List ℕ) → NoneBefore place → Answers (take place questions) text → Begins text
-    begun st forms lists are place le text none answers =
-        goes_on (λ at within. has_answer st forms lists (At at) (are at [] within)) (length questions - place) place text (omega (arith, le)) none answers
+        place ≤ length questions → (text : List ℕ) → AreFirst place text → Begins text
+    begun st forms lists are place le text first =
+        goes_on (λ at within. has_answer st forms lists (At at) (are at [] within)) (length questions - place) place text (omega (arith, le))
+        first.none first.answers
 
-    module _ (held now : Option (List ℕ)) (room left : Option ℕ) (f g : ℕ) (text : List ℕ) (all : GainsAll held now room left f g text) where
+    module _ (before now : SinkState) (text : List ℕ) (all : GainsAll before now text) where
       -- some of it was gained
-      pub some_gained : Begins text → HasGainedSome held now Outcome
+      pub some_gained : Begins text → HasGainedSome before now Outcome
       some_gained b = (b.status, b.whole, b.outcome, record { gained = text; appended = all.appended; beginning = b.beginning })
 
       -- and then a proper prefix of the next answer
-      pub cut_off : (more : Option (List ℕ)) (h : ℕ) (answer : List ℕ) → Rose g h → GainsPart now more left answer → Begins (text ++ answer) →
-          Rose f h × HasGainedPart held more room Outcome
-      cut_off more h answer rose part b =
-          let u = unwritten_before held more room f h (text ++ answer) b.whole WriteFault b.beginning
-          (unwritten_behind held now more room left f g h text answer WriteFault all (rose, part)) in
+      pub cut_off : (after : SinkState) (answer : List ℕ) → Rose now.faults after.faults → GainsPart now after answer → Begins (text ++ answer) →
+          Rose before.faults after.faults × HasGainedPart before after Outcome
+      cut_off after answer rose part b =
+          let u = unwritten_before before after (text ++ answer) b.whole WriteFault b.beginning
+          (unwritten_behind before now after text answer WriteFault all (rose, part)) in
           (u.0, (b.status, b.whole, b.outcome, u.1))
+
+    -- what is written of the answers is gained of an outcome
+    pub some_written : (before now : SinkState) → IsSetting (ideal_over p letters.weights relations) → HasNormalForm → HasProductList →
+        All (IsRelation p letters.weights) questions → (place : ℕ) → place ≤ length questions → NoneBefore place
+        → (text : List ℕ) × Answers (take place questions) text × GainsAll before now text → HasGainedSome before now Outcome
+    some_written before now st forms lists are place le none written = some_gained before now written.0 written.2
+        (begun st forms lists are place le written.0 (record { none = none; answers = written.1 }))

@@ -1,6 +1,5 @@
 -- What the end of a run says of its status.
-use Rattle.std.proofs.Common.{◌≡◌, ◌≢◌, ◌⊎◌, ◌↔◌, ◌≤◌, ℕ, List, [], refl, ap, inl, inr, subst}
-use Rattle.std.specs.declared.option.Option.{Option}
+use Rattle.std.proofs.Common.{◌≡◌, ◌≢◌, ◌⊎◌, ◌↔◌, ◌≤◌, ◌∙◌, ℕ, List, [], refl, ap, inl, inr, subst}
 use Rattle.std.specs.Io.KnownBytes.{Appends}
 use Rattle.bg_io.specs.Ends.{Rose}
 use Rattle.command_words.specs.declared.job.Command.{Command}
@@ -11,6 +10,7 @@ use Rattle.job_steps.specs.declared.status.InputProblem.TheVariants.{TooLong, Te
 use Rattle.job_steps.specs.declared.status.Status.{Status}
 use Rattle.job_steps.specs.declared.status.Status.TheVariants.{Done, Usage, Input, Limit, Chains, Products, ReadFault, WriteFault, NoMemory}
 use Rattle.job_steps.specs.Inputs.{IsInputEnd}
+use Rattle.job_steps.specs.States.{SinkState, SourceState}
 use Rattle.job_steps.specs.Status.{IsOfInput, ReadsNothing}
 use Rattle.job_steps.specs.Statuses.{HasGained, IsOwn}
 use Rattle.bergman_cli.specs.Jobs.{OfJob}
@@ -23,8 +23,8 @@ use Rattle.bergman_cli.proofs.Posed.{gb_posed}
 use Rattle.bergman_cli.proofs.Works.{never, work_gained, work_memory, work_part, work_write}
 
 -- an end of the input is one of few statuses
-module _ (p : ℕ) (left now : Option (List ℕ)) (b a : ℕ) where
-  input_not : (status : Status) → IsInputEnd p left now b a status → (IsOfInput status → ⊥) → status ≢ NoMemory → ⊥
+module _ (p : ℕ) (unread rest : SourceState) where
+  input_not : (status : Status) → IsInputEnd p unread rest status → (IsOfInput status → ⊥) → status ≢ NoMemory → ⊥
   input_not Done h none memory = h
   input_not (Usage fault) h none memory = h
   input_not (Input TooLong) h none memory = none tt
@@ -40,10 +40,10 @@ module _ (p : ℕ) (left now : Option (List ℕ)) (b a : ℕ) where
   input_not WriteFault h none memory = h
   input_not NoMemory h none memory = memory refl
 
-  pub ungiven_not : (command : Command) (status : Status) → IsUngivenTo command p left now b a status → (IsOfInput status → ⊥) → status ≢ NoMemory → ⊥
+  pub ungiven_not : (command : Command) (status : Status) → IsUngivenTo command p unread rest status → (IsOfInput status → ⊥) → status ≢ NoMemory → ⊥
   ungiven_not command status h none memory = elim (make_or_reads command) [
-    | inl make ↦ memory (subst (λ (c : Command). IsUngivenTo c p left now b a status) make h)
-    | inr reads ↦ input_not status (ungiven_input p left now b a status command reads h) none memory
+    | inl make ↦ memory (subst (λ (c : Command). IsUngivenTo c p unread rest status) make h)
+    | inr reads ↦ input_not status (ungiven_input p unread rest status command reads h) none memory
   ]
 
 own_is_not_of_input : (status : Status) → IsOwn status → IsOfInput status → ⊥
@@ -68,41 +68,44 @@ own_is_not status other none own is = none (subst IsOwn is own)
 of_input_is_not : (status other : Status) → (IsOfInput other → ⊥) → IsOfInput status → status ≢ other
 of_input_is_not status other none own is = none (subst IsOfInput is own)
 
+-- a usage fault, or a status of a run that read its words as a job
+usage_or_job : (status : Status) → ((fault : UsageFault) × (status ≡ Usage fault)) ⊎ (ReadsNothing status → ⊥)
+usage_or_job Done = inr (λ none. none)
+usage_or_job (Usage fault) = inl (fault, refl)
+usage_or_job (Input problem) = inr (λ none. none)
+usage_or_job (Limit kind d value) = inr (λ none. none)
+usage_or_job (Chains d value) = inr (λ none. none)
+usage_or_job (Products d value) = inr (λ none. none)
+usage_or_job ReadFault = inr (λ none. none)
+usage_or_job WriteFault = inr (λ none. none)
+usage_or_job NoMemory = inr (λ none. none)
+
+-- what no usage fault has, no status has of a run that reads nothing
+pub reads_nothing_not : (P : Status → Type 0) → ((fault : UsageFault) → P (Usage fault) → ⊥) → (status : Status) → ReadsNothing status → P status → ⊥
+reads_nothing_not P never status none h = elim (usage_or_job status) [
+  | inl own ↦ never own.0 (subst P own.1 h)
+  | inr some ↦ some none
+]
+
 not_both : (status : Status) → ReadsNothing status → IsOwn status → ⊥
-not_both (Usage fault) none own = own
-not_both Done none own = none
-not_both (Input problem) none own = none
-not_both (Limit kind d value) none own = none
-not_both (Chains d value) none own = none
-not_both (Products d value) none own = none
-not_both ReadFault none own = none
-not_both WriteFault none own = none
-not_both NoMemory none own = none
+not_both status none own = reads_nothing_not IsOwn (λ fault h. h) status none own
 
 not_both_input : (status : Status) → ReadsNothing status → IsOfInput status → ⊥
-not_both_input (Usage fault) none of = of
-not_both_input Done none of = none
-not_both_input (Input problem) none of = none
-not_both_input (Limit kind d value) none of = none
-not_both_input (Chains d value) none of = none
-not_both_input (Products d value) none of = none
-not_both_input ReadFault none of = none
-not_both_input WriteFault none of = none
-not_both_input NoMemory none of = none
+not_both_input status none of = reads_nothing_not IsOfInput (λ fault h. h) status none of
 
-module _ (job : Job) (left now : Option (List ℕ)) (b a : ℕ) (held more : Option (List ℕ)) (room : Option ℕ) (before after : ℕ) where
+module _ (job : Job) (unread rest : SourceState) (before after : SinkState) where
   abbrev Ends : Status → Type 0
-  Ends = IsJobEnd job left now b a held more room before after
+  Ends = IsJobEnd job unread rest before after
 
   pub job_reads : (status : Status) → Ends status → ReadsNothing status → ⊥
-  job_reads status (inl h) none = ungiven_not job.modulus left now b a job.command status h.0 (not_both_input status none) (λ is. subst ReadsNothing is none)
+  job_reads status (inl h) none = ungiven_not job.modulus unread rest job.command status h.0 (not_both_input status none) (λ is. subst ReadsNothing is none)
   job_reads status (inr h) none =
-      never job h.letters h.relations held more room before after job.command status (not_both status none)
+      never job h.letters h.relations before after job.command status (not_both status none)
       (λ is. subst ReadsNothing is none) (λ is. subst ReadsNothing is none) h.holds
 
-  pub job_own : (status : Status) → Ends status → IsOwn status → OfGiven job left now
-      (λ letters relations. HasGained held more (IsOutcome job letters relations status))
-  job_own status (inl h) own = absurd (ungiven_not job.modulus left now b a job.command status h.0 (own_is_not_of_input status own)
+  pub job_own : (status : Status) → Ends status → IsOwn status → OfGiven job unread.left rest.left
+      (λ letters relations. HasGained before after (IsOutcome job letters relations status))
+  job_own status (inl h) own = absurd (ungiven_not job.modulus unread rest job.command status h.0 (own_is_not_of_input status own)
       (own_is_not status NoMemory (λ none. none) own))
   job_own status (inr h) own = record {
     text = h.text;
@@ -112,24 +115,24 @@ module _ (job : Job) (left now : Option (List ℕ)) (b a : ℕ) (held more : Opt
     reads = h.reads;
     alphabet = h.alphabet;
     setting = h.setting;
-    holds = work_gained job h.letters h.relations held more room before after job.command status h.holds own;
+    holds = work_gained job h.letters h.relations before after job.command status h.holds own;
   }
 
-  pub job_input : (status : Status) → Ends status → IsOfInput status → ReadsSource job.command × IsInputEnd job.modulus left now b a status
+  pub job_input : (status : Status) → Ends status → IsOfInput status → ReadsSource job.command × IsInputEnd job.modulus unread rest status
   job_input status (inl h) of = elim (make_or_reads job.command) [
-    | inl make ↦ absurd (of_input_is_not status NoMemory (λ none. none) of (subst (λ (c : Command). IsUngivenTo c job.modulus left now b a status) make h.0))
-    | inr reads ↦ (reads, ungiven_input job.modulus left now b a status job.command reads h.0)
+    | inl make ↦ absurd (of_input_is_not status NoMemory (λ none. none) of (subst (λ (c : Command). IsUngivenTo c job.modulus unread rest status) make h.0))
+    | inr reads ↦ (reads, ungiven_input job.modulus unread rest status job.command reads h.0)
   ]
   job_input status (inr h) of =
-      absurd (never job h.letters h.relations held more room before after job.command status (λ own. own_is_not_of_input status own of)
+      absurd (never job h.letters h.relations before after job.command status (λ own. own_is_not_of_input status own of)
       (of_input_is_not status WriteFault (λ none. none) of) (of_input_is_not status NoMemory (λ none. none) of) h.holds)
 
-  pub job_write : Ends WriteFault → Rose before after
-  job_write (inl h) = absurd (ungiven_not job.modulus left now b a job.command WriteFault h.0 (λ none. none) (λ is. cc))
-  job_write (inr h) = work_write job h.letters h.relations held more room before after job.command h.holds
+  pub job_write : Ends WriteFault → Rose before.faults after.faults
+  job_write (inl h) = absurd (ungiven_not job.modulus unread rest job.command WriteFault h.0 (λ none. none) (λ is. cc))
+  job_write (inr h) = work_write job h.letters h.relations before after job.command h.holds
 
-  pub job_part : job.bound ≤ 64 → Ends WriteFault → OfGiven job left now (λ letters relations. HasWrittenPart job letters relations held more room)
-  job_part few (inl h) = absurd (ungiven_not job.modulus left now b a job.command WriteFault h.0 (λ none. none) (λ is. cc))
+  pub job_part : job.bound ≤ 64 → Ends WriteFault → OfGiven job unread.left rest.left (λ letters relations. HasWrittenPart job letters relations before after)
+  job_part few (inl h) = absurd (ungiven_not job.modulus unread rest job.command WriteFault h.0 (λ none. none) (λ is. cc))
   job_part few (inr h) = record {
     text = h.text;
     is_given = h.is_given;
@@ -138,13 +141,14 @@ module _ (job : Job) (left now : Option (List ℕ)) (b a : ℕ) (held more : Opt
     reads = h.reads;
     alphabet = h.alphabet;
     setting = h.setting;
-    holds = work_part job h.letters h.relations held more room before after (gb_posed job h.letters h.relations few h.alphabet h.setting)
+    holds = work_part job h.letters h.relations before after (gb_posed job h.letters h.relations few h.alphabet h.setting)
         job.command h.holds;
   }
 
-  pub job_memory : job.bound ≤ 64 → Ends NoMemory → Appends held more [] ⊎ OfGiven job left now (λ letters relations. HasWrittenSome job letters relations held more)
+  pub job_memory : job.bound ≤ 64 → Ends NoMemory →
+      Appends before.held after.held [] ⊎ OfGiven job unread.left rest.left (λ letters relations. HasWrittenSome job letters relations before after)
   job_memory few (inl h) = inl h.1
-  job_memory few (inr h) = elim (work_memory job h.letters h.relations held more room before after
+  job_memory few (inr h) = elim (work_memory job h.letters h.relations before after
       (gb_posed job h.letters h.relations few h.alphabet h.setting) job.command h.holds) [
         | inl none ↦ inl none
         | inr some ↦ inr (record {
@@ -159,61 +163,59 @@ module _ (job : Job) (left now : Option (List ℕ)) (b a : ℕ) (held more : Opt
         })
       ]
 
-module _ (words : List (List ℕ)) (left now : Option (List ℕ)) (b a : ℕ) (held more : Option (List ℕ)) (room : Option ℕ) (before after : ℕ) where
+module _ (words : List (List ℕ)) (unread rest : SourceState) (before after : SinkState) where
   abbrev End : Status → Type 0
-  End = IsEnd words left now b a held more room before after
+  End = IsEnd words unread rest before after
 
   abbrev JobEnds : Job → Status → Type 0
-  JobEnds job = IsJobEnd job left now b a held more room before after
+  JobEnds job = IsJobEnd job unread rest before after
+
+  -- but for a usage fault, a run ends as its job does
+  as_job : (status : Status) → (ReadsNothing status → ⊥) →
+      (OfJob words (λ job. JobEnds job status) → End status) × (End status → OfJob words (λ job. JobEnds job status))
+  as_job Done some = (λ h. h, λ h. h)
+  as_job (Usage fault) some = absurd (some tt)
+  as_job (Input problem) some = (λ h. h, λ h. h)
+  as_job (Limit kind d value) some = (λ h. h, λ h. h)
+  as_job (Chains d value) some = (λ h. h, λ h. h)
+  as_job (Products d value) some = (λ h. h, λ h. h)
+  as_job ReadFault some = (λ h. h, λ h. h)
+  as_job WriteFault some = (λ h. h, λ h. h)
+  as_job NoMemory some = (λ h. h, λ h. h)
 
   -- a status of a job is one of the run
   pub end_of_job : (status : Status) (job : Job) → IsJob words job → JobEnds job status → End status
-  end_of_job Done job is h = (job, is, h)
-  end_of_job (Usage fault) job is h = absurd (job_reads job left now b a held more room before after (Usage fault) h tt)
-  end_of_job (Input problem) job is h = (job, is, h)
-  end_of_job (Limit kind d value) job is h = (job, is, h)
-  end_of_job (Chains d value) job is h = (job, is, h)
-  end_of_job (Products d value) job is h = (job, is, h)
-  end_of_job ReadFault job is h = (job, is, h)
-  end_of_job WriteFault job is h = (job, is, h)
-  end_of_job NoMemory job is h = (job, is, h)
+  end_of_job status job is h = (as_job status (job_reads job unread rest before after status h)).0 (job, is, h)
 
   -- and back
-  job_of_end : (status : Status) → End status → (ReadsNothing status → ⊥) → OfJob words (λ job. JobEnds job status)
-  job_of_end Done end some = end
-  job_of_end (Usage fault) end some = absurd (some tt)
-  job_of_end (Input problem) end some = end
-  job_of_end (Limit kind d value) end some = end
-  job_of_end (Chains d value) end some = end
-  job_of_end (Products d value) end some = end
-  job_of_end ReadFault end some = end
-  job_of_end WriteFault end some = end
-  job_of_end NoMemory end some = end
+  pub job_of_end : (status : Status) → End status → (ReadsNothing status → ⊥) → OfJob words (λ job. JobEnds job status)
+  job_of_end status end some = (as_job status some).1 end
 
   module _ (status : Status) (end : End status) where
-    pub end_own : IsOwn status → OfWork words left now (λ job letters relations. HasGained held more (IsOutcome job letters relations status))
+    pub end_own : IsOwn status → OfWork words unread.left rest.left (λ job letters relations. HasGained before after (IsOutcome job letters relations status))
     end_own own = let e = job_of_end status end (λ none. not_both status none own) in
-        (e.0, e.1, job_own e.0 left now b a held more room before after status e.2 own)
+        (e.0, e.1, job_own e.0 unread rest before after status e.2 own)
 
-    pub end_input : IsOfInput status → OfJob words (λ job. ReadsSource job.command × IsInputEnd job.modulus left now b a status)
+    pub end_input : IsOfInput status → OfJob words (λ job. ReadsSource job.command × IsInputEnd job.modulus unread rest status)
     end_input of = let e = job_of_end status end (λ none. not_both_input status none of) in
-        (e.0, e.1, job_input e.0 left now b a held more room before after status e.2 of)
+        (e.0, e.1, job_input e.0 unread rest before after status e.2 of)
 
-    pub end_write : status ≡ WriteFault → Rose before after
-    end_write is = let e = subst End is end in job_write e.0 left now b a held more room before after e.2
+    pub end_write : status ≡ WriteFault → Rose before.faults after.faults
+    end_write is = let e = subst End is end in job_write e.0 unread rest before after e.2
 
-    pub end_part : status ≡ WriteFault → OfWork words left now (λ job letters relations. HasWrittenPart job letters relations held more room)
+    pub end_part : status ≡ WriteFault → OfWork words unread.left rest.left (λ job letters relations. HasWrittenPart job letters relations before after)
     end_part is = let e = subst End is end in (
       e.0,
       e.1,
-      job_part e.0 left now b a held more room before after
+      job_part e.0 unread rest before after
           (bound_range words e.0 e.1).1 e.2,
     )
 
-    pub end_memory : status ≡ NoMemory → Appends held more [] ⊎ OfWork words left now (λ job letters relations. HasWrittenSome job letters relations held more)
+    pub end_memory : status ≡ NoMemory →
+        Appends before.held after.held [] ⊎ OfWork words unread.left rest.left (λ job letters relations. HasWrittenSome job letters relations before after)
     end_memory is =
         let e = subst End is end in
-        elim (job_memory e.0 left now b a held more room before after (bound_range words e.0 e.1).1 e.2) [
+        elim (job_memory e.0 unread rest before after (bound_range words e.0 e.1).1 e.2) [
           | inl none ↦ inl none
           | inr some ↦ inr (e.0, e.1, some)
         ]
@@ -224,15 +226,10 @@ module _ (words : List (List ℕ)) (left now : Option (List ℕ)) (b a : ℕ) (h
 
     -- with a job there is no usage fault, and so on
     usage_only : (fault : UsageFault) (status : Status) → IsUsageFault words fault → End status → status ≡ Usage fault
-    usage_only fault (Usage own) h end = ap Usage (one_fault words one own fault end h)
-    usage_only fault Done h end = absurd (fault_and_job fault _ h end)
-    usage_only fault (Input problem) h end = absurd (fault_and_job fault _ h end)
-    usage_only fault (Limit kind d value) h end = absurd (fault_and_job fault _ h end)
-    usage_only fault (Chains d value) h end = absurd (fault_and_job fault _ h end)
-    usage_only fault (Products d value) h end = absurd (fault_and_job fault _ h end)
-    usage_only fault ReadFault h end = absurd (fault_and_job fault _ h end)
-    usage_only fault WriteFault h end = absurd (fault_and_job fault _ h end)
-    usage_only fault NoMemory h end = absurd (fault_and_job fault _ h end)
+    usage_only fault status h end = elim (usage_or_job status) [
+      | inl own ↦ own.1 ∙ ap Usage (one_fault words one own.0 fault (subst End own.1 end) h)
+      | inr some ↦ absurd (fault_and_job fault _ h (job_of_end status end some))
+    ]
 
     pub usage_exactly : (fault : UsageFault) (status : Status) → End status → (status ≡ Usage fault) ↔ IsUsageFault words fault
     usage_exactly fault status end = (λ is. subst End is end, λ h. usage_only fault status h end)

@@ -27,6 +27,7 @@ use Rattle.bergman_cli.specs.Chains.{chains_task, most_chains}
 use Rattle.bergman_cli.specs.Engines.{limits_of}
 use Rattle.bergman_cli.specs.Outcomes.{Writes}
 use Rattle.bergman_cli.proofs.ChainNumbers.{few_not_many, listed_number, many_minimal, one_first_many}
+use Rattle.bergman_cli.proofs.OwnLimits.{own_none, own_refused}
 
 module _ (job : Job) (letters : Letters) (relations : List (List Term)) where
   abbrev Due : Status → Type 0
@@ -143,14 +144,12 @@ module _ (job : Job) (letters : Letters) (relations : List (List Term)) where
         IsFirstRefused (ideal_over p letters.weights relations) limits job.bound kind d value
         → IsChainsOutcome job letters relations answer.status answer.text
     refused_chains answer kind d value is first =
-        let own = subst (λ (m : ℕ). IsFirstRefused (ideal_over m letters.weights relations) (limits_of job.engine) job.bound kind d value) field
-        (subst (λ (l : List (LimitKind × ℕ)). IsFirstRefused (ideal_over p letters.weights relations) l job.bound kind d value) same first) in
+        let own = own_refused job letters.weights relations limits same p field kind d value first in
         subst (λ (a : Answer). IsChainsOutcome job letters relations a.status a.text) (sym is) ((refused kind d value, own, (refl, refl, refl)), refl)
 
     own_whole : NonePassesUpto (ideal_over p letters.weights relations) limits job.bound → Tasked Done
     own_whole none = (
-      subst (λ (m : ℕ). NonePassesUpto (ideal_over m letters.weights relations) (limits_of job.engine) job.bound) field
-          (subst (λ (l : List (LimitKind × ℕ)). NonePassesUpto (ideal_over p letters.weights relations) l job.bound) same none),
+      own_none job letters.weights relations limits same p field none,
       λ shows. let e : false ≡ true = shows in cc e,
     )
 

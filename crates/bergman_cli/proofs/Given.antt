@@ -15,6 +15,7 @@ use Rattle.job_steps.specs.declared.status.InputProblem.TheVariants.{TooLong, Te
 use Rattle.job_steps.specs.declared.status.Status.{Status}
 use Rattle.job_steps.specs.declared.status.Status.TheVariants.{Done, Usage, Input, Limit, Chains, Products, ReadFault, WriteFault, NoMemory}
 use Rattle.job_steps.specs.Inputs.{IsInput, IsInputEnd}
+use Rattle.job_steps.specs.States.{SinkState, SourceState}
 use Rattle.bergman_cli.specs.Run.{IsGivenTo, IsMishap, IsToldTo, IsUngivenTo, ReadsSource}
 
 -- make, or a command that reads its source
@@ -50,15 +51,15 @@ module _ (job : Job) (left now : Option (List ℕ)) (text : List ℕ) where
   told_input commands.Chains reads h = h
   told_input commands.Normal reads h = h
 
-module _ (p : ℕ) (left now : Option (List ℕ)) (b a : ℕ) (status : Status) where
-  pub ungiven_input : (command : Command) → ReadsSource command → IsUngivenTo command p left now b a status → IsInputEnd p left now b a status
+module _ (p : ℕ) (unread rest : SourceState) (status : Status) where
+  pub ungiven_input : (command : Command) → ReadsSource command → IsUngivenTo command p unread rest status → IsInputEnd p unread rest status
   ungiven_input commands.Gb reads h = h
   ungiven_input commands.Make reads h = absurd reads
   ungiven_input commands.Module reads h = h
   ungiven_input commands.Chains reads h = h
   ungiven_input commands.Normal reads h = h
 
-  pub input_ungiven : (command : Command) → ReadsSource command → IsInputEnd p left now b a status → IsUngivenTo command p left now b a status
+  pub input_ungiven : (command : Command) → ReadsSource command → IsInputEnd p unread rest status → IsUngivenTo command p unread rest status
   input_ungiven commands.Gb reads h = h
   input_ungiven commands.Make reads h = absurd reads
   input_ungiven commands.Module reads h = h
@@ -111,16 +112,16 @@ module _ (law : HasOneReading) (text : List ℕ) (p : ℕ) (some : 0 < p) where
   no_text_fault l rs fault h k = let one = law text p some in reading_is_no_fault l rs fault (one.only (reading l rs) h ∙ sym (one.only (refused fault) k))
 
 -- where the text is told, is no fault of length, and has this end, a status of the input is this end or a mishap
-module _ (p : ℕ) (left now : Option (List ℕ)) (b a before after : ℕ) (text : List ℕ) (told : left ≡ Some text) (command : Command)
-    (reads : ReadsSource command) where
+module _ (p : ℕ) (unread rest : SourceState) (before after : SinkState) (text : List ℕ) (told : unread.left ≡ Some text)
+    (command : Command) (reads : ReadsSource command) where
   -- the text has a reading
   pub read_mishap : length text ≤ 1048576 → ((fault : InputFault) → FirstFault text p fault → ⊥) → (own status : Status) →
-      IsInputEnd p left now b a status → IsMishap command own b a before after status
+      IsInputEnd p unread rest status → IsMishap command own unread rest before after status
   read_mishap short none own Done h = absurd h
   read_mishap short none own (Usage fault) h = absurd h
-  read_mishap short none own (Input TooLong) h = absurd (omega (arith, short, told_long left now text 1048577 told h))
+  read_mishap short none own (Input TooLong) h = absurd (omega (arith, short, told_long unread.left rest.left text 1048577 told h))
   read_mishap short none own (Input (Text fault)) h = absurd (none fault
-      (subst (λ (t : List ℕ). FirstFault t p fault) (sym (input_is left now text h.0 told h.1)) h.2))
+      (subst (λ (t : List ℕ). FirstFault t p fault) (sym (input_is unread.left rest.left text h.0 told h.1)) h.2))
   read_mishap short none own (Input (TooFewNames names)) h = absurd h
   read_mishap short none own (Input (Shape relation)) h = absurd h
   read_mishap short none own (Input (TooFewRelations relations)) h = absurd h
@@ -133,12 +134,12 @@ module _ (p : ℕ) (left now : Option (List ℕ)) (b a before after : ℕ) (text
   read_mishap short none own NoMemory h = tt
 
   -- the text is too long
-  pub long_mishap : 1048576 < length text → (status : Status) → IsInputEnd p left now b a status →
-      (status ≡ Input TooLong) ⊎ IsMishap command (Input TooLong) b a before after status
+  pub long_mishap : 1048576 < length text → (status : Status) → IsInputEnd p unread rest status →
+      (status ≡ Input TooLong) ⊎ IsMishap command (Input TooLong) unread rest before after status
   long_mishap long Done h = absurd h
   long_mishap long (Usage fault) h = absurd h
   long_mishap long (Input TooLong) h = inl refl
-  long_mishap long (Input (Text fault)) h = absurd (omega (arith, long, h.1.short, ap length (input_is left now text h.0 told h.1)))
+  long_mishap long (Input (Text fault)) h = absurd (omega (arith, long, h.1.short, ap length (input_is unread.left rest.left text h.0 told h.1)))
   long_mishap long (Input (TooFewNames names)) h = absurd h
   long_mishap long (Input (Shape relation)) h = absurd h
   long_mishap long (Input (TooFewRelations relations)) h = absurd h
@@ -152,14 +153,14 @@ module _ (p : ℕ) (left now : Option (List ℕ)) (b a before after : ℕ) (text
 
   -- the text has this first fault
   pub fault_mishap : HasOneReading → 0 < p → length text ≤ 1048576 → (fault : InputFault) → FirstFault text p fault → (status : Status) →
-      IsInputEnd p left now b a status
-      → (status ≡ Input (Text fault)) ⊎ IsMishap command (Input (Text fault)) b a before after status
+      IsInputEnd p unread rest status
+      → (status ≡ Input (Text fault)) ⊎ IsMishap command (Input (Text fault)) unread rest before after status
   fault_mishap law some short fault first Done h = absurd h
   fault_mishap law some short fault first (Usage own) h = absurd h
-  fault_mishap law some short fault first (Input TooLong) h = absurd (omega (arith, short, told_long left now text 1048577 told h))
+  fault_mishap law some short fault first (Input TooLong) h = absurd (omega (arith, short, told_long unread.left rest.left text 1048577 told h))
   fault_mishap law some short fault first (Input (Text own)) h =
       inl (ap (λ (f : InputFault). Input (Text f)) (one_text_fault law text p some own fault
-      (subst (λ (t : List ℕ). FirstFault t p own) (sym (input_is left now text h.0 told h.1)) h.2) first))
+      (subst (λ (t : List ℕ). FirstFault t p own) (sym (input_is unread.left rest.left text h.0 told h.1)) h.2) first))
   fault_mishap law some short fault first (Input (TooFewNames names)) h = absurd h
   fault_mishap law some short fault first (Input (Shape relation)) h = absurd h
   fault_mishap law some short fault first (Input (TooFewRelations relations)) h = absurd h

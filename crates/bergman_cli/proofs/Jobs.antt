@@ -107,6 +107,12 @@ listed_small p m = All-contains (λ n. n ≤ 1000003) listed_moduli p
     (λ k d within. le_says (get_or listed_moduli k d) 1000003 (AllPass-from_list_all (λ n. nat_le n 1000003) listed_moduli refl k d within))
     m
 
+pub some_workers : (words : List (List ℕ)) (job : Job) → IsJob words job → 1 ≤ job.workers
+some_workers words job j = (workers_range words job j).0
+
+pub few_workers : (words : List (List ℕ)) (job : Job) → IsJob words job → job.workers ≤ 64
+few_workers words job j = (workers_range words job j).1
+
 -- the numbers of a job are in their ranges
 pub sound_job : (words : List (List ℕ)) (job : Job) → IsJob words job → All IsFieldModulus listed_moduli → IsSound job
 sound_job words job j all = record {

@@ -1,6 +1,7 @@
 pub mod Jobs
 pub mod Given
 pub mod Modules
+pub mod OwnLimits
 pub mod ChainNumbers
 pub mod Chained
 pub mod Normals

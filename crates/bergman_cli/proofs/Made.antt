@@ -23,6 +23,7 @@ use Rattle.job_steps.specs.Statuses.{IsTaskStatus}
 use Rattle.job_steps.proofs.Counted.{coefficient, cut_from_large, whole_from_counts}
 use Rattle.bergman_cli.specs.Engines.{limits_of}
 use Rattle.bergman_cli.specs.Make.{IsMakeOutcome, IsSummary, make_task, summary_text}
+use Rattle.bergman_cli.proofs.OwnLimits.{own_none, own_refused}
 
 module _ (job : Job) (letters : Letters) (relations : List (List Term)) where
   -- an answer at a limit has no text
@@ -37,19 +38,15 @@ module _ (job : Job) (letters : Letters) (relations : List (List Term)) where
         IsFirstRefused (ideal_over p letters.weights relations) limits job.bound kind d value
         → IsMakeOutcome job letters relations answer.status answer.text
     refused_outcome answer kind d value is first =
-        let own = subst (λ (m : ℕ). IsFirstRefused (ideal_over m letters.weights relations) (limits_of job.engine) job.bound kind d value) field
-        (subst (λ (l : List (LimitKind × ℕ)). IsFirstRefused (ideal_over p letters.weights relations) l job.bound kind d value) same first) in
+        let own = own_refused job letters.weights relations limits same p field kind d value first in
         made_limit answer kind d value is (refused kind d value, own, (refl, refl, refl))
-
-    own_none : NonePassesUpto (ideal_over p letters.weights relations) limits job.bound →
-        NonePassesUpto (ideal_over job.modulus letters.weights relations) (limits_of job.engine) job.bound
-    own_none none =
-        subst (λ (m : ℕ). NonePassesUpto (ideal_over m letters.weights relations) (limits_of job.engine) job.bound) field
-        (subst (λ (l : List (LimitKind × ℕ)). NonePassesUpto (ideal_over p letters.weights relations) l job.bound) same none)
 
     module _ (law : CountsCoefficients) (st : IsSetting (ideal_over p letters.weights relations)) (basis : Elements)
         (weights : basis.weights ≡ letters.weights) (kept : IsKept basis) (reduced : IsReducedUpto p relations basis)
         (done : basis.done ≡ job.bound) (none : NonePassesUpto (ideal_over p letters.weights relations) limits job.bound) where
+      job_none : NonePassesUpto (ideal_over job.modulus letters.weights relations) (limits_of job.engine) job.bound
+      job_none = own_none job letters.weights relations limits same p field none
+
       -- too many normal words
       pub crowded_outcome : (answer : Answer) (d value : ℕ) (below : List ℕ) →
           answer ≡ record { status = Limit NormalWords d value; text = [] } →
@@ -59,7 +56,7 @@ module _ (job : Job) (letters : Letters) (relations : List (List Term)) where
           let cut = cut_from_large law p letters relations basis st weights kept reduced standard_limits.normal_words (omega arith)
           job.bound d value below (sym done) large in
           let own = subst (λ (m : ℕ). IsCutSeries m letters relations standard_limits.normal_words basis.done d value (series_text below)) field cut in
-          made_limit answer NormalWords d value is (crowded d value, (own_none none, refl, omega (arith, own.upto, done), own.large), (refl, refl, refl))
+          made_limit answer NormalWords d value is (crowded d value, (job_none, refl, omega (arith, own.upto, done), own.large), (refl, refl, refl))
 
       -- the summary of all degrees
       pub summary_outcome : (answer : Answer) (numbers : List ℕ) (last : ℕ) (text : List ℕ) →
@@ -87,4 +84,4 @@ module _ (job : Job) (letters : Letters) (relations : List (List Term)) where
             printed = printed;
           } in
           subst (λ (a : Answer). IsMakeOutcome job letters relations a.status a.text) (sym is)
-          ((own_none none, λ _ e below. own.small e (omega (arith, below, done))), summary)
+          ((job_none, λ _ e below. own.small e (omega (arith, below, done))), summary)

@@ -16,6 +16,7 @@ use Rattle.job_steps.specs.declared.status.InputProblem.TheVariants.{TooFewNames
 use Rattle.job_steps.specs.declared.status.Status.TheVariants.{Done, Input, Limit}
 use Rattle.bergman_cli.specs.Engines.{limits_of}
 use Rattle.bergman_cli.specs.Module.{IsCrowded, IsFirstLargeModule, IsModuleOutcome, IsModuleText}
+use Rattle.bergman_cli.proofs.OwnLimits.{own_none, own_refused}
 
 module _ (job : Job) (given : Presentation) (answer : Answer) where
   abbrev Outcome : Answer → Type 0
@@ -43,12 +44,6 @@ module _ (job : Job) (given : Presentation) (answer : Answer) where
     abbrev most : ℕ
     most = standard_limits.normal_words
 
-    own_none : NonePassesUpto (ideal_over p weights given.relations) limits job.bound
-        → NonePassesUpto (ideal_over job.modulus weights given.relations) (limits_of job.engine) job.bound
-    own_none none =
-        subst (λ (q : ℕ). NonePassesUpto (ideal_over q weights given.relations) (limits_of job.engine) job.bound) field
-        (subst (λ (l : List (LimitKind × ℕ)). NonePassesUpto (ideal_over p weights given.relations) l job.bound) same none)
-
     -- the module words that are no leading words are counted by the coefficient
     counted : (d : ℕ) (words : List (List ℕ)) → AreModuleOutside p given job.gens d words
         → IsModuleCoefficient (ideal_over p weights given.relations) free d (length words)
@@ -69,14 +64,12 @@ module _ (job : Job) (given : Presentation) (answer : Answer) where
         × IsFirstLarge p given job.gens limit job.bound d value)
         → IsFirstRefused (ideal_over job.modulus weights given.relations) (limits_of job.engine) job.bound kind d value
         ⊎ ((kind ≡ NormalWords) × IsCrowded job given.alphabet given.relations d value)
-    own_limit kind d value (inl h) =
-        inl (subst (λ (q : ℕ). IsFirstRefused (ideal_over q weights given.relations) (limits_of job.engine) job.bound kind d value) field
-        (subst (λ (l : List (LimitKind × ℕ)). IsFirstRefused (ideal_over p weights given.relations) l job.bound kind d value) same h))
+    own_limit kind d value (inl h) = inl (own_refused job weights given.relations limits same p field kind d value h)
     own_limit kind d value (inr h) =
         inr (
           h.1,
           (
-            own_none h.0,
+            own_none job weights given.relations limits same p field h.0,
             h.2.upto,
             subst (λ (q : ℕ). IsFirstLargeModule (ideal_over q weights given.relations) free most d value) field
                 (large d value (subst (λ (n : ℕ). IsFirstLarge p given job.gens n job.bound d value) standard h.2)),
@@ -101,7 +94,7 @@ module _ (job : Job) (given : Presentation) (answer : Answer) where
         subst Outcome (sym is) (
           (
             (names, shaped),
-            own_none none,
+            own_none job weights given.relations limits same p field none,
             λ d lt.
                 (get_or numbers d 0, own.each d (omega (arith, lt)), omega (arith, few d 0 (omega (arith, lt, own.size)), standard)),
           ),

@@ -16,6 +16,7 @@ use Rattle.job_steps.specs.Statuses.{IsTaskStatus}
 use Rattle.bergman_cli.specs.Engines.{limits_of}
 use Rattle.bergman_cli.specs.Normal.{IsAbove, IsAnsweredBy, IsAskable, IsFirstPlace, IsNormalOutcome, above, answered, defining_relations, ideal_size}
 use Rattle.bergman_cli.specs.Normal.{normal_task, questions_of, stopped, too_few, too_many}
+use Rattle.bergman_cli.proofs.OwnLimits.{own_none, own_refused}
 
 -- what holds of all relations holds of a part of them
 pub All-part : (P : List Term → Type 0) (whole rs : List (List Term)) (a b : ℕ) → rs ≡ whole → All P whole → All P (take a (drop b rs))
@@ -48,8 +49,7 @@ module _ (job : Job) (letters : Letters) (relations : List (List Term)) where
         subst (λ (rs : List (List Term)). IsFirstRefused (ideal_over job.modulus letters.weights rs) (limits_of job.engine) job.bound kind d value)
         part
         (subst (λ (l : Letters). IsFirstRefused (ideal_over job.modulus l.weights defining) (limits_of job.engine) job.bound kind d value) names
-        (subst (λ (m : ℕ). IsFirstRefused (ideal_over m alphabet.weights defining) (limits_of job.engine) job.bound kind d value) field
-        (subst (λ (l : List (LimitKind × ℕ)). IsFirstRefused (ideal_over p alphabet.weights defining) l job.bound kind d value) same first))) in
+        (own_refused job alphabet.weights defining limits same p field kind d value first)) in
         (stopped kind d value, (askable, (refused kind d value, own, (refl, refl, refl))), refl, refl)
 
     computed : NonePassesUpto (ideal_over p alphabet.weights defining) limits job.bound → IsTaskStatus (normal_task job letters relations) Done
@@ -57,8 +57,7 @@ module _ (job : Job) (letters : Letters) (relations : List (List Term)) where
         let own : NonePassesUpto (ideal_over job.modulus letters.weights (defining_relations job relations)) (limits_of job.engine) job.bound =
         subst (λ (rs : List (List Term)). NonePassesUpto (ideal_over job.modulus letters.weights rs) (limits_of job.engine) job.bound) part
         (subst (λ (l : Letters). NonePassesUpto (ideal_over job.modulus l.weights defining) (limits_of job.engine) job.bound) names
-        (subst (λ (m : ℕ). NonePassesUpto (ideal_over m alphabet.weights defining) (limits_of job.engine) job.bound) field
-        (subst (λ (l : List (LimitKind × ℕ)). NonePassesUpto (ideal_over p alphabet.weights defining) l job.bound) same none))) in
+        (own_none job alphabet.weights defining limits same p field none)) in
         (own, λ shown. absurd (let never : ⊥ = cc in never))
 
     by_kind : NonePassesUpto (ideal_over p alphabet.weights defining) limits job.bound → (status : Status) (text : List ℕ) →

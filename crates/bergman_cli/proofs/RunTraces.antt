@@ -22,11 +22,13 @@ use Rattle.job_steps.specs.declared.status.Status.TheVariants.{Done, Usage, Inpu
 use Rattle.job_steps.specs.Gains.{IsUndone}
 use Rattle.job_steps.specs.Printing.{task_of}
 use Rattle.job_steps.specs.Progress.{Task, ideal_of_task}
+use Rattle.job_steps.specs.States.{SinkState, TellerState}
 use Rattle.bergman_cli.specs.Engines.{AreAmong, IsEngineOf, accounts_of, limits_of, traces_of}
 use Rattle.bergman_cli.specs.Gb.{gb_task, shows_basis, shows_series}
 use Rattle.bergman_cli.specs.Outcomes.{IsWorkTrace, IsWorkTraceOf}
 use Rattle.bergman_cli.specs.Run.{IsGivenReading, IsRunTrace, OfWork}
-use Rattle.job_steps.specs.Traces.{Accounts, AreAccounts, IsAccountOf, IsTaskTrace, IsTrace, IsTracePart, OfTrace}
+use Rattle.job_steps.specs.Traces.{Accounts, AreAccounts, IsAccountOf, IsTaskTrace, IsTrace, IsTracePart, OfTrace, Tells}
+use Rattle.job_steps.proofs.Traced.{tells_none}
 
 -- what a task that ended so has for its trace
 module _ (May Own : Accounts) (t : Task) (st : IsSetting (ideal_of_task t)) where
@@ -62,20 +64,20 @@ module _ (May Own : Accounts) (t : Task) (st : IsSetting (ideal_of_task t)) wher
         by_traces true each k = own_trace (each refl) e text k
         by_traces false each k = k
 
-    module _ (held more : Option (List ℕ)) (room : Option ℕ) (before now : ℕ) (Told : List ℕ → Type 0) where
-      done_traced : OfTrace May t traces t.bound Told → (trace : List ℕ) × IsTaskTrace Own traces t held more room Done trace × Told trace
+    module _ (before after : SinkState) (Told : List ℕ → Type 0) where
+      done_traced : OfTrace May t traces t.bound Told → (trace : List ℕ) × IsTaskTrace Own traces t before after Done trace × Told trace
       done_traced h = (h.0, own_part t.bound h.0 h.1, h.2)
 
-      limit_traced : (kind : LimitKind) (d value : ℕ) → IsUndone t held more room before now (λ e. OfTrace May t traces e Told)
-          (stops.Limit kind d value) → (trace : List ℕ) × IsTaskTrace Own traces t held more room (Limit kind d value) trace × Told trace
+      limit_traced : (kind : LimitKind) (d value : ℕ) → IsUndone t before after (λ e. OfTrace May t traces e Told)
+          (stops.Limit kind d value) → (trace : List ℕ) × IsTaskTrace Own traces t before after (Limit kind d value) trace × Told trace
       limit_traced kind d value u = let h = u.3 in (h.0, (u.0, u.2.is_reach, u.1, own_part _ h.0 h.1), h.2)
 
-      write_traced : IsUndone t held more room before now (λ e. OfTrace May t traces e Told) stops.WriteFault →
-          (trace : List ℕ) × IsTaskTrace Own traces t held more room WriteFault trace × Told trace
+      write_traced : IsUndone t before after (λ e. OfTrace May t traces e Told) stops.WriteFault →
+          (trace : List ℕ) × IsTaskTrace Own traces t before after WriteFault trace × Told trace
       write_traced u = let h = u.1.1 in (h.0, (u.1.0, own_part u.1.0.last h.0 h.1), h.2)
 
-      memory_traced : IsUndone t held more room before now (λ e. OfTrace May t traces e Told) stops.NoMemory →
-          (trace : List ℕ) × IsTaskTrace Own traces t held more room NoMemory trace × Told trace
+      memory_traced : IsUndone t before after (λ e. OfTrace May t traces e Told) stops.NoMemory →
+          (trace : List ℕ) × IsTaskTrace Own traces t before after NoMemory trace × Told trace
       memory_traced u = let h = u.1 in (h.0, (u.0, own_part u.0.last h.0 h.1), h.2)
 
 -- the task that is printed is that of the job
@@ -108,15 +110,15 @@ module _ (p : ℕ) (given : Presentation) (limits : List (LimitKind × ℕ)) (as
   moved P h = subst (λ (t : Task). P t (traces_of job)) (task_is p given limits asked job field engine.same_limits is)
       (subst (λ (b : Bool). P (task_of p given limits asked) b) (ap (λ (a : Asked). a.trace) is) h)
 
-  module _ (held more : Option (List ℕ)) (room : Option ℕ) (before now : ℕ) (Told : List ℕ → Type 0) where
+  module _ (before after : SinkState) (Told : List ℕ → Type 0) where
     abbrev Traced : Status → Type 0
-    Traced status = (trace : List ℕ) × IsTaskTrace (accounts_of job) (traces_of job) task held more room status trace × Told trace
+    Traced status = (trace : List ℕ) × IsTaskTrace (accounts_of job) (traces_of job) task before after status trace × Told trace
 
     abbrev Undone : Task → Bool → PrintFault → Type 0
-    Undone t traces fault = IsUndone t held more room before now (λ e. OfTrace May t traces e Told) fault
+    Undone t traces fault = IsUndone t before after (λ e. OfTrace May t traces e Told) fault
 
     pub told_done : OfTrace May (task_of p given limits asked) asked.trace asked.bound Told → Traced Done
-    told_done h = done_traced May (accounts_of job) task own_setting (traces_of job) engine.accounts held more room before now Told
+    told_done h = done_traced May (accounts_of job) task own_setting (traces_of job) engine.accounts before after Told
         (moved (λ t b. OfTrace May t b t.bound Told) h)
 
     -- a fault by its name
@@ -125,16 +127,16 @@ module _ (p : ℕ) (given : Presentation) (limits : List (LimitKind × ℕ)) (as
 
     pub told_limit : (kind : LimitKind) (d value : ℕ) (fault : PrintFault) → fault ≡ stops.Limit kind d value →
         Undone (task_of p given limits asked) asked.trace fault → Traced (Limit kind d value)
-    told_limit kind d value fault same h = limit_traced May (accounts_of job) task own_setting (traces_of job) engine.accounts held more
-        room before now Told kind d value (undone_by fault (stops.Limit kind d value) same h)
+    told_limit kind d value fault same h = limit_traced May (accounts_of job) task own_setting
+        (traces_of job) engine.accounts before after Told kind d value (undone_by fault (stops.Limit kind d value) same h)
 
     pub told_write : (fault : PrintFault) → fault ≡ stops.WriteFault → Undone (task_of p given limits asked) asked.trace fault → Traced WriteFault
-    told_write fault same h = write_traced May (accounts_of job) task own_setting (traces_of job) engine.accounts held more room before now
+    told_write fault same h = write_traced May (accounts_of job) task own_setting (traces_of job) engine.accounts before after
         Told (undone_by fault stops.WriteFault same h)
 
     pub told_memory : (fault : PrintFault) → fault ≡ stops.NoMemory → Undone (task_of p given limits asked) asked.trace fault → Traced NoMemory
-    told_memory fault same h = memory_traced May (accounts_of job) task own_setting (traces_of job) engine.accounts held more room before
-        now Told (undone_by fault stops.NoMemory same h)
+    told_memory fault same h = memory_traced May (accounts_of job) task own_setting (traces_of job) engine.accounts before after Told
+        (undone_by fault stops.NoMemory same h)
 
 -- a status that can have a trace
 abbrev IsTraced : Status → Type 0
@@ -144,8 +146,8 @@ IsTraced WriteFault = Unit {0}
 IsTraced NoMemory = Unit {0}
 IsTraced status = ⊥
 
-module _ (job : Job) (letters : Letters) (relations : List (List Term)) (held more : Option (List ℕ)) (room : Option ℕ) (trace : List ℕ) where
-  gb_untraced : (status : Status) → (IsTraced status → ⊥) → IsWorkTraceOf commands.Gb job letters relations held more room status trace → trace ≡ []
+module _ (job : Job) (letters : Letters) (relations : List (List Term)) (before after : SinkState) (trace : List ℕ) where
+  gb_untraced : (status : Status) → (IsTraced status → ⊥) → IsWorkTraceOf commands.Gb job letters relations before after status trace → trace ≡ []
   gb_untraced Done none h = absurd (none tt)
   gb_untraced (Usage fault) none h = absurd h
   gb_untraced (Input problem) none h = absurd h
@@ -158,7 +160,7 @@ module _ (job : Job) (letters : Letters) (relations : List (List Term)) (held mo
 
   -- another status has none
   untraced : (command : Command) (status : Status) → (IsTraced status → ⊥) →
-      IsWorkTraceOf command job letters relations held more room status trace → trace ≡ []
+      IsWorkTraceOf command job letters relations before after status trace → trace ≡ []
   untraced commands.Gb status none h = gb_untraced status none h
   untraced commands.Make status none h = h
   untraced commands.Module status none h = h
@@ -167,23 +169,29 @@ module _ (job : Job) (letters : Letters) (relations : List (List Term)) (held mo
 
   -- a command other than gb has none
   pub no_trace : (command : Command) (status : Status) → command ≢ commands.Gb → trace ≡ [] →
-      IsWorkTraceOf command job letters relations held more room status trace
+      IsWorkTraceOf command job letters relations before after status trace
   no_trace commands.Gb status other h = absurd (other refl)
   no_trace commands.Make status other h = h
   no_trace commands.Module status other h = h
   no_trace commands.Chains status other h = h
   no_trace commands.Normal status other h = h
 
-module _ (words : List (List ℕ)) (left now held more : Option (List ℕ)) (room : Option ℕ) where
+-- nothing is told of its work
+pub untold : (job : Job) (letters : Letters) (relations : List (List Term)) (before after : SinkState) (status : Status) → job.command ≢ commands.Gb →
+    (teller : TellerState) → (trace : List ℕ) × IsWorkTrace job letters relations before after status trace × Tells teller teller trace
+untold job letters relations before after status other teller =
+    ([], no_trace job letters relations before after [] job.command status other refl, tells_none teller)
+
+module _ (words : List (List ℕ)) (left now : Option (List ℕ)) (before after : SinkState) where
   abbrev Traces : Status → List ℕ → Type 0
-  Traces status trace = IsRunTrace words left now held more room status trace
+  Traces status trace = IsRunTrace words left now before after status trace
 
   -- the trace of the work on what was given
   module _ (job : Job) (is : IsJob words job) (letters : Letters) (relations : List (List Term))
       (reads : IsGivenReading job left now letters relations) (alphabet : IsAlphabet letters)
       (setting : IsSetting (ideal_over job.modulus letters.weights relations)) (trace : List ℕ) where
-    given_trace : (status : Status) → IsWorkTrace job letters relations held more room status trace →
-        OfWork words left now (λ own l rs. IsWorkTrace own l rs held more room status trace)
+    given_trace : (status : Status) → IsWorkTrace job letters relations before after status trace →
+        OfWork words left now (λ own l rs. IsWorkTrace own l rs before after status trace)
     given_trace status h = (
       job,
       is,
@@ -199,10 +207,10 @@ module _ (words : List (List ℕ)) (left now held more : Option (List ℕ)) (roo
       },
     )
 
-    none_of : (status : Status) → (IsTraced status → ⊥) → IsWorkTrace job letters relations held more room status trace → trace ≡ []
-    none_of status none h = untraced job letters relations held more room trace job.command status none h
+    none_of : (status : Status) → (IsTraced status → ⊥) → IsWorkTrace job letters relations before after status trace → trace ≡ []
+    none_of status none h = untraced job letters relations before after trace job.command status none h
 
-    pub work_trace : (status : Status) → IsWorkTrace job letters relations held more room status trace → Traces status trace
+    pub work_trace : (status : Status) → IsWorkTrace job letters relations before after status trace → Traces status trace
     work_trace Done h = given_trace Done h
     work_trace (Usage fault) h = none_of (Usage fault) (λ none. none) h
     work_trace (Input problem) h = none_of (Input problem) (λ none. none) h

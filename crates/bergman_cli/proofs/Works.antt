@@ -1,6 +1,5 @@
 -- Command by command: what the end of the work says.
 use Rattle.std.proofs.Common.{◌≡◌, ◌≢◌, ◌⊎◌, ℕ, List, [], refl, inl, inr, subst}
-use Rattle.std.specs.declared.option.Option.{Option}
 use Rattle.std.specs.Io.KnownBytes.{Appends}
 use Rattle.words.specs.Names.{Letters}
 use Rattle.free_poly.specs.declared.term.Term.{Term}
@@ -13,6 +12,7 @@ use Rattle.command_words.specs.declared.job.Job.{Job}
 use Rattle.job_steps.specs.declared.status.Status.{Status}
 use Rattle.job_steps.specs.declared.status.Status.TheVariants as statuses
 use Rattle.job_steps.specs.Reaches.{IsPosed}
+use Rattle.job_steps.specs.States.{SinkState}
 use Rattle.job_steps.specs.Status.{PrintsNothing}
 use Rattle.job_steps.specs.Statuses.{HasGained, HasGainedPart, IsAnswered, IsOwn, IsTaskEnd, IsTaskStatus, IsThis}
 use Rattle.job_steps.proofs.OneOutcome.{outcome_part, outcome_some}
@@ -96,29 +96,29 @@ module _ (job : Job) (letters : Letters) (relations : List (List Term)) where
   some_writes Chains status text h some = chains_writes job letters relations status text h.0 h.1 some
   some_writes Normal status text h some = normal_writes job letters relations status text h some
 
-  module _ (held more : Option (List ℕ)) (room : Option ℕ) (before after : ℕ) where
+  module _ (before after : SinkState) where
     abbrev Ends : Command → Status → Type 0
-    Ends command = IsWorkEndOf command job letters relations held more room before after
+    Ends command = IsWorkEndOf command job letters relations before after
 
     -- an answer that was written at once ends the work
     pub answer_ends : (command : Command) → command ≢ Gb → command ≢ Normal → (own : Status) (text : List ℕ) → Outcome command own text → (status : Status) →
-        IsAnswered (IsThis own text) held more room before after status → Ends command status
+        IsAnswered (IsThis own text) before after status → Ends command status
     answer_ends Gb degrees questions own text is status h = absurd (degrees refl)
-    answer_ends Make degrees questions own text is status h = answered_by (Outcome Make) held more room before after own text is status h
-    answer_ends Module degrees questions own text is status h = answered_by (Outcome Module) held more room before after own text is status h
-    answer_ends Chains degrees questions own text is status h = answered_by (Outcome Chains) held more room before after own text is status h
+    answer_ends Make degrees questions own text is status h = answered_by (Outcome Make) before after own text is status h
+    answer_ends Module degrees questions own text is status h = answered_by (Outcome Module) before after own text is status h
+    answer_ends Chains degrees questions own text is status h = answered_by (Outcome Chains) before after own text is status h
     answer_ends Normal degrees questions own text is status h = absurd (questions refl)
 
     -- work that ended by itself has gained the text of an outcome
-    pub work_gained : (command : Command) (status : Status) → Ends command status → IsOwn status → HasGained held more (Outcome command status)
-    work_gained Gb status h own = task_gained (gb_task job letters relations) held more room before after status h own
-    work_gained Make status h own = answered_gained (Outcome Make) held more room before after status h own
-    work_gained Module status h own = answered_gained (Outcome Module) held more room before after status h own
-    work_gained Chains status h own = answered_gained (Outcome Chains) held more room before after status h own
-    work_gained Normal status h own = answered_gained (Outcome Normal) held more room before after status
-        (of_parts (Outcome Normal) held more room before after status (λ is. subst IsOwn is own) h) own
+    pub work_gained : (command : Command) (status : Status) → Ends command status → IsOwn status → HasGained before after (Outcome command status)
+    work_gained Gb status h own = task_gained (gb_task job letters relations) before after status h own
+    work_gained Make status h own = answered_gained (Outcome Make) before after status h own
+    work_gained Module status h own = answered_gained (Outcome Module) before after status h own
+    work_gained Chains status h own = answered_gained (Outcome Chains) before after status h own
+    work_gained Normal status h own = answered_gained (Outcome Normal) before after status
+        (of_parts (Outcome Normal) before after status (λ is. subst IsOwn is own) h) own
 
-    pub work_write : (command : Command) → Ends command statuses.WriteFault → Rose before after
+    pub work_write : (command : Command) → Ends command statuses.WriteFault → Rose before.faults after.faults
     work_write Gb h = h.0
     work_write Make h = h.0
     work_write Module h = h.0
@@ -126,22 +126,23 @@ module _ (job : Job) (letters : Letters) (relations : List (List Term)) where
     work_write Normal h = h.0
 
     module _ (posed : IsPosed (gb_task job letters relations)) where
-      pub work_part : (command : Command) → Ends command statuses.WriteFault → HasWrittenPartOf command job letters relations held more room
-      work_part Gb h = (outcome_part (gb_task job letters relations) posed held more room h.1, h.1)
+      pub work_part : (command : Command) → Ends command statuses.WriteFault → HasWrittenPartOf command job letters relations before after
+      work_part Gb h = (outcome_part (gb_task job letters relations) posed before after h.1, h.1)
       work_part Make h = h.1
       work_part Module h = h.1
       work_part Chains h = h.1
       work_part Normal h = h.1
 
-      pub work_memory : (command : Command) → Ends command statuses.NoMemory → Appends held more [] ⊎ HasWrittenSomeOf command job letters relations held more
-      work_memory Gb h = inr (outcome_some (gb_task job letters relations) posed held more h, h)
+      pub work_memory : (command : Command) → Ends command statuses.NoMemory →
+          Appends before.held after.held [] ⊎ HasWrittenSomeOf command job letters relations before after
+      work_memory Gb h = inr (outcome_some (gb_task job letters relations) posed before after h, h)
       work_memory Make h = inl h
       work_memory Module h = inl h
       work_memory Chains h = inl h
       work_memory Normal h = h
 
     part_writes : (command : Command) (own : Status) → IsSetting (ideal_over job.modulus letters.weights relations) → Due command own →
-        HasGainedPart held more room (Outcome command) → Writes command own
+        HasGainedPart before after (Outcome command) → Writes command own
     part_writes command own st due h =
         let same = due_is_one command h.0 own st (outcome_due command h.0 h.1 h.2) due in
         subst (Writes command) same (some_writes command h.0 h.1 h.2 (cut_is_some h.3.gained h.1 h.3.cut_short))
@@ -156,7 +157,7 @@ module _ (job : Job) (letters : Letters) (relations : List (List Term)) where
     failed_writes Normal own st due h = part_writes Normal own st due h.1
 
     gb_never : (status : Status) → (IsOwn status → ⊥) → status ≢ statuses.WriteFault → status ≢ statuses.NoMemory →
-        IsTaskEnd (gb_task job letters relations) held more room before after status → ⊥
+        IsTaskEnd (gb_task job letters relations) before after status → ⊥
     gb_never statuses.Done own write memory h = own tt
     gb_never (statuses.Usage fault) own write memory h = h
     gb_never (statuses.Input problem) own write memory h = h
@@ -167,11 +168,11 @@ module _ (job : Job) (letters : Letters) (relations : List (List Term)) where
     gb_never statuses.WriteFault own write memory h = write refl
     gb_never statuses.NoMemory own write memory h = memory refl
 
-    gained_own : (command : Command) (status : Status) → HasGained held more (Outcome command status) → IsOwn status
+    gained_own : (command : Command) (status : Status) → HasGained before after (Outcome command status) → IsOwn status
     gained_own command status h = due_own command status (outcome_due command status h.0 h.1)
 
     answered_never : (command : Command) (status : Status) → (IsOwn status → ⊥) → status ≢ statuses.WriteFault → status ≢ statuses.NoMemory
-        → IsAnswered (Outcome command) held more room before after status → ⊥
+        → IsAnswered (Outcome command) before after status → ⊥
     answered_never command statuses.Done own write memory h = own tt
     answered_never command (statuses.Usage fault) own write memory h = own (gained_own command (statuses.Usage fault) h)
     answered_never command (statuses.Input problem) own write memory h = own (gained_own command (statuses.Input problem) h)
@@ -189,4 +190,4 @@ module _ (job : Job) (letters : Letters) (relations : List (List Term)) where
     never Module status own write memory h = answered_never Module status own write memory h
     never Chains status own write memory h = answered_never Chains status own write memory h
     never Normal status own write memory h = answered_never Normal status own write memory
-        (of_parts (Outcome Normal) held more room before after status memory h)
+        (of_parts (Outcome Normal) before after status memory h)

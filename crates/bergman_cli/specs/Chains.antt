@@ -3,7 +3,6 @@ use Rattle.std.specs.Prelude.{ℕ, ◌≡◌, ◌+◌, ◌≤◌, false, List, [
 use Rattle.words.specs.Names.{Letters}
 use Rattle.free_poly.specs.declared.term.Term.{Term}
 use Rattle.ideal_laws.specs.Ideal.{IsMinimal, ideal_over}
-use Rattle.ideal_laws.specs.Limits.{standard_limits}
 use Rattle.anick_chains.specs.declared.chain.Chain.{Chain}
 use Rattle.anick_chains.specs.Listed.{AreListed}
 use Rattle.anick_chains.specs.Listing.{IsFirstMany, IsNumber}
@@ -13,20 +12,11 @@ use Rattle.job_steps.specs.declared.status.Status.{Status}
 use Rattle.job_steps.specs.declared.status.Status.TheVariants.{Done, Chains}
 use Rattle.job_steps.specs.Progress.{Task}
 use Rattle.job_steps.specs.Statuses.{IsTaskStatus}
-use Rattle.bergman_cli.specs.Engines.{limits_of}
+use Rattle.bergman_cli.specs.Jobs.{job_task}
 
 -- the basis up to the bound, of which nothing is shown
 abbrev pub chains_task : Job → Letters → List (List Term) → Task
-chains_task job letters relations = record {
-  modulus = job.modulus;
-  letters = letters;
-  relations = relations;
-  limits = limits_of job.engine;
-  normal_words = standard_limits.normal_words;
-  bound = job.bound;
-  shows_basis = false;
-  shows_series = false;
-}
+chains_task job letters relations = job_task job letters relations false false
 
 -- so many chains are listed at most
 abbrev pub most_chains : ℕ

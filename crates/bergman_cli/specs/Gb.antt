@@ -4,15 +4,13 @@ use Rattle.words.specs.Names.{IsAlphabet, Letters}
 use Rattle.free_poly.specs.declared.term.Term.{Term}
 use Rattle.ideal_laws.specs.Ideal.{ideal_over}
 use Rattle.ideal_laws.specs.Laws.{IsOne, IsSetting}
-use Rattle.ideal_laws.specs.Limits.{standard_limits}
 use Rattle.command_words.specs.declared.job.Job.{Job}
 use Rattle.command_words.specs.declared.job.Show.{Show}
 use Rattle.command_words.specs.declared.job.Show.TheVariants.{Basis, Series, Both}
 use Rattle.job_steps.specs.declared.status.Status.{Status}
 use Rattle.job_steps.specs.Progress.{Task}
 use Rattle.job_steps.specs.Statuses.{IsTaskOutcome}
-use Rattle.bergman_cli.specs.Engines.{limits_of}
-use Rattle.bergman_cli.specs.Jobs.{IsSound}
+use Rattle.bergman_cli.specs.Jobs.{IsSound, job_task}
 
 abbrev pub shows_basis : Show → Bool
 shows_basis Basis = true
@@ -26,16 +24,7 @@ shows_series Both = true
 
 -- the basis and the series up to the bound, as far as they are shown
 abbrev pub gb_task : Job → Letters → List (List Term) → Task
-gb_task job letters relations = record {
-  modulus = job.modulus;
-  letters = letters;
-  relations = relations;
-  limits = limits_of job.engine;
-  normal_words = standard_limits.normal_words;
-  bound = job.bound;
-  shows_basis = shows_basis job.show;
-  shows_series = shows_series job.show;
-}
+gb_task job letters relations = job_task job letters relations (shows_basis job.show) (shows_series job.show)
 
 -- a job on letters and relations has exactly one status with its text
 abbrev pub HasOneGbOutcome : Type 0

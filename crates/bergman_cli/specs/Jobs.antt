@@ -1,9 +1,14 @@
 -- The jobs that the words of a command line can be.
-use Rattle.std.specs.Prelude.{ℕ, ◌≡◌, ◌<◌, ◌≤◌, ◌^◌, List}
+use Rattle.std.specs.Prelude.{ℕ, ◌≡◌, ◌<◌, ◌≤◌, ◌^◌, Bool, List}
+use Rattle.words.specs.Names.{Letters}
+use Rattle.free_poly.specs.declared.term.Term.{Term}
 use Rattle.field_table.specs.Residues.{IsFieldModulus}
+use Rattle.ideal_laws.specs.Limits.{standard_limits}
 use Rattle.command_words.specs.declared.job.Command.TheVariants.{Make, Module, Normal}
 use Rattle.command_words.specs.declared.job.Job.{Job}
 use Rattle.command_words.specs.JobOf.{IsJob}
+use Rattle.job_steps.specs.Progress.{Task}
+use Rattle.bergman_cli.specs.Engines.{limits_of}
 
 -- the numbers of a job are in their ranges
 pub record IsSound (job : Job) : Type 0 where
@@ -18,3 +23,16 @@ pub record IsSound (job : Job) : Type 0 where
 -- the words are a job, of which something holds
 abbrev pub OfJob : List (List ℕ) → (Job → Type 0) → Type 0
 OfJob words Holds = (job : Job) × IsJob words job × Holds job
+
+-- the basis and the series up to the bound of the job, where these parts are shown
+abbrev pub job_task : Job → Letters → List (List Term) → (basis series : Bool) → Task
+job_task job letters relations basis series = record {
+  modulus = job.modulus;
+  letters = letters;
+  relations = relations;
+  limits = limits_of job.engine;
+  normal_words = standard_limits.normal_words;
+  bound = job.bound;
+  shows_basis = basis;
+  shows_series = series;
+}

@@ -7,7 +7,6 @@ use Rattle.ideal_laws.specs.Dimension.{IsHilbertCoefficient}
 use Rattle.ideal_laws.specs.Engine.{Elements}
 use Rattle.ideal_laws.specs.Ideal.{ideal_over}
 use Rattle.ideal_laws.specs.Kept.{IsBelow}
-use Rattle.ideal_laws.specs.Limits.{standard_limits}
 use Rattle.ideal_laws.specs.Quantities.{terms_in}
 use Rattle.poly_writer.specs.Texts.{line}
 use Rattle.command_words.specs.declared.job.Job.{Job}
@@ -15,20 +14,11 @@ use Rattle.job_steps.specs.declared.status.Status.{Status}
 use Rattle.job_steps.specs.declared.status.Status.TheVariants.{Done}
 use Rattle.job_steps.specs.Progress.{Task}
 use Rattle.job_steps.specs.Statuses.{IsTaskStatus}
-use Rattle.bergman_cli.specs.Engines.{limits_of}
+use Rattle.bergman_cli.specs.Jobs.{job_task}
 
 -- the series alone, up to the bound
 abbrev pub make_task : Job → Letters → List (List Term) → Task
-make_task job letters relations = record {
-  modulus = job.modulus;
-  letters = letters;
-  relations = relations;
-  limits = limits_of job.engine;
-  normal_words = standard_limits.normal_words;
-  bound = job.bound;
-  shows_basis = false;
-  shows_series = true;
-}
+make_task job letters relations = job_task job letters relations false true
 
 -- the sum of all coefficients, as numbers from 0 to p - 1
 abbrev pub coefficient_sum : List (List Term) → ℕ

@@ -6,7 +6,6 @@ use Rattle.free_poly.specs.declared.term.Term.{Term}
 use Rattle.ideal_laws.specs.Ideal.{ideal_over}
 use Rattle.ideal_laws.specs.declared.limits.LimitKind.{LimitKind}
 use Rattle.ideal_laws.specs.Kept.{lead_degree}
-use Rattle.ideal_laws.specs.Limits.{standard_limits}
 use Rattle.cofactors.specs.declared.certificate.Certificate.{Certificate}
 use Rattle.cofactors.specs.Certificate.{IsCertificate}
 use Rattle.cofactors.specs.ProductList.{triples}
@@ -17,7 +16,7 @@ use Rattle.job_steps.specs.declared.status.Status.{Status}
 use Rattle.job_steps.specs.declared.status.Status.TheVariants.{Done, Input, Limit, Products}
 use Rattle.job_steps.specs.Progress.{Task}
 use Rattle.job_steps.specs.Statuses.{IsTaskStatus}
-use Rattle.bergman_cli.specs.Engines.{limits_of}
+use Rattle.bergman_cli.specs.Jobs.{job_task}
 
 -- how many relations the ideal has
 abbrev pub ideal_size : Job → List (List Term) → ℕ
@@ -33,16 +32,7 @@ questions_of job relations = drop (ideal_size job relations) relations
 
 -- the basis of the ideal up to the bound, of which nothing is shown
 abbrev pub normal_task : Job → Letters → List (List Term) → Task
-normal_task job letters relations = record {
-  modulus = job.modulus;
-  letters = letters;
-  relations = defining_relations job relations;
-  limits = limits_of job.engine;
-  normal_words = standard_limits.normal_words;
-  bound = job.bound;
-  shows_basis = false;
-  shows_series = false;
-}
+normal_task job letters relations = job_task job letters (defining_relations job relations) false false
 
 -- the first element with P stands at this place
 pub record IsFirstPlace (P : List Term → Type 0) (fs : List (List Term)) (place : ℕ) : Type 0 where

@@ -17,11 +17,12 @@ use Rattle.job_steps.specs.declared.status.Status.{Status}
 use Rattle.job_steps.specs.declared.status.Status.TheVariants.{Done, Usage, Input, Limit}
 use Rattle.job_steps.specs.declared.status.Status.TheVariants.{ReadFault, WriteFault, NoMemory}
 use Rattle.job_steps.specs.Inputs.{IsInput, IsInputEnd}
+use Rattle.job_steps.specs.States.{SinkState, SourceState}
 use Rattle.bergman_cli.specs.Jobs.{OfJob}
 use Rattle.bergman_cli.specs.Outcomes.{IsDue, IsWorkEnd, IsWorkTrace, Writes}
 
--- In the following, left and now are what the source tells of its bytes before and after; held, more, room and the
--- counts of faults are those of the sink.
+-- In the following, left and now are what the source tells of its bytes before and after, unread and rest what it
+-- tells of all; before and after are what the sink tells.
 
 -- a command that reads its source: all but make
 abbrev pub ReadsSource : Command → Type 0
@@ -59,37 +60,34 @@ abbrev pub OfWork : List (List ℕ) → Option (List ℕ) → Option (List ℕ) 
 OfWork words left now Holds = OfJob words (λ job. OfGiven job left now (Holds job))
 
 -- why a job had no reading to work on
-abbrev pub IsUngivenTo : Command → ℕ → Option (List ℕ) → Option (List ℕ) → ℕ → ℕ → Status → Type 0
-IsUngivenTo commands.Make p left now b a status = status ≡ NoMemory
-IsUngivenTo command p left now b a status = IsInputEnd p left now b a status
+abbrev pub IsUngivenTo : Command → ℕ → SourceState → SourceState → Status → Type 0
+IsUngivenTo commands.Make p unread rest status = status ≡ NoMemory
+IsUngivenTo command p unread rest status = IsInputEnd p unread rest status
 
 -- why a job ended so: it had no reading to work on and nothing was gained, or its work has ended so
-abbrev pub IsJobEnd : Job → Option (List ℕ) → Option (List ℕ) → ℕ → ℕ → Option (List ℕ) → Option (List ℕ) → Option ℕ
-    → ℕ → ℕ → Status → Type 0
-IsJobEnd job left now b a held more room before after status =
-    (IsUngivenTo job.command job.modulus left now b a status × Appends held more [])
-    ⊎ OfGiven job left now (λ letters relations. IsWorkEnd job letters relations held more room before after status)
+abbrev pub IsJobEnd : Job → SourceState → SourceState → SinkState → SinkState → Status → Type 0
+IsJobEnd job unread rest before after status =
+    (IsUngivenTo job.command job.modulus unread rest status × Appends before.held after.held [])
+    ⊎ OfGiven job unread.left rest.left (λ letters relations. IsWorkEnd job letters relations before after status)
 
 -- why a run ended so
-abbrev pub IsEnd : List (List ℕ) → Option (List ℕ) → Option (List ℕ) → ℕ → ℕ → Option (List ℕ) → Option (List ℕ) →
-    Option ℕ → ℕ → ℕ → Status → Type 0
-IsEnd words left now b a held more room before after (Usage fault) = IsUsageFault words fault
-IsEnd words left now b a held more room before after status =
-    OfJob words (λ job. IsJobEnd job left now b a held more room before after status)
+abbrev pub IsEnd : List (List ℕ) → SourceState → SourceState → SinkState → SinkState → Status → Type 0
+IsEnd words unread rest before after (Usage fault) = IsUsageFault words fault
+IsEnd words unread rest before after status = OfJob words (λ job. IsJobEnd job unread rest before after status)
 
 -- the trace of a run that ended so: that of the work of its job, or none
-abbrev pub IsRunTrace : List (List ℕ) → Option (List ℕ) → Option (List ℕ) → Option (List ℕ) → Option (List ℕ) →
-    Option ℕ → Status → List ℕ → Type 0
-IsRunTrace words left now held more room Done trace = OfWork words left now
-    (λ job letters relations. IsWorkTrace job letters relations held more room Done trace)
-IsRunTrace words left now held more room (Limit kind d value) trace =
-    OfWork words left now (λ job letters relations. IsWorkTrace job letters relations held more room
+abbrev pub IsRunTrace : List (List ℕ) → Option (List ℕ) → Option (List ℕ) → SinkState → SinkState → Status → List ℕ →
+    Type 0
+IsRunTrace words left now before after Done trace = OfWork words left now
+    (λ job letters relations. IsWorkTrace job letters relations before after Done trace)
+IsRunTrace words left now before after (Limit kind d value) trace =
+    OfWork words left now (λ job letters relations. IsWorkTrace job letters relations before after
     (Limit kind d value) trace)
-IsRunTrace words left now held more room WriteFault trace = OfWork words left now
-    (λ job letters relations. IsWorkTrace job letters relations held more room WriteFault trace)
-IsRunTrace words left now held more room NoMemory trace = (trace ≡ [])
-    ⊎ OfWork words left now (λ job letters relations. IsWorkTrace job letters relations held more room NoMemory trace)
-IsRunTrace words left now held more room status trace = trace ≡ []
+IsRunTrace words left now before after WriteFault trace = OfWork words left now
+    (λ job letters relations. IsWorkTrace job letters relations before after WriteFault trace)
+IsRunTrace words left now before after NoMemory trace = (trace ≡ [])
+    ⊎ OfWork words left now (λ job letters relations. IsWorkTrace job letters relations before after NoMemory trace)
+IsRunTrace words left now before after status trace = trace ≡ []
 
 -- the text is told before it is read: with make the generated one, and else the bytes of the source
 abbrev pub IsToldTo : Command → Job → Option (List ℕ) → List ℕ → Type 0
@@ -115,14 +113,14 @@ IsCaused job left status = IsDueTo job left status
 
 -- what may come in the place of a status: want of memory, a failed read where the source is read, and a failed write
 -- where something is written
-abbrev pub IsMishap : Command → Status → ℕ → ℕ → ℕ → ℕ → Status → Type 0
-IsMishap command own b a before after NoMemory = Unit {0}
-IsMishap command own b a before after ReadFault = ReadsSource command × Rose b a
-IsMishap command own b a before after WriteFault = Writes command own × Rose before after
-IsMishap command own b a before after status = ⊥
+abbrev pub IsMishap : Command → Status → SourceState → SourceState → SinkState → SinkState → Status → Type 0
+IsMishap command own unread rest before after NoMemory = Unit {0}
+IsMishap command own unread rest before after ReadFault = ReadsSource command × Rose unread.faults rest.faults
+IsMishap command own unread rest before after WriteFault = Writes command own × Rose before.faults after.faults
+IsMishap command own unread rest before after status = ⊥
 
 -- a status comes where its cause stands, or a mishap in its place
-abbrev pub Completes : List (List ℕ) → Option (List ℕ) → ℕ → ℕ → ℕ → ℕ → Status → Type 0
-Completes words left b a before after status =
-    (job : Job) (own : Status) → IsJob words job → IsCaused job left own → (status ≡ own)
-    ⊎ IsMishap job.command own b a before after status
+abbrev pub Completes : List (List ℕ) → SourceState → SourceState → SinkState → SinkState → Status → Type 0
+Completes words unread rest before after status =
+    (job : Job) (own : Status) → IsJob words job → IsCaused job unread.left own → (status ≡ own)
+    ⊎ IsMishap job.command own unread rest before after status

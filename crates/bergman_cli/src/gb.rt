@@ -1,5 +1,6 @@
 ghost use Rattle.std.specs.Prelude.{◌≡◌, ◌≢◌, ℕ, List, All};
 ghost use Rattle.free_poly.specs.Terms.{HasResidues};
+ghost use Rattle.job_steps.specs.States.{state_of, teller_state};
 ghost use Rattle.job_steps.specs.Statuses.{IsTaskEnd};
 ghost use Rattle.job_steps.specs.Traces.{IsTaskTrace, Tells};
 ghost use Rattle.bergman_cli.specs.Engines.{IsEngineOf, accounts_of, traces_of};
@@ -10,7 +11,7 @@ use bg_io::Sink;
 use command_words::{EngineKind, Job, Show};
 use field_table::Field;
 use ideal_laws::{DegreeEngine, Presentation, setting_law};
-use job_steps::{Asked, PrintFault, Status, print_job};
+use job_steps::{Asked, PrintFault, Status, Teller, print_job};
 use std::alloc::Global;
 use std::thread::Threads;
 
@@ -23,25 +24,25 @@ pub fn run_gb<R: Threads + Sync, E: DegreeEngine, K: Sink, T: Sink>(
     field: &Field,
     given: &Presentation,
     out: &mut K,
-    err: &mut T,
-    failed: &mut bool,
+    teller: &mut Teller<'_, T>,
 ) -> Status
     requires engine { IsEngineOf job.now (E.kinds engine.old) (E.may_account engine.old) }
     requires modulus { field.now ≡ job.now.modulus }
     requires sound { IsSound job.now }
     requires residues { All (HasResidues field.now) given.now.relations }
 
-    ensures end { IsTaskEnd (gb_task job.now given.now.alphabet given.now.relations) (K.held out.old)
-        (K.held out.new) (K.room out.old) (K.faults out.old) (K.faults out.new) result }
+    ensures end { IsTaskEnd (gb_task job.now given.now.alphabet given.now.relations) (state_of K.Sink out.old)
+        (state_of K.Sink out.new) result }
     ensures writes { result ≢ Status.WriteFault → K.faults out.new ≡ K.faults out.old }
+    ensures same_sink { teller.new.err.ghost_name ≡ teller.old.err.ghost_name }
     ensures told { (trace : List ℕ) × IsTaskTrace (accounts_of job.now) (traces_of job.now)
-        (gb_task job.now given.now.alphabet given.now.relations) (K.held out.old) (K.held out.new) (K.room out.old)
+        (gb_task job.now given.now.alphabet given.now.relations) (state_of K.Sink out.old) (state_of K.Sink out.new)
         result trace
-        × Tells (T.held err.old) (T.held err.new) (T.faults err.old) (T.faults err.new) failed.old failed.new trace }
+        × Tells (teller_state T.Sink teller.old) (teller_state T.Sink teller.new) trace }
 {
     setting_law(field, given);
     let asked = asked_of(job);
-    match print_job(rt, alloc, engine, field, given, asked, out, err, failed) {
+    match print_job(rt, alloc, engine, field, given, asked, out, teller) {
         Ok(()) => Status::Done,
         Err(
             PrintFault::Limit {

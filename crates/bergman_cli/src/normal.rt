@@ -3,6 +3,7 @@ ghost use Rattle.free_poly.specs.Terms.{HasResidues, UsesLetters};
 ghost use Rattle.ideal_laws.specs.Engine.{IsReducedUpto};
 ghost use Rattle.ideal_laws.specs.Kept.{lead_degree};
 ghost use Rattle.ideal_laws.specs.Laws.{IsRelation};
+ghost use Rattle.job_steps.specs.States.{state_of};
 ghost use Rattle.job_steps.specs.Status.{PrintsNothing};
 ghost use Rattle.job_steps.specs.Statuses.{IsAnsweredInParts};
 ghost use Rattle.bergman_cli.specs.Engines.{limits_of};
@@ -43,7 +44,7 @@ pub fn run_normal<R: Threads + Sync, E: DegreeEngine, K: Sink>(
     requires residues { All (HasResidues field.now) given.now.relations }
 
     ensures end { IsAnsweredInParts (IsNormalOutcome job.now given.now.alphabet given.now.relations)
-        (K.held out.old) (K.held out.new) (K.room out.old) (K.faults out.old) (K.faults out.new) result }
+        (state_of K.Sink out.old) (state_of K.Sink out.new) result }
     ensures nothing { PrintsNothing result → out.new ≡ out.old }
     ensures writes { result ≢ Status.WriteFault → K.faults out.new ≡ K.faults out.old }
 {
@@ -126,7 +127,7 @@ fn write_answers<K: Sink>(
     requires relations { All (HasResidues field.now) ideal.now.relations }
 
     ensures end { IsAnsweredInParts (IsAnsweredBy field.now ideal.now.alphabet ideal.now.relations questions.now)
-        (K.held out.old) (K.held out.new) (K.room out.old) (K.faults out.old) (K.faults out.new) result }
+        (state_of K.Sink out.old) (state_of K.Sink out.new) result }
     ensures nothing { PrintsNothing result → out.new ≡ out.old }
     ensures writes { result ≢ Status.WriteFault → K.faults out.new ≡ K.faults out.old }
 {

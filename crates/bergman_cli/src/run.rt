@@ -8,6 +8,7 @@ ghost use Rattle.command_words.specs.declared.job.UsageFault.{UsageFault};
 ghost use Rattle.command_words.specs.JobOf.{IsJob, IsUsageFault};
 ghost use Rattle.job_steps.specs.Inputs.{IsInputEnd, IsTaken};
 ghost use Rattle.job_steps.specs.Lines.{fault_line};
+ghost use Rattle.job_steps.specs.States.{source_state, state_of, teller_state};
 ghost use Rattle.job_steps.specs.Status.{IsOfInput, PrintsNothing, ReadsNothing};
 ghost use Rattle.job_steps.specs.Statuses.{HasGained, IsOwn};
 ghost use Rattle.job_steps.specs.Traces.{IsTold, Tells};
@@ -28,7 +29,7 @@ use degree_loop::{CoreEngine, RaceEngine, SeqEngine, claim_history_law};
 use field_table::{Field, listed_moduli_law};
 use generated_text::generated_presentation;
 use ideal_laws::{DegreeEngine, Limits, Presentation, lower_law, setting_law};
-use job_steps::{Answer, Status, read_input, tell_status, write_answer};
+use job_steps::{Answer, Status, Teller, read_input, tell_status, write_answer};
 use plain_engine::PlainEngine;
 use relation_reader::reading_laws;
 use std::alloc::Global;
@@ -51,7 +52,7 @@ pub fn bergman<R: Threads + Sync, S: Source, K: Sink, T: Sink>(
     // A status that the work ends with by itself: its text was gained.
     ensures ended { IsOwn result
         → OfWork (map string_bytes words.now) (S.left source.old) (S.left source.new)
-        (λ job letters relations. HasGained (K.held out.old) (K.held out.new)
+        (λ job letters relations. HasGained (state_of K.Sink out.old) (state_of K.Sink out.new)
         (IsOutcome job letters relations result)) }
 
     // Each other status comes only for its cause, and of what words and source decide exactly there.
@@ -63,51 +64,50 @@ pub fn bergman<R: Threads + Sync, S: Source, K: Sink, T: Sink>(
     ensures calls { CountsAtMost (S.calls source.old) (S.calls source.new) 1048577 }
     ensures input { IsOfInput result
         → OfJob (map string_bytes words.now) (λ job. ReadsSource job.command
-        × IsInputEnd job.modulus (S.left source.old) (S.left source.new) (S.faults source.old)
-        (S.faults source.new) result) }
+        × IsInputEnd job.modulus (source_state S.Source source.old) (source_state S.Source source.new) result) }
     ensures write { result ≡ Status.WriteFault → Rose (K.faults out.old) (K.faults out.new) }
     ensures part { result ≡ Status.WriteFault
         → OfWork (map string_bytes words.now) (S.left source.old) (S.left source.new)
-        (λ job letters relations. HasWrittenPart job letters relations (K.held out.old) (K.held out.new)
-        (K.room out.old)) }
+        (λ job letters relations. HasWrittenPart job letters relations (state_of K.Sink out.old)
+        (state_of K.Sink out.new)) }
     ensures memory { result ≡ Status.NoMemory → Appends (K.held out.old) (K.held out.new) []
         ⊎ OfWork (map string_bytes words.now) (S.left source.old) (S.left source.new)
-        (λ job letters relations. HasWrittenSome job letters relations (K.held out.old) (K.held out.new)) }
+        (λ job letters relations. HasWrittenSome job letters relations (state_of K.Sink out.old)
+        (state_of K.Sink out.new)) }
     ensures nothing { PrintsNothing result → out.new ≡ out.old }
     ensures reads { result ≢ Status.ReadFault → S.faults source.new ≡ S.faults source.old }
     ensures writes { result ≢ Status.WriteFault → K.faults out.new ≡ K.faults out.old }
 
     // The trace is told, and then the line of the status. A fault of telling them changes no status.
     ensures told { (trace : List ℕ) × IsRunTrace (map string_bytes words.now) (S.left source.old)
-        (S.left source.new) (K.held out.old) (K.held out.new) (K.room out.old) result trace
-        × IsTold (T.held err.old) (T.held err.new) (T.faults err.old) (T.faults err.new) (trace ++ fault_line result) }
+        (S.left source.new) (state_of K.Sink out.old) (state_of K.Sink out.new) result trace
+        × IsTold (state_of T.Sink err.old) (state_of T.Sink err.new) (trace ++ fault_line result) }
 
     // And where the bytes are told, it comes where its cause stands.
-    ensures complete { Completes (map string_bytes words.now) (S.left source.old) (S.faults source.old)
-        (S.faults source.new) (K.faults out.old) (K.faults out.new) result }
+    ensures complete { Completes (map string_bytes words.now) (source_state S.Source source.old)
+        (source_state S.Source source.new) (state_of K.Sink out.old) (state_of K.Sink out.new) result }
 {
     words_law();
     reading_laws();
-    let mut failed = false;
-    let status = run_words(rt, alloc, words, source, out, err, gate, &mut failed);
-    tell_status(err, &mut failed, status);
+    let mut teller = Teller { err, failed: false };
+    let status = run_words(rt, alloc, words, source, out, gate, &mut teller);
+    tell_status(&mut teller, status);
     status
 }
 
 /// Runs the words by the engine that they name.
+#[tactic(auto, using(crate::proofs::Jobs::some_workers, crate::proofs::Jobs::few_workers))]
 fn run_words<R: Threads + Sync, S: Source, K: Sink, T: Sink>(
     rt: &R,
     alloc: Global,
     words: &[String],
     source: &mut S,
     out: &mut K,
-    err: &mut T,
     gate: &PlannedGate,
-    failed: &mut bool,
+    teller: &mut Teller<'_, T>,
 ) -> Status
-    ensures end { IsEnd (map string_bytes words.now) (S.left source.old) (S.left source.new) (S.faults source.old)
-        (S.faults source.new) (K.held out.old) (K.held out.new) (K.room out.old) (K.faults out.old)
-        (K.faults out.new) result }
+    ensures end { IsEnd (map string_bytes words.now) (source_state S.Source source.old)
+        (source_state S.Source source.new) (state_of K.Sink out.old) (state_of K.Sink out.new) result }
     ensures taken { IsTaken (S.left source.old) (S.left source.new) result }
     ensures calls { CountsAtMost (S.calls source.old) (S.calls source.new) 1048577 }
     ensures unread { ReadsNothing result → source.new ≡ source.old }
@@ -115,9 +115,10 @@ fn run_words<R: Threads + Sync, S: Source, K: Sink, T: Sink>(
     ensures nothing { PrintsNothing result → out.new ≡ out.old }
     ensures reads { result ≢ Status.ReadFault → S.faults source.new ≡ S.faults source.old }
     ensures writes { result ≢ Status.WriteFault → K.faults out.new ≡ K.faults out.old }
+    ensures same_sink { teller.new.err.ghost_name ≡ teller.old.err.ghost_name }
     ensures told { (trace : List ℕ) × IsRunTrace (map string_bytes words.now) (S.left source.old)
-        (S.left source.new) (K.held out.old) (K.held out.new) (K.room out.old) result trace
-        × Tells (T.held err.old) (T.held err.new) (T.faults err.old) (T.faults err.new) failed.old failed.new trace }
+        (S.left source.new) (state_of K.Sink out.old) (state_of K.Sink out.new) result trace
+        × Tells (teller_state T.Sink teller.old) (teller_state T.Sink teller.new) trace }
 {
     words_law();
     let job = match read_words(words) {
@@ -130,19 +131,19 @@ fn run_words<R: Threads + Sync, S: Source, K: Sink, T: Sink>(
     match job.engine {
         EngineKind::Plain => {
             let mut engine = PlainEngine::new(Limits::standard());
-            run_job(rt, alloc, &job, &mut engine, source, out, err, failed)
+            run_job(rt, alloc, &job, &mut engine, source, out, teller)
         }
         EngineKind::Seq => {
             let mut engine = SeqEngine::new(Limits::standard());
-            run_job(rt, alloc, &job, &mut engine, source, out, err, failed)
+            run_job(rt, alloc, &job, &mut engine, source, out, teller)
         }
         EngineKind::Core => {
             let mut engine = CoreEngine::new(Limits::standard(), job.workers, job.schedule);
-            run_job(rt, alloc, &job, &mut engine, source, out, err, failed)
+            run_job(rt, alloc, &job, &mut engine, source, out, teller)
         }
         EngineKind::Race => {
             let mut engine = RaceEngine::new(Limits::standard(), job.workers, gate);
-            run_job(rt, alloc, &job, &mut engine, source, out, err, failed)
+            run_job(rt, alloc, &job, &mut engine, source, out, teller)
         }
     }
 }
@@ -155,25 +156,23 @@ fn run_job<R: Threads + Sync, E: DegreeEngine, S: Source, K: Sink, T: Sink>(
     engine: &mut E,
     source: &mut S,
     out: &mut K,
-    err: &mut T,
-    failed: &mut bool,
+    teller: &mut Teller<'_, T>,
 ) -> Status
     requires engine { IsEngineOf job.now (E.kinds engine.old) (E.may_account engine.old) }
     requires sound { IsSound job.now }
 
-    ensures end { IsJobEnd job.now (S.left source.old) (S.left source.new) (S.faults source.old)
-        (S.faults source.new) (K.held out.old) (K.held out.new) (K.room out.old) (K.faults out.old)
-        (K.faults out.new) result }
+    ensures end { IsJobEnd job.now (source_state S.Source source.old) (source_state S.Source source.new)
+        (state_of K.Sink out.old) (state_of K.Sink out.new) result }
     ensures taken { IsTaken (S.left source.old) (S.left source.new) result }
     ensures calls { CountsAtMost (S.calls source.old) (S.calls source.new) 1048577 }
     ensures made { job.now.command ≡ Command.Make → source.new ≡ source.old }
     ensures nothing { PrintsNothing result → out.new ≡ out.old }
     ensures reads { result ≢ Status.ReadFault → S.faults source.new ≡ S.faults source.old }
     ensures writes { result ≢ Status.WriteFault → K.faults out.new ≡ K.faults out.old }
+    ensures same_sink { teller.new.err.ghost_name ≡ teller.old.err.ghost_name }
     ensures told { (trace : List ℕ) × ((words : List (List ℕ)) → IsJob words job.now →
-        IsRunTrace words (S.left source.old) (S.left source.new) (K.held out.old) (K.held out.new) (K.room out.old)
-        result trace) × Tells (T.held err.old) (T.held err.new) (T.faults err.old) (T.faults err.new) failed.old
-        failed.new trace }
+        IsRunTrace words (S.left source.old) (S.left source.new) (state_of K.Sink out.old) (state_of K.Sink out.new)
+        result trace) × Tells (teller_state T.Sink teller.old) (teller_state T.Sink teller.new) trace }
 {
     let Ok(field) = Field::new(alloc, job.modulus) else {
         return Status::NoMemory;
@@ -184,7 +183,7 @@ fn run_job<R: Threads + Sync, E: DegreeEngine, S: Source, K: Sink, T: Sink>(
     };
     setting_law(&field, &given);
     let _letters = given.alphabet.len();
-    work(rt, alloc, job, engine, &field, &given, out, err, failed)
+    work(rt, alloc, job, engine, &field, &given, out, teller)
 }
 
 /// The letters and relations that the job works on, or the status that stands in their place.
@@ -197,8 +196,8 @@ fn read_given<S: Source>(
     requires modulus { field.now ≡ job.now.modulus }
     requires sound { IsSound job.now }
     ensures given { MatchResult result (λ given. IsGivenReading job.now (S.left source.old) (S.left source.new)
-        given.alphabet given.relations) (IsUngivenTo job.now.command job.now.modulus (S.left source.old)
-        (S.left source.new) (S.faults source.old) (S.faults source.new)) }
+        given.alphabet given.relations) (IsUngivenTo job.now.command job.now.modulus
+        (source_state S.Source source.old) (source_state S.Source source.new)) }
     ensures taken { MatchResult result (λ _. LosesAtMost (S.left source.old) (S.left source.new) 1048576)
         (IsTaken (S.left source.old) (S.left source.new)) }
     ensures calls { CountsAtMost (S.calls source.old) (S.calls source.new) 1048577 }
@@ -224,24 +223,24 @@ fn work<R: Threads + Sync, E: DegreeEngine, K: Sink, T: Sink>(
     field: &Field,
     given: &Presentation,
     out: &mut K,
-    err: &mut T,
-    failed: &mut bool,
+    teller: &mut Teller<'_, T>,
 ) -> Status
     requires engine { IsEngineOf job.now (E.kinds engine.old) (E.may_account engine.old) }
     requires sound { IsSound job.now }
     requires modulus { field.now ≡ job.now.modulus }
     requires residues { All (HasResidues field.now) given.now.relations }
 
-    ensures end { IsWorkEnd job.now given.now.alphabet given.now.relations (K.held out.old) (K.held out.new)
-        (K.room out.old) (K.faults out.old) (K.faults out.new) result }
+    ensures end { IsWorkEnd job.now given.now.alphabet given.now.relations (state_of K.Sink out.old)
+        (state_of K.Sink out.new) result }
     ensures nothing { PrintsNothing result → out.new ≡ out.old }
     ensures writes { result ≢ Status.WriteFault → K.faults out.new ≡ K.faults out.old }
-    ensures told { (trace : List ℕ) × IsWorkTrace job.now given.now.alphabet given.now.relations (K.held out.old)
-        (K.held out.new) (K.room out.old) result trace
-        × Tells (T.held err.old) (T.held err.new) (T.faults err.old) (T.faults err.new) failed.old failed.new trace }
+    ensures same_sink { teller.new.err.ghost_name ≡ teller.old.err.ghost_name }
+    ensures told { (trace : List ℕ) × IsWorkTrace job.now given.now.alphabet given.now.relations
+        (state_of K.Sink out.old) (state_of K.Sink out.new) result trace
+        × Tells (teller_state T.Sink teller.old) (teller_state T.Sink teller.new) trace }
 {
     if job.command == Command::Gb {
-        return run_gb(rt, alloc, job, engine, field, given, out, err, failed);
+        return run_gb(rt, alloc, job, engine, field, given, out, teller);
     }
     if job.command == Command::Normal {
         return run_normal(rt, alloc, job, engine, field, given, out);

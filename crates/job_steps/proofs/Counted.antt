@@ -1,7 +1,6 @@
 -- The numbers of normal words are the printed coefficients.
 use Rattle.std.proofs.Common.{◌≡◌, ◌+◌, ◌-◌, ◌<◌, ◌≤◌, ℕ, List, get_or, refl, sym, inl, inr, arith, subst}
 use Rattle.std.proofs.lemmas.Bool.{cases_lt}
-use Rattle.std.specs.declared.option.Option.{Option}
 use Rattle.words.specs.Names.{Letters}
 use Rattle.free_poly.specs.declared.term.Term.{Term}
 use Rattle.ideal_laws.specs.Dimension.{IsHilbertCoefficient}
@@ -17,6 +16,7 @@ use Rattle.job_steps.specs.declared.print.PrintFault.TheVariants.{Limit, WriteFa
 use Rattle.job_steps.specs.Gains.{IsUnwritten}
 use Rattle.job_steps.specs.Printing.{IsCutSeries, IsSeriesDue, IsSeriesUndone, IsWholeSeries}
 use Rattle.job_steps.specs.Progress.{AreSmallBelow}
+use Rattle.job_steps.specs.States.{SinkState}
 
 module _ (law : CountsCoefficients) (p : ℕ) (letters : Letters) (relations : List (List Term)) (basis : Elements)
     (st : IsSetting (ideal_over p letters.weights relations)) (same : basis.weights ≡ letters.weights) (kept : IsKept basis)
@@ -81,9 +81,8 @@ module _ (law : CountsCoefficients) (p : ℕ) (letters : Letters) (relations : L
       }
 
   -- a series that was not written
-  pub undone_from_unwritten : (h k : Option (List ℕ)) (r : Option ℕ) (f g : ℕ) (text : List ℕ) (fault : PrintFault) →
-      IsSeriesDue p letters relations limit basis.done text → IsUnwritten h k r f g text fault
-      → IsSeriesUndone p letters relations limit basis.done h k r f g fault
-  undone_from_unwritten h k r f g text (Limit kind d value) due u = absurd u
-  undone_from_unwritten h k r f g text WriteFault due u = (u.0, (text, due, u.1))
-  undone_from_unwritten h k r f g text NoMemory due u = inr (text, due, u)
+  pub undone_from_unwritten : (a b : SinkState) (text : List ℕ) (fault : PrintFault) → IsSeriesDue p letters relations limit basis.done text →
+      IsUnwritten a b text fault → IsSeriesUndone p letters relations limit basis.done a b fault
+  undone_from_unwritten a b text (Limit kind d value) due u = absurd u
+  undone_from_unwritten a b text WriteFault due u = (u.0, (text, due, u.1))
+  undone_from_unwritten a b text NoMemory due u = inr (text, due, u)

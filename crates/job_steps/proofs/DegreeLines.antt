@@ -2,11 +2,9 @@
 use Rattle.std.proofs.Common.{not, ◌≡◌, ◌≢◌, ◌+◌, ◌-◌, ◌<◌, ◌≤◌, ℕ, Bool, true, false, List, [], ◌∷◌, ◌++◌, length, get_or, take, drop, refl, sym, ap}
 use Rattle.std.proofs.Common.{◌∙◌, inr, arith, subst, All, Result, Ok, Err, IfErr}
 use Rattle.std.specs.List.{flat_map, slice_range}
-use Rattle.std.specs.declared.option.Option.{Option}
 use Rattle.std.proofs.Math.Seq.{drop-cons, take-add}
 use Rattle.std.proofs.lemmas.Grind.{flat_map-append}
 use Rattle.std.proofs.lemmas.List.{append-nil, drop-drop}
-use Rattle.words.specs.Names.{Letters}
 use Rattle.words.proofs.Members.{All-from_members}
 use Rattle.free_poly.specs.declared.term.Term.{Term}
 use Rattle.free_poly.specs.Terms.{HasResidues}
@@ -23,7 +21,8 @@ use Rattle.job_steps.specs.declared.print.PrintFault.{PrintFault}
 use Rattle.job_steps.specs.declared.print.PrintFault.TheVariants.{Limit, WriteFault, NoMemory}
 use Rattle.job_steps.specs.Gains.{GainsAll, GainsPart, GainsSome, IsUnwritten}
 use Rattle.job_steps.specs.Printing.{IsNext, IsNextUndone, OfNext, lines_of}
-use Rattle.job_steps.specs.Progress.{IsBeginning}
+use Rattle.job_steps.specs.Progress.{IsBeginning, Task, ideal_of_task}
+use Rattle.job_steps.specs.States.{SinkState}
 use Rattle.job_steps.proofs.Gaining.{all_behind, unwritten_before, unwritten_behind}
 
 -- what a fault that is passed on says
@@ -73,20 +72,19 @@ module _ (names : List (List ℕ)) (p : ℕ) (xs : List (List Term)) where
         ∙ flat_map-append (element_line names p) (slice_range xs a b) (slice_range xs b c);
   }
 
-  module _ (h k m : Option (List ℕ)) (r s : Option ℕ) (f g n : ℕ) (a b c : ℕ) (element : List Term) (low : a ≤ b) (below : b < c)
-      (within : c ≤ length xs) (is : element ≡ get_or xs b element) where
-    pub written_more : (t : Option ℕ) → GainsAll h k r s f g (lines a b) → GainsAll k m s t g n (element_line names p element) →
-        GainsAll h m r t f n (lines a (b + 1))
-    written_more t w v =
-        subst (GainsAll h m r t f n) (sym (lines_more a b element low (omega (arith, below, within)) is))
-        (all_behind h k m r s t f g n (lines a b) (element_line names p element) w v)
+  module _ (h k m : SinkState) (a b c : ℕ) (element : List Term) (low : a ≤ b) (below : b < c) (within : c ≤ length xs)
+      (is : element ≡ get_or xs b element) where
+    pub written_more : GainsAll h k (lines a b) → GainsAll k m (element_line names p element) → GainsAll h m (lines a (b + 1))
+    written_more w v =
+        subst (GainsAll h m) (sym (lines_more a b element low (omega (arith, below, within)) is))
+        (all_behind h k m (lines a b) (element_line names p element) w v)
 
-    pub unwritten_more : (fault : PrintFault) → GainsAll h k r s f g (lines a b) →
-        IsUnwritten k m s g n (element_line names p element) fault → IsUnwritten h m r f n (lines a c) fault
+    pub unwritten_more : (fault : PrintFault) → GainsAll h k (lines a b) → IsUnwritten k m (element_line names p element) fault →
+        IsUnwritten h m (lines a c) fault
     unwritten_more fault w u =
-        unwritten_before h m r f n (lines a (b + 1)) (lines a c) fault (lines_begin a (b + 1) c (omega (arith, low)) (omega (arith, below)))
-        (subst (λ (l : List ℕ). IsUnwritten h m r f n l fault) (sym (lines_more a b element low (omega (arith, below, within)) is))
-        (unwritten_behind h k m r s f g n (lines a b) (element_line names p element) fault w u))
+        unwritten_before h m (lines a (b + 1)) (lines a c) fault (lines_begin a (b + 1) c (omega (arith, low)) (omega (arith, below)))
+        (subst (λ (l : List ℕ). IsUnwritten h m l fault) (sym (lines_more a b element low (omega (arith, below, within)) is))
+        (unwritten_behind h k m (lines a b) (element_line names p element) fault w u))
 
   slice_some : (a b : ℕ) → (a ≡ b → ⊥) → a ≤ b → b ≤ length xs → slice_range xs a b ≢ []
   slice_some a b other low within e =
@@ -111,43 +109,47 @@ degree_lines names p weights d done xs a b is same other low within =
     ap (λ (n : ℕ). degree_text names p n (of_degree weights n xs)) (sym is) ∙ ap (degree_text names p d) (sym same)
     ∙ degree_text-some names p d (slice_range xs a b) (slice_some names p xs a b other low within)
 
--- a basis that has grown by a degree
-module _ (p : ℕ) (letters : Letters) (relations : List (List Term)) (limits : List (LimitKind × ℕ)) (old new : Elements)
-    (same : old.weights ≡ letters.weights) (kept_weights : new.weights ≡ old.weights) (done : new.done ≡ old.done + 1)
-    (reduced : IsReducedUpto p relations new) (passes_none : NonePasses (IsQuantity (ideal_over p letters.weights relations) old (old.done + 1)) limits) where
+-- a basis that has grown by a degree of a task
+module _ (t : Task) (old new : Elements) (same : old.weights ≡ t.letters.weights) (kept_weights : new.weights ≡ old.weights)
+    (done : new.done ≡ old.done + 1) (reduced : IsReducedUpto t.modulus t.relations new)
+    (passes_none : NonePasses (IsQuantity (ideal_of_task t) old (old.done + 1)) t.limits) where
   abbrev added : List (List Term)
   added = of_degree new.weights new.done new.elements
 
-  pub is_next : IsNext (ideal_over p letters.weights relations) limits old added
+  abbrev added_lines : List ℕ
+  added_lines = degree_text t.letters.names t.modulus new.done added
+
+  pub is_next : IsNext t old added
   is_next = record {
-    reduced = subst (λ (n : ℕ). IsReducedBasis (ideal_over p letters.weights relations) n added) done
-        (subst (λ (ws : List ℕ). IsReducedBasis (ideal_over p ws relations) new.done added) (kept_weights ∙ same)
+    reduced = subst (λ (n : ℕ). IsReducedBasis (ideal_of_task t) n added) done
+        (subst (λ (ws : List ℕ). IsReducedBasis (ideal_over t.modulus ws t.relations) new.done added) (kept_weights ∙ same)
         (reduced new.done (omega (arith, done)) (omega arith)));
     passes_none = passes_none;
   }
 
-  lines_are : (shows : Bool) → shows ≡ true → degree_text letters.names p new.done added ≡ lines_of shows letters.names p (old.done + 1) added
-  lines_are shows is = ap (λ (n : ℕ). degree_text letters.names p n added) done ∙ ap (λ (b : Bool). lines_of b letters.names p (old.done + 1) added) (sym is)
+  lines_are : t.shows_basis ≡ true → added_lines ≡ lines_of t.shows_basis t.letters.names t.modulus (old.done + 1) added
+  lines_are is = ap (λ (n : ℕ). degree_text t.letters.names t.modulus n added) done
+      ∙ ap (λ (b : Bool). lines_of b t.letters.names t.modulus (old.done + 1) added) (sym is)
 
-  pub shown_next : (shows : Bool) (h k : Option (List ℕ)) (r s : Option ℕ) (f g : ℕ) → shows ≡ true →
-      GainsAll h k r s f g (degree_text letters.names p new.done added)
-      → OfNext p letters relations limits old shows (GainsAll h k r s f g)
-  shown_next shows h k r s f g is w = (added, is_next, subst (GainsAll h k r s f g) (lines_are shows is) w)
+  pub shown_next : (a b : SinkState) → t.shows_basis ≡ true → GainsAll a b added_lines → OfNext t old (GainsAll a b)
+  shown_next a b is w = (added, is_next, subst (GainsAll a b) (lines_are is) w)
 
-  pub hidden_next : (shows : Bool) (h k : Option (List ℕ)) (r s : Option ℕ) (f g : ℕ) → shows ≡ false → GainsAll h k r s f g [] →
-      OfNext p letters relations limits old shows (GainsAll h k r s f g)
-  hidden_next shows h k r s f g is w = (added, is_next, subst (λ (b : Bool). GainsAll h k r s f g (lines_of b letters.names p (old.done + 1) added)) (sym is) w)
+  pub hidden_next : (a b : SinkState) → t.shows_basis ≡ false → GainsAll a b [] → OfNext t old (GainsAll a b)
+  hidden_next a b is w = (
+    added,
+    is_next,
+    subst (λ (shows : Bool). GainsAll a b (lines_of shows t.letters.names t.modulus (old.done + 1) added)) (sym is) w,
+  )
 
-  pub undone_shown : (shows : Bool) (h k : Option (List ℕ)) (r : Option ℕ) (f g : ℕ) (Here Next : Type 0) (fault : PrintFault) →
-      shows ≡ true → Next → IsUnwritten h k r f g (degree_text letters.names p new.done added) fault
-      → IsNextUndone p letters relations limits old shows h k r f g Here Next fault
-  undone_shown shows h k r f g Here Next (Limit kind d value) is next u = absurd u
-  undone_shown shows h k r f g Here Next WriteFault is next u = (u.0, (added, is_next, subst (GainsPart h k r) (lines_are shows is) u.1), next)
-  undone_shown shows h k r f g Here Next NoMemory is next u = inr ((added, is_next, subst (GainsSome h k) (lines_are shows is) u), next)
+  pub undone_shown : (a b : SinkState) (Here Next : Type 0) (fault : PrintFault) → t.shows_basis ≡ true → Next → IsUnwritten a b added_lines fault →
+      IsNextUndone t old a b Here Next fault
+  undone_shown a b Here Next (Limit kind d value) is next u = absurd u
+  undone_shown a b Here Next WriteFault is next u = (u.0, (added, is_next, subst (GainsPart a b) (lines_are is) u.1), next)
+  undone_shown a b Here Next NoMemory is next u = inr ((added, is_next, subst (GainsSome a b) (lines_are is) u), next)
 
-  pub residues_of : IsSetting (ideal_over p letters.weights relations) → IsKept new → All (HasResidues p) new.elements
+  pub residues_of : IsSetting (ideal_of_task t) → IsKept new → All (HasResidues t.modulus) new.elements
   residues_of st kept =
-      let below : IsBelow (ideal_over p letters.weights relations) (new.done + 1) new =
+      let below : IsBelow (ideal_of_task t) (new.done + 1) new =
       record { kept = kept; next = refl; same_weights = kept_weights ∙ same; reduced = reduced } in
-      All-from_members (HasResidues p) new.elements (λ g m. ((lists_lower (ideal_over p letters.weights relations) st (new.done + 1) new below g).0
+      All-from_members (HasResidues t.modulus) new.elements (λ g m. ((lists_lower (ideal_of_task t) st (new.done + 1) new below g).0
       m).2.inside.element.residues)

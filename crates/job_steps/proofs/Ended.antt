@@ -1,7 +1,6 @@
 -- A task ends with its series, or without it.
 use Rattle.std.proofs.Common.{◌≡◌, ◌-◌, ℕ, Bool, true, false, List, [], ◌++◌, refl, sym, inl, inr, arith, subst}
 use Rattle.std.proofs.lemmas.List.{append-nil}
-use Rattle.std.specs.declared.option.Option.{Option}
 use Rattle.std.proofs.KnownBytes.{Appends-trans}
 use Rattle.ideal_laws.specs.Laws.{IsSetting}
 use Rattle.poly_writer.specs.Outputs.{IsSeriesText}
@@ -10,6 +9,7 @@ use Rattle.job_steps.specs.declared.print.PrintFault.TheVariants.{Limit, WriteFa
 use Rattle.job_steps.specs.Gains.{GainsAll, GainsSome, HasPrinted, IsUndone}
 use Rattle.job_steps.specs.Printing.{IsCutSeries, IsSeriesDue, IsSeriesUndone, IsWholeSeries}
 use Rattle.job_steps.specs.Progress.{HasLinesBelow, IsBasisSoFar, IsBeginning, IsDue, IsPart, IsReach, IsText, Task, crowded, ideal_of_task, whole}
+use Rattle.job_steps.specs.States.{SinkState}
 use Rattle.job_steps.proofs.Gaining.{appended_none, beginning_self, part_behind, part_front, rose_from, some_behind, some_front}
 use Rattle.job_steps.proofs.Reaches.{part_upto, some_upto}
 
@@ -24,8 +24,8 @@ not_both b e f = cc
 
 module _ (t : Task) (text : List ℕ) (so_far : IsBasisSoFar t t.bound text) where
   -- no series is shown
-  pub done_with_basis : (a c : Option (List ℕ)) → t.shows_series ≡ false → (r s : Option ℕ) (f g : ℕ) → GainsAll a c r s f g text → HasPrinted t whole a c
-  done_with_basis a c hides r s f g w = record {
+  pub done_with_basis : (a c : SinkState) → t.shows_series ≡ false → GainsAll a c text → HasPrinted t whole a c
+  done_with_basis a c hides w = record {
     is_reach = (so_far.passes_none, λ shows. absurd (not_both t.shows_series hides shows));
     text = text;
     is_text = record {
@@ -73,41 +73,43 @@ module _ (t : Task) (text : List ℕ) (so_far : IsBasisSoFar t t.bound text) whe
     due_with_series series (inl h) = inr (whole, whole_reach series h, whole_text series h, refl)
     due_with_series series (inr h) = inr (crowded h.0 h.1, cut_reach h.0 h.1 series h.2, cut_text h.0 h.1 series h.2, refl)
 
-    pub done_with_series : (a b c : Option (List ℕ)) (r q s : Option ℕ) (f g h : ℕ) (series : List ℕ) → GainsAll a b r q f g text →
-        IsWholeSeries t.modulus t.letters t.relations t.normal_words t.bound series
-        → GainsAll b c q s g h series → HasPrinted t whole a c
-    done_with_series a b c r q s f g h series w is v = record {
+    pub done_with_series : (a b c : SinkState) (series : List ℕ) → GainsAll a b text →
+        IsWholeSeries t.modulus t.letters t.relations t.normal_words t.bound series → GainsAll b c series → HasPrinted t whole a c
+    done_with_series a b c series w is v = record {
       is_reach = whole_reach series is;
       text = text ++ series;
       is_text = whole_text series is;
-      appended = Appends-trans a b c text series w.appended v.appended;
+      appended = Appends-trans a.held b.held c.held text series w.appended v.appended;
     }
 
     pub undone_series : IsSetting (ideal_of_task t) →
-        (a b c : Option (List ℕ)) (r q : Option ℕ) (f g h : ℕ) (Holds : ℕ → Type 0) (fault : PrintFault) → Holds t.bound →
-        GainsAll a b r q f g text
-        → IsSeriesUndone t.modulus t.letters t.relations t.normal_words t.bound b c q g h fault → IsUndone t a c r f h Holds fault
-    undone_series st a b c r q f g h Holds (Limit kind d value) holds w u = (
+        (a b c : SinkState) (Holds : ℕ → Type 0) (fault : PrintFault) → Holds t.bound → GainsAll a b text →
+        IsSeriesUndone t.modulus t.letters t.relations t.normal_words t.bound b c fault → IsUndone t a c Holds fault
+    undone_series st a b c Holds (Limit kind d value) holds w u = (
       crowded d value,
       (u.0, refl, refl),
       record {
         is_reach = cut_reach d value u.1.0 u.1.1;
         text = text ++ u.1.0;
         is_text = cut_text d value u.1.0 u.1.1;
-        appended = Appends-trans a b c text u.1.0 w.appended u.1.2;
+        appended = Appends-trans a.held b.held c.held text u.1.0 w.appended u.1.2;
       },
       holds,
     )
-    undone_series st a b c r q f g h Holds WriteFault holds w u =
+    undone_series st a b c Holds WriteFault holds w u =
         let due = due_with_series u.1.0 u.1.1 in (
-          rose_from f g h w.kept u.0,
-          part_upto t st a c r Holds t.bound (text ++ u.1.0) due
-              (part_behind a b c r q text u.1.0 w.appended w.falls u.1.2)
-              (all_lines _ (part_front a b c r q text u.1.0 w.appended w.falls u.1.2)) holds,
+          rose_from a.faults b.faults c.faults w.kept u.0,
+          part_upto t st a c Holds t.bound (text ++ u.1.0) due
+              (part_behind a b c text u.1.0 w u.1.2)
+              (all_lines _ (part_front a b c text u.1.0 w u.1.2)) holds,
         )
-    undone_series st a b c r q f g h Holds NoMemory holds w (inl none) =
-        let part : GainsSome a c text = record { gained = text; appended = appended_none a b c text w.appended none; beginning = beginning_self text } in
+    undone_series st a b c Holds NoMemory holds w (inl none) =
+        let part : GainsSome a c text = record {
+          gained = text;
+          appended = appended_none a.held b.held c.held text w.appended none;
+          beginning = beginning_self text;
+        } in
         some_upto t st a c Holds t.bound text (inl so_far) part (all_lines text (beginning_self text)) holds
-    undone_series st a b c r q f g h Holds NoMemory holds w (inr u) =
+    undone_series st a b c Holds NoMemory holds w (inr u) =
         some_upto t st a c Holds t.bound (text ++ u.0) (due_with_series u.0 u.1) (some_behind a b c text u.0 w.appended u.2)
         (all_lines _ (some_front a b c text u.0 w.appended u.2)) holds

@@ -11,6 +11,7 @@ use Rattle.job_steps.specs.declared.print.PrintFault.{PrintFault}
 use Rattle.job_steps.specs.declared.print.PrintFault.TheVariants.{Limit, WriteFault, NoMemory}
 use Rattle.job_steps.specs.Gains.{GainsAll, GainsPart, GainsSome, IsUnwritten}
 use Rattle.job_steps.specs.Progress.{IsBeginning}
+use Rattle.job_steps.specs.States.{SinkState}
 
 pub beginning_self : (x : List ℕ) → IsBeginning x x
 beginning_self x = record { rest = []; joined = sym (append-nil x) }
@@ -64,67 +65,63 @@ room_kept : (r : Option ℕ) → RoomFalls r r 0
 room_kept None = tt
 room_kept (Some k) = omega arith
 
-pub all_none : (a : Option (List ℕ)) (r : Option ℕ) (f : ℕ) → GainsAll a a r r f f []
-all_none a r f = record { appended = Appends-nil a; falls = room_kept r; kept = refl }
+pub all_none : (a : SinkState) → GainsAll a a []
+all_none a = record { appended = Appends-nil a.held; falls = room_kept a.room; kept = refl }
 
-pub all_behind : (a b c : Option (List ℕ)) (r s t : Option ℕ) (f g h : ℕ) (x y : List ℕ) → GainsAll a b r s f g x → GainsAll b c s t g h y →
-    GainsAll a c r t f h (x ++ y)
-all_behind a b c r s t f g h x y w v = record {
-  appended = Appends-trans a b c x y w.appended v.appended;
-  falls = subst (RoomFalls r t) (sym (length-append x y)) (RoomFalls-more r s t (length x) (length y) w.falls v.falls);
+pub all_behind : (a b c : SinkState) (x y : List ℕ) → GainsAll a b x → GainsAll b c y → GainsAll a c (x ++ y)
+all_behind a b c x y w v = record {
+  appended = Appends-trans a.held b.held c.held x y w.appended v.appended;
+  falls = subst (RoomFalls a.room c.room) (sym (length-append x y)) (RoomFalls-more a.room b.room c.room (length x) (length y) w.falls v.falls);
   kept = v.kept ∙ w.kept;
 }
 
-pub part_behind : (a b c : Option (List ℕ)) (r s : Option ℕ) (x y : List ℕ) → Appends a b x → RoomFalls r s (length x) → GainsPart b c s y →
-    GainsPart a c r (x ++ y)
-part_behind a b c r s x y appended falls part = record {
+pub part_behind : (a b c : SinkState) (x y : List ℕ) → GainsAll a b x → GainsPart b c y → GainsPart a c (x ++ y)
+part_behind a b c x y w part = record {
   gained = x ++ part.gained;
-  appended = Appends-trans a b c x part.gained appended part.appended;
+  appended = Appends-trans a.held b.held c.held x part.gained w.appended part.appended;
   cut_short = cut_behind x part.gained y part.cut_short;
-  no_room = λ room. part.no_room (room_left r s (length x) (length y) falls (subst (HasRoom r) (length-append x y) room));
+  no_room = λ room. part.no_room (room_left a.room b.room (length x) (length y) w.falls (subst (HasRoom a.room) (length-append x y) room));
 }
 
-pub some_behind : (a b c : Option (List ℕ)) (x y : List ℕ) → Appends a b x → GainsSome b c y → GainsSome a c (x ++ y)
+pub some_behind : (a b c : SinkState) (x y : List ℕ) → Appends a.held b.held x → GainsSome b c y → GainsSome a c (x ++ y)
 some_behind a b c x y appended part = record {
   gained = x ++ part.gained;
-  appended = Appends-trans a b c x part.gained appended part.appended;
+  appended = Appends-trans a.held b.held c.held x part.gained appended part.appended;
   beginning = beginning_behind x part.gained y part.beginning;
 }
 
 -- what was gained behind a text begins with it
-pub part_front : (a b c : Option (List ℕ)) (r s : Option ℕ) (x y : List ℕ) (appended : Appends a b x) (falls : RoomFalls r s (length x))
-    (part : GainsPart b c s y) → IsBeginning x (part_behind a b c r s x y appended falls part).gained
+pub part_front : (a b c : SinkState) (x y : List ℕ) (w : GainsAll a b x) (part : GainsPart b c y) →
+    IsBeginning x (part_behind a b c x y w part).gained
 unfolding part_behind
-part_front a b c r s x y appended falls part = beginning_front x part.gained
+part_front a b c x y w part = beginning_front x part.gained
 
-pub some_front : (a b c : Option (List ℕ)) (x y : List ℕ) (appended : Appends a b x) (part : GainsSome b c y) →
+pub some_front : (a b c : SinkState) (x y : List ℕ) (appended : Appends a.held b.held x) (part : GainsSome b c y) →
     IsBeginning x (some_behind a b c x y appended part).gained
 unfolding some_behind
 some_front a b c x y appended part = beginning_front x part.gained
 
-pub some_none : (a : Option (List ℕ)) (x : List ℕ) → GainsSome a a x
-some_none a x = record { gained = []; appended = Appends-nil a; beginning = record { rest = x; joined = refl } }
+pub some_none : (a : SinkState) (x : List ℕ) → GainsSome a a x
+some_none a x = record { gained = []; appended = Appends-nil a.held; beginning = record { rest = x; joined = refl } }
 
 -- a text was gained whole, and then nothing
 pub appended_none : (a b c : Option (List ℕ)) (x : List ℕ) → Appends a b x → Appends b c [] → Appends a c x
 appended_none a b c x p q = subst (Appends a c) (append-nil x) (Appends-trans a b c x [] p q)
 
-pub unwritten_behind : (a b c : Option (List ℕ)) (r s : Option ℕ) (f g h : ℕ) (x y : List ℕ) (fault : PrintFault) → GainsAll a b r s f g x →
-    IsUnwritten b c s g h y fault → IsUnwritten a c r f h (x ++ y) fault
-unwritten_behind a b c r s f g h x y (Limit kind d value) w u = absurd u
-unwritten_behind a b c r s f g h x y WriteFault w u = (rose_from f g h w.kept u.0, part_behind a b c r s x y w.appended w.falls u.1)
-unwritten_behind a b c r s f g h x y NoMemory w u = some_behind a b c x y w.appended u
+pub unwritten_behind : (a b c : SinkState) (x y : List ℕ) (fault : PrintFault) → GainsAll a b x → IsUnwritten b c y fault → IsUnwritten a c (x ++ y) fault
+unwritten_behind a b c x y (Limit kind d value) w u = absurd u
+unwritten_behind a b c x y WriteFault w u = (rose_from a.faults b.faults c.faults w.kept u.0, part_behind a b c x y w u.1)
+unwritten_behind a b c x y NoMemory w u = some_behind a b c x y w.appended u
 
-pub unwritten_before : (a c : Option (List ℕ)) (r : Option ℕ) (f h : ℕ) (x y : List ℕ) (fault : PrintFault) → IsBeginning x y →
-    IsUnwritten a c r f h x fault → IsUnwritten a c r f h y fault
-unwritten_before a c r f h x y (Limit kind d value) b u = absurd u
-unwritten_before a c r f h x y WriteFault b u = (
+pub unwritten_before : (a c : SinkState) (x y : List ℕ) (fault : PrintFault) → IsBeginning x y → IsUnwritten a c x fault → IsUnwritten a c y fault
+unwritten_before a c x y (Limit kind d value) b u = absurd u
+unwritten_before a c x y WriteFault b u = (
   u.0,
   record {
     gained = u.1.gained;
     appended = u.1.appended;
     cut_short = cut_of_beginning u.1.gained x y u.1.cut_short b;
-    no_room = no_room_for r x y b u.1.no_room;
+    no_room = no_room_for a.room x y b u.1.no_room;
   },
 )
-unwritten_before a c r f h x y NoMemory b u = record { gained = u.gained; appended = u.appended; beginning = beginning_trans u.gained x y u.beginning b }
+unwritten_before a c x y NoMemory b u = record { gained = u.gained; appended = u.appended; beginning = beginning_trans u.gained x y u.beginning b }

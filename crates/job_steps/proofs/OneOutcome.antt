@@ -1,12 +1,12 @@
 -- A task has one reach, one text and one status, and what is gained on the way begins this text.
 use Rattle.std.proofs.Common.{ℕ, List, refl}
-use Rattle.std.specs.declared.option.Option.{Option}
 use Rattle.ideal_laws.specs.declared.limits.LimitKind.TheVariants.{NormalWords}
 use Rattle.job_steps.specs.declared.status.Status.{Status}
 use Rattle.job_steps.specs.declared.status.Status.TheVariants.{Done, Usage, Input, Limit, Chains, Products, ReadFault, WriteFault, NoMemory}
 use Rattle.job_steps.specs.Gains.{HasPrintedPart, HasPrintedSome}
 use Rattle.job_steps.specs.Progress.{IsReach, IsTaskText, IsText, Reach, Task, crowded, ideal_of_task, refused, whole}
 use Rattle.job_steps.specs.Reaches.{HasOneOutcome, HasOneReach, HasOneText, IsPosed}
+use Rattle.job_steps.specs.States.{SinkState}
 use Rattle.job_steps.specs.Statuses.{HasGainedPart, HasGainedSome, IsTaskOutcome}
 use Rattle.job_steps.proofs.Gaining.{beginning_trans, cut_of_beginning, no_room_for}
 use Rattle.job_steps.proofs.Statuses.{one_task_status, task_outcome_status}
@@ -49,8 +49,8 @@ module _ (t : Task) where
 
   module _ (posed : IsPosed t) where
     -- what was gained of the text that was due is a beginning of the text of an outcome
-    pub outcome_part : (held more : Option (List ℕ)) (room : Option ℕ) → HasPrintedPart t held more room → HasGainedPart held more room (IsTaskOutcome t)
-    outcome_part held more room h =
+    pub outcome_part : (before after : SinkState) → HasPrintedPart t before after → HasGainedPart before after (IsTaskOutcome t)
+    outcome_part before after h =
         let one = has_one_text t posed in
         let o = outcome_of one.value one.holds in
         let begins = h.begins one.value one.holds in (
@@ -61,12 +61,12 @@ module _ (t : Task) where
             gained = h.part.gained;
             appended = h.part.appended;
             cut_short = cut_of_beginning h.part.gained h.due one.value h.part.cut_short begins;
-            no_room = no_room_for room h.due one.value begins h.part.no_room;
+            no_room = no_room_for before.room h.due one.value begins h.part.no_room;
           },
         )
 
-    pub outcome_some : (held more : Option (List ℕ)) → HasPrintedSome t held more → HasGainedSome held more (IsTaskOutcome t)
-    outcome_some held more h =
+    pub outcome_some : (before after : SinkState) → HasPrintedSome t before after → HasGainedSome before after (IsTaskOutcome t)
+    outcome_some before after h =
         let one = has_one_text t posed in
         let o = outcome_of one.value one.holds in (
           o.0,

@@ -3,7 +3,6 @@ use Rattle.std.proofs.Common.{◌≡◌, ◌+◌, ◌-◌, ◌<◌, ◌≤◌, �
 use Rattle.std.proofs.Common.{append_assoc, length-append}
 use Rattle.std.proofs.lemmas.Bool.{cases_lt}
 use Rattle.std.proofs.lemmas.List.{append-nil, get_or_append_left, get_or_push}
-use Rattle.std.specs.declared.option.Option.{Option}
 use Rattle.words.specs.Names.{Letters}
 use Rattle.free_poly.specs.declared.term.Term.{Term}
 use Rattle.ideal_laws.specs.Basis.{IsReducedBasis}
@@ -18,6 +17,7 @@ use Rattle.job_steps.specs.declared.print.PrintFault.TheVariants.{Limit, WriteFa
 use Rattle.job_steps.specs.Gains.{GainsAll, HasPrinted}
 use Rattle.job_steps.specs.Printing.{IsBasisUndone, IsNext, IsNextUndone, lines_of}
 use Rattle.job_steps.specs.Progress.{HasLinesBelow, IsBasisPart, IsBasisSoFar, IsBeginning, IsDue, IsPart, Task, ideal_of_task, refused}
+use Rattle.job_steps.specs.States.{SinkState}
 use Rattle.job_steps.proofs.Gaining.{appended_none, beginning_self, part_behind, part_front, rose_from, some_behind, some_front}
 
 pub degree_texts-append : (names : List (List ℕ)) (p d : ℕ) (xs ys : List (List (List Term))) →
@@ -96,7 +96,7 @@ module _ (t : Task) (d : ℕ) (below : Elements) (text : List ℕ) (s : Stands t
   abbrev lines : List (List Term) → List ℕ
   lines elements = lines_of t.shows_basis t.letters.names t.modulus (below.done + 1) elements
 
-  pub so_far_next : (elements : List (List Term)) → IsNext (ideal_of_task t) t.limits below elements →
+  pub so_far_next : (elements : List (List Term)) → IsNext t below elements →
       IsBasisSoFar t (d + 1) (text ++ lines elements)
   so_far_next elements next = record {
     upto = omega (arith, within);
@@ -107,7 +107,7 @@ module _ (t : Task) (d : ℕ) (below : Elements) (text : List ℕ) (s : Stands t
         (subst (λ (n : ℕ). IsReducedBasis (ideal_of_task t) (n + 1) elements) s.done next.reduced));
   }
 
-  due_next : (elements : List (List Term)) → IsNext (ideal_of_task t) t.limits below elements
+  due_next : (elements : List (List Term)) → IsNext t below elements
       → IsDue t (d + 1) (text ++ lines elements)
   due_next elements next = inl (so_far_next elements next)
 
@@ -115,40 +115,39 @@ module _ (t : Task) (d : ℕ) (below : Elements) (text : List ℕ) (s : Stands t
   lines_before e gained upto begins = record { degree = d; lines = text; so_far = s.so_far; begins = begins; upto = upto }
 
   -- a fault in the next degree
-  pub undone_next : (a b c : Option (List ℕ)) (r q : Option ℕ) (f g h : ℕ) (Here Next : Type 0) (Holds : ℕ → Type 0) → (Here → Holds d) →
-      (Next → Holds (d + 1)) → (fault : PrintFault) → GainsAll a b r q f g text
-      → IsNextUndone t.modulus t.letters t.relations t.limits below t.shows_basis b c q g h Here Next fault → IsBasisUndone t a c r f h Holds fault
-  undone_next a b c r q f g h Here Next Holds here next (Limit kind e value) w u =
+  pub undone_next : (a b c : SinkState) (Here Next : Type 0) (Holds : ℕ → Type 0) → (Here → Holds d) → (Next → Holds (d + 1)) →
+      (fault : PrintFault) → GainsAll a b text → IsNextUndone t below b c Here Next fault → IsBasisUndone t a c Holds fault
+  undone_next a b c Here Next Holds here next (Limit kind e value) w u =
       let at : d ≡ e - 1 = omega (arith, u.0, s.done) in
       let printed : HasPrinted t (refused kind e value) a c = record {
         is_reach = refused_next (ideal_of_task t) t.limits below s.kept s.weights s.reduced d t.bound s.done within
             s.so_far.passes_none kind e value (u.0, u.1);
         text = text;
         is_text = subst (λ (n : ℕ). IsBasisPart t n text) at s.so_far.is_basis;
-        appended = appended_none a b c text w.appended u.2;
+        appended = appended_none a.held b.held c.held text w.appended u.2;
       } in
       (printed, subst Holds at (here u.3))
-  undone_next a b c r q f g h Here Next Holds here next WriteFault w u =
+  undone_next a b c Here Next Holds here next WriteFault w u =
       let lost = u.1 in (
-        rose_from f g h w.kept u.0,
+        rose_from a.faults b.faults c.faults w.kept u.0,
         (
           d + 1,
           text ++ lines lost.0,
           due_next lost.0 lost.1,
-          part_behind a b c r q text (lines lost.0) w.appended w.falls lost.2,
-          lines_before (d + 1) _ (omega arith) (part_front a b c r q text (lines lost.0) w.appended w.falls lost.2),
+          part_behind a b c text (lines lost.0) w lost.2,
+          lines_before (d + 1) _ (omega arith) (part_front a b c text (lines lost.0) w lost.2),
           next u.2,
         ),
       )
-  undone_next a b c r q f g h Here Next Holds here next NoMemory w (inl u) = (
+  undone_next a b c Here Next Holds here next NoMemory w (inl u) = (
     d,
     text,
     inl s.so_far,
-    record { gained = text; appended = appended_none a b c text w.appended u.0; beginning = beginning_self text },
+    record { gained = text; appended = appended_none a.held b.held c.held text w.appended u.0; beginning = beginning_self text },
     lines_before d text (omega arith) (beginning_self text),
     here u.1,
   )
-  undone_next a b c r q f g h Here Next Holds here next NoMemory w (inr u) = (
+  undone_next a b c Here Next Holds here next NoMemory w (inr u) = (
     d + 1,
     text ++ lines u.0.0,
     due_next u.0.0 u.0.1,

@@ -3,7 +3,6 @@ use Rattle.std.proofs.Common.{◌≡◌, ◌+◌, ◌-◌, ◌<◌, ◌≤◌, �
 use Rattle.std.proofs.Common.{inl, inr, arith, subst, length-append, AllPairs}
 use Rattle.std.proofs.lemmas.Bool.{cases_lt}
 use Rattle.std.proofs.lemmas.List.{append-nil, nil_from_length}
-use Rattle.std.specs.declared.option.Option.{Option}
 use Rattle.free_poly.specs.declared.term.Term.{Term}
 use Rattle.ideal_laws.specs.Ideal.{Ideal}
 use Rattle.ideal_laws.specs.declared.limits.LimitKind.{LimitKind}
@@ -23,6 +22,7 @@ use Rattle.job_steps.specs.declared.print.PrintFault.{PrintFault}
 use Rattle.job_steps.specs.declared.print.PrintFault.TheVariants.{Limit, WriteFault, NoMemory}
 use Rattle.job_steps.specs.Gains.{GainsPart, GainsSome, HasPrintedPart, HasPrintedSome, IsUndone}
 use Rattle.job_steps.specs.Printing.{IsBasisUndone}
+use Rattle.job_steps.specs.States.{SinkState}
 use Rattle.job_steps.specs.Progress.{HasLinesBelow, IsBasisPart, IsBasisSoFar, IsBeginning, IsDue, IsFirstLargeCoefficient, IsOutput, IsPart, IsReach, ideal_of_task}
 use Rattle.job_steps.specs.Progress.{IsStoppedBy, IsTaskText, IsText, AreSmallBelow, PassesNone, Reach, Task, whole, refused, crowded}
 use Rattle.job_steps.proofs.Gaining.{beginning_self, beginning_trans}
@@ -243,27 +243,25 @@ module _ (t : Task) (st : IsSetting (ideal_of_task t)) where
   begins_text : (e : ℕ) (x : List ℕ) → IsDue t e x → (y : List ℕ) → IsTaskText t y → IsBeginning x y
   begins_text e x due y is = due_begins e is.0 x y due is.1 is.2
 
-  printed_part : (a c : Option (List ℕ)) (r : Option ℕ) (e : ℕ) (x : List ℕ) → IsDue t e x → (part : GainsPart a c r x) →
-      HasLinesBelow t e part.gained → HasPrintedPart t a c r
-  printed_part a c r e x due part below = record { last = e; due = x; is_due = due; begins = begins_text e x due; part = part; lines_below = below }
+  printed_part : (a c : SinkState) (e : ℕ) (x : List ℕ) → IsDue t e x → (part : GainsPart a c x) → HasLinesBelow t e part.gained → HasPrintedPart t a c
+  printed_part a c e x due part below = record { last = e; due = x; is_due = due; begins = begins_text e x due; part = part; lines_below = below }
 
-  printed_some : (a c : Option (List ℕ)) (e : ℕ) (x : List ℕ) → IsDue t e x → (part : GainsSome a c x) → HasLinesBelow t e part.gained → HasPrintedSome t a c
+  printed_some : (a c : SinkState) (e : ℕ) (x : List ℕ) → IsDue t e x → (part : GainsSome a c x) → HasLinesBelow t e part.gained → HasPrintedSome t a c
   printed_some a c e x due part below = record { last = e; due = x; is_due = due; begins = begins_text e x due; part = part; lines_below = below }
 
   -- with what holds of the last degree
-  pub part_upto : (a c : Option (List ℕ)) (r : Option ℕ) (Holds : ℕ → Type 0) (e : ℕ) (x : List ℕ) → IsDue t e x →
-      (part : GainsPart a c r x) → HasLinesBelow t e part.gained → Holds e → (p : HasPrintedPart t a c r) × Holds p.last
+  pub part_upto : (a c : SinkState) (Holds : ℕ → Type 0) (e : ℕ) (x : List ℕ) → IsDue t e x → (part : GainsPart a c x) →
+      HasLinesBelow t e part.gained → Holds e → (p : HasPrintedPart t a c) × Holds p.last
   unfolding printed_part
-  part_upto a c r Holds e x due part below holds = (printed_part a c r e x due part below, holds)
+  part_upto a c Holds e x due part below holds = (printed_part a c e x due part below, holds)
 
-  pub some_upto : (a c : Option (List ℕ)) (Holds : ℕ → Type 0) (e : ℕ) (x : List ℕ) → IsDue t e x → (part : GainsSome a c x) →
+  pub some_upto : (a c : SinkState) (Holds : ℕ → Type 0) (e : ℕ) (x : List ℕ) → IsDue t e x → (part : GainsSome a c x) →
       HasLinesBelow t e part.gained → Holds e → (p : HasPrintedSome t a c) × Holds p.last
   unfolding printed_some
   some_upto a c Holds e x due part below holds = (printed_some a c e x due part below, holds)
 
   -- a basis that was not printed whole
-  pub undone_basis : (a c : Option (List ℕ)) (r : Option ℕ) (f h : ℕ) (Holds : ℕ → Type 0) (fault : PrintFault) →
-      IsBasisUndone t a c r f h Holds fault → IsUndone t a c r f h Holds fault
-  undone_basis a c r f h Holds (Limit kind d value) u = (refused kind d value, (refl, refl, refl), u.0, u.1)
-  undone_basis a c r f h Holds WriteFault u = (u.0, part_upto a c r Holds u.1.0 u.1.1 u.1.2 u.1.3 u.1.4 u.1.5)
-  undone_basis a c r f h Holds NoMemory u = some_upto a c Holds u.0 u.1 u.2 u.3 u.4 u.5
+  pub undone_basis : (a c : SinkState) (Holds : ℕ → Type 0) (fault : PrintFault) → IsBasisUndone t a c Holds fault → IsUndone t a c Holds fault
+  undone_basis a c Holds (Limit kind d value) u = (refused kind d value, (refl, refl, refl), u.0, u.1)
+  undone_basis a c Holds WriteFault u = (u.0, part_upto a c Holds u.1.0 u.1.1 u.1.2 u.1.3 u.1.4 u.1.5)
+  undone_basis a c Holds NoMemory u = some_upto a c Holds u.0 u.1 u.2 u.3 u.4 u.5

@@ -1,11 +1,11 @@
 -- A task ends with one status, of its own.
 use Rattle.std.proofs.Common.{◌≡◌, ◌≢◌, ℕ, List, [], ◌∷◌, ◌++◌, refl, sym, ◌∙◌, inl, inr, subst}
-use Rattle.std.specs.declared.option.Option.{Option}
 use Rattle.bg_io.specs.Ends.{IsCutShort}
 use Rattle.ideal_laws.specs.Laws.{IsSetting}
 use Rattle.job_steps.specs.declared.status.Status.{Status}
 use Rattle.job_steps.specs.declared.status.Status.TheVariants.{Done, Usage, Input, Limit, Chains, Products, ReadFault, WriteFault, NoMemory}
 use Rattle.job_steps.specs.Progress.{Task, ideal_of_task}
+use Rattle.job_steps.specs.States.{SinkState}
 use Rattle.job_steps.specs.Status.{PrintsNothing}
 use Rattle.job_steps.specs.Statuses.{HasGained, IsAnswered, IsAnsweredInParts, IsOwn, IsTaskEnd, IsTaskOutcome, IsTaskStatus, IsThis}
 use Rattle.job_steps.proofs.Reaches.{one_stop, whole_is_not_stopped}
@@ -83,12 +83,12 @@ module _ (t : Task) (st : IsSetting (ideal_of_task t)) where
   pub one_task_status : (status other : Status) → IsTaskStatus t status → IsTaskStatus t other → status ≡ other
   one_task_status status other a b = limit_is_one status a a other b
 
-module _ (t : Task) (held more : Option (List ℕ)) (room : Option ℕ) (before after : ℕ) where
+module _ (t : Task) (before after : SinkState) where
   abbrev Ends : Status → Type 0
-  Ends = IsTaskEnd t held more room before after
+  Ends = IsTaskEnd t before after
 
   -- a task that ended by itself has gained the text of an outcome
-  pub task_gained : (status : Status) → Ends status → IsOwn status → HasGained held more (IsTaskOutcome t status)
+  pub task_gained : (status : Status) → Ends status → IsOwn status → HasGained before after (IsTaskOutcome t status)
   task_gained Done h own = (h.text, (h.is_reach, h.is_text), h.appended)
   task_gained (Usage fault) h own = absurd h
   task_gained (Input problem) h own = absurd h
@@ -104,17 +104,17 @@ pub cut_is_some : (gained text : List ℕ) → IsCutShort gained text → text �
 cut_is_some [] text cut none = cut.more (sym cut.joined ∙ none)
 cut_is_some (x ∷ xs) text cut none = let e : x ∷ (xs ++ cut.rest) ≡ [] = sym cut.joined ∙ none in cc
 
-module _ (Outcome : Status → List ℕ → Type 0) (held more : Option (List ℕ)) (room : Option ℕ) (before after : ℕ) where
+module _ (Outcome : Status → List ℕ → Type 0) (before after : SinkState) where
   this : (own : Status) (text : List ℕ) → Outcome own text → (status : Status) (other : List ℕ) → IsThis own text status other → Outcome status other
   this own text is status other same = subst (λ (s : Status). Outcome s other) (sym same.0) (subst (Outcome own) (sym same.1) is)
 
-  gained_by : (own : Status) (text : List ℕ) → Outcome own text → (status : Status) → HasGained held more (IsThis own text status) →
-      HasGained held more (Outcome status)
+  gained_by : (own : Status) (text : List ℕ) → Outcome own text → (status : Status) → HasGained before after (IsThis own text status) →
+      HasGained before after (Outcome status)
   gained_by own text is status h = (h.0, this own text is status h.0 h.1, h.2)
 
   -- the only outcome is one of these
   pub answered_by : (own : Status) (text : List ℕ) → Outcome own text → (status : Status) →
-      IsAnswered (IsThis own text) held more room before after status → IsAnswered Outcome held more room before after status
+      IsAnswered (IsThis own text) before after status → IsAnswered Outcome before after status
   answered_by own text is Done h = gained_by own text is Done h
   answered_by own text is (Usage fault) h = gained_by own text is (Usage fault) h
   answered_by own text is (Input problem) h = gained_by own text is (Input problem) h
@@ -126,7 +126,7 @@ module _ (Outcome : Status → List ℕ → Type 0) (held more : Option (List �
   answered_by own text is NoMemory h = h
 
   -- what was answered by itself was gained
-  pub answered_gained : (status : Status) → IsAnswered Outcome held more room before after status → IsOwn status → HasGained held more (Outcome status)
+  pub answered_gained : (status : Status) → IsAnswered Outcome before after status → IsOwn status → HasGained before after (Outcome status)
   answered_gained Done h own = h
   answered_gained (Usage fault) h own = h
   answered_gained (Input problem) h own = h
@@ -138,25 +138,25 @@ module _ (Outcome : Status → List ℕ → Type 0) (held more : Option (List �
   answered_gained NoMemory h own = absurd own
 
 -- but where memory is wanting, what is written part by part ends as what is written at once
-pub of_parts : (Outcome : Status → List ℕ → Type 0) (held more : Option (List ℕ)) (room : Option ℕ) (before after : ℕ) (status : Status) →
-    status ≢ NoMemory → IsAnsweredInParts Outcome held more room before after status → IsAnswered Outcome held more room before after status
-of_parts Outcome held more room before after Done memory h = h
-of_parts Outcome held more room before after (Usage fault) memory h = h
-of_parts Outcome held more room before after (Input problem) memory h = h
-of_parts Outcome held more room before after (Limit kind d value) memory h = h
-of_parts Outcome held more room before after (Chains d value) memory h = h
-of_parts Outcome held more room before after (Products d value) memory h = h
-of_parts Outcome held more room before after ReadFault memory h = h
-of_parts Outcome held more room before after WriteFault memory h = h
-of_parts Outcome held more room before after NoMemory memory h = absurd (memory refl)
+pub of_parts : (Outcome : Status → List ℕ → Type 0) (before after : SinkState) (status : Status) →
+    status ≢ NoMemory → IsAnsweredInParts Outcome before after status → IsAnswered Outcome before after status
+of_parts Outcome before after Done memory h = h
+of_parts Outcome before after (Usage fault) memory h = h
+of_parts Outcome before after (Input problem) memory h = h
+of_parts Outcome before after (Limit kind d value) memory h = h
+of_parts Outcome before after (Chains d value) memory h = h
+of_parts Outcome before after (Products d value) memory h = h
+of_parts Outcome before after ReadFault memory h = h
+of_parts Outcome before after WriteFault memory h = h
+of_parts Outcome before after NoMemory memory h = absurd (memory refl)
 
 module _ (Own Outcome : Status → List ℕ → Type 0) (among : (status : Status) (text : List ℕ) → Own status text → Outcome status text)
-    (held more : Option (List ℕ)) (room : Option ℕ) (before after : ℕ) where
-  gained_among : (status : Status) → HasGained held more (Own status) → HasGained held more (Outcome status)
+    (before after : SinkState) where
+  gained_among : (status : Status) → HasGained before after (Own status) → HasGained before after (Outcome status)
   gained_among status h = (h.0, among status h.0 h.1, h.2)
 
   -- each of these outcomes is one of those
-  pub parts_among : (status : Status) → IsAnsweredInParts Own held more room before after status → IsAnsweredInParts Outcome held more room before after status
+  pub parts_among : (status : Status) → IsAnsweredInParts Own before after status → IsAnsweredInParts Outcome before after status
   parts_among Done h = gained_among Done h
   parts_among (Usage fault) h = gained_among (Usage fault) h
   parts_among (Input problem) h = gained_among (Input problem) h
@@ -168,9 +168,9 @@ module _ (Own Outcome : Status → List ℕ → Type 0) (among : (status : Statu
   parts_among NoMemory (inl none) = inl none
   parts_among NoMemory (inr some) = inr (some.0, some.1, among some.0 some.1 some.2, some.3)
 
-module _ (own : Status) (text : List ℕ) (held more : Option (List ℕ)) (room : Option ℕ) (before after : ℕ) where
+module _ (own : Status) (text : List ℕ) (before after : SinkState) where
   abbrev Written : Status → Type 0
-  Written = IsAnswered (IsThis own text) held more room before after
+  Written = IsAnswered (IsThis own text) before after
 
   -- where nothing is printed the status is that of the answer
   pub answered_status : (status : Status) → Written status → PrintsNothing status → status ≡ own

@@ -1,7 +1,6 @@
 -- The trace grows by that of a degree, and so does what was told.
 use Rattle.std.proofs.Common.{◌≡◌, ◌+◌, ◌≤◌, ℕ, Bool, true, false, List, [], ◌∷◌, ◌++◌, length, refl, sym, ap, ◌∙◌, arith, subst, append_assoc, length-append}
 use Rattle.std.proofs.lemmas.List.{append-nil}
-use Rattle.std.specs.declared.option.Option.{Option}
 use Rattle.std.specs.Io.KnownBytes.{Appends}
 use Rattle.std.proofs.KnownBytes.{Appends-nil, Appends-trans}
 use Rattle.bg_io.specs.Ends.{Rose}
@@ -12,6 +11,7 @@ use Rattle.ideal_laws.specs.Engine.{Elements}
 use Rattle.poly_writer.specs.Texts.{trace_text}
 use Rattle.job_steps.specs.Gains.{GainsSome}
 use Rattle.job_steps.specs.Progress.{Task}
+use Rattle.job_steps.specs.States.{SinkState, TellerState}
 use Rattle.job_steps.specs.Traces.{Accounts, AreAccounts, IsAccountOf, IsTold, IsTrace, IsTracePart, OfNextTrace, OfTrace, Tells, trace_of, trace_texts}
 use Rattle.job_steps.proofs.Printed.{Stands}
 use Rattle.job_steps.proofs.Gaining.{appended_none, beginning_front, beginning_self, beginning_trans, rose_behind, some_behind}
@@ -57,49 +57,55 @@ module _ (May : Accounts) (t : Task) where
   part_next true e text account h one = trace_next e text account h one
   part_next false e text account h one = ap (λ (l : List ℕ). l ++ []) h
 
-pub tells_none : (a : Option (List ℕ)) (f : ℕ) (failed : Bool) → Tells a a f f failed failed []
-tells_none a f failed = record {
-  later = omega arith;
-  silent = λ is. (is, Appends-nil a);
-  whole = λ is still. Appends-nil a;
-  part = λ is fails. absurd (apart failed is fails);
-}
-  where
-    apart : (b : Bool) → b ≡ false → b ≡ true → ⊥
-    apart b e f = cc
+apart : (b : Bool) → b ≡ false → b ≡ true → ⊥
+apart b e f = cc
 
-some_then_none : (a c d : Option (List ℕ)) (x y : List ℕ) → GainsSome a c x → Appends c d [] → GainsSome a d (x ++ y)
+pub tells_none : (a : TellerState) → Tells a a []
+tells_none a = record {
+  later = omega arith;
+  silent = λ is. (is, Appends-nil a.err.held);
+  whole = λ is still. Appends-nil a.err.held;
+  part = λ is fails. absurd (apart a.failed is fails);
+}
+
+some_then_none : (a c d : SinkState) (x y : List ℕ) → GainsSome a c x → Appends c.held d.held [] → GainsSome a d (x ++ y)
 some_then_none a c d x y some none = record {
   gained = some.gained;
-  appended = appended_none a c d some.gained some.appended none;
+  appended = appended_none a.held c.held d.held some.gained some.appended none;
   beginning = beginning_trans some.gained x (x ++ y) some.beginning (beginning_front x y);
 }
 
 rose_kept : (f g h : ℕ) → Rose f g → g ≤ h → Rose f h
 rose_kept f g h rose later = omega (arith, rose, later)
 
-module _ (a b c : Option (List ℕ)) (f g h : ℕ) (x y : List ℕ) where
-  by_middle : (p q r : Bool) → Tells a b f g p q x → Tells b c g h q r y → Tells a c f h p r (x ++ y)
-  by_middle p true r w v = record {
+module _ (a b c : TellerState) (x y : List ℕ) (w : Tells a b x) (v : Tells b c y) where
+  by_middle : (failed : Bool) → b.failed ≡ failed → Tells a c (x ++ y)
+  by_middle true is = record {
     later = omega (arith, w.later, v.later);
-    silent = λ is. ((v.silent refl).0, Appends-trans a b c [] [] (w.silent is).1 (v.silent refl).1);
-    whole = λ begun still. absurd (let again : r ≡ true = (v.silent refl).0 in let e : ⊥ = cc in e);
-    part = λ begun fails. (rose_kept f g h (w.part begun refl).0 v.later, some_then_none a b c x y (w.part begun refl).1 (v.silent refl).1);
+    silent = λ begun. ((v.silent is).0, Appends-trans a.err.held b.err.held c.err.held [] [] (w.silent begun).1 (v.silent is).1);
+    whole = λ begun still. absurd (apart c.failed still (v.silent is).0);
+    part = λ begun fails. (
+      rose_kept a.err.faults b.err.faults c.err.faults (w.part begun is).0 v.later,
+      some_then_none a.err b.err c.err x y (w.part begun is).1 (v.silent is).1,
+    );
   }
-  by_middle p false r w v = record {
+  by_middle false is = record {
     later = omega (arith, w.later, v.later);
-    silent = λ is. absurd (let again : false ≡ true = (w.silent is).0 in let e : ⊥ = cc in e);
-    whole = λ begun still. Appends-trans a b c x y (w.whole begun refl) (v.whole refl still);
-    part = λ begun fails. (rose_behind f g h w.later (v.part refl fails).0, some_behind a b c x y (w.whole begun refl) (v.part refl fails).1);
+    silent = λ begun. absurd (apart b.failed is (w.silent begun).0);
+    whole = λ begun still. Appends-trans a.err.held b.err.held c.err.held x y (w.whole begun is) (v.whole is still);
+    part = λ begun fails. (
+      rose_behind a.err.faults b.err.faults c.err.faults w.later (v.part is fails).0,
+      some_behind a.err b.err c.err x y (w.whole begun is) (v.part is fails).1,
+    );
   }
 
-  pub tells_behind : (p q r : Bool) → Tells a b f g p q x → Tells b c g h q r y → Tells a c f h p r (x ++ y)
-  tells_behind p q r w v = by_middle p q r w v
+  pub tells_behind : Tells a c (x ++ y)
+  tells_behind = by_middle b.failed refl
 
 -- the trace that was told stays, or grows by that of a degree
-module _ (May : Accounts) (t : Task) (traces : Bool) (d : ℕ) (a b c : Option (List ℕ)) (f g h : ℕ) (p q r : Bool) where
-  pub told_here : OfTrace May t traces d (Tells a b f g p q) → Tells b c g h q r [] → OfTrace May t traces d (Tells a c f h p r)
-  told_here w v = (w.0, w.1, subst (Tells a c f h p r) (append-nil w.0) (tells_behind a b c f g h w.0 [] p q r w.2 v))
+module _ (May : Accounts) (t : Task) (traces : Bool) (d : ℕ) (a b c : TellerState) where
+  pub told_here : OfTrace May t traces d (Tells a b) → Tells b c [] → OfTrace May t traces d (Tells a c)
+  told_here w v = (w.0, w.1, subst (Tells a c) (append-nil w.0) (tells_behind a b c w.0 [] w.2 v))
 
 module _ (May Now : Accounts) (t : Task) (given : Presentation) (field : ℕ) (modulus : field ≡ t.modulus)
     (letters : given.alphabet ≡ t.letters) (relations : given.relations ≡ t.relations)
@@ -122,22 +128,26 @@ module _ (May Now : Accounts) (t : Task) (given : Presentation) (field : ℕ) (m
   next_text account = ap (λ (n : ℕ). trace_of traces given.alphabet.names (n + 1) account) s.done
       ∙ ap (λ (l : Letters). trace_of traces l.names (d + 1) account) letters
 
-  pub told_next : (a b c : Option (List ℕ)) (f g h : ℕ) (p q r : Bool) → OfTrace May t traces d (Tells a b f g p q) →
-      OfNextTrace Now field given below traces (Tells b c g h q r) → OfTrace May t traces (d + 1) (Tells a c f h p r)
-  told_next a b c f g h p q r w v =
+  pub told_next : (a b c : TellerState) → OfTrace May t traces d (Tells a b) →
+      OfNextTrace Now field given below traces (Tells b c) → OfTrace May t traces (d + 1) (Tells a c)
+  told_next a b c w v =
       let more = trace_of traces t.letters.names (d + 1) v.0 in (
         w.0 ++ more,
         part_next May t traces d w.0 v.0 w.1 (next_account v.0 v.1),
-        tells_behind a b c f g h w.0 more p q r w.2 (subst (Tells b c g h q r) (next_text v.0) v.2),
+        tells_behind a b c w.0 more w.2 (subst (Tells b c) (next_text v.0) v.2),
       )
 
 -- what was told from the beginning on
-pub told_end : (a c : Option (List ℕ)) (f g : ℕ) (failed fails : Bool) (x : List ℕ) → failed ≡ false → Tells a c f g failed fails x → IsTold a c f g x
-told_end a c f g failed false x begun w = record {
-  whole = λ _. w.whole begun refl;
-  some = record { gained = x; appended = w.whole begun refl; beginning = beginning_self x };
-}
-told_end a c f g failed true x begun w = record {
-  whole = λ none. absurd (none (w.part begun refl).0);
-  some = (w.part begun refl).1;
-}
+module _ (a c : TellerState) (x : List ℕ) (begun : a.failed ≡ false) (w : Tells a c x) where
+  by_end : (failed : Bool) → c.failed ≡ failed → IsTold a.err c.err x
+  by_end false is = record {
+    whole = λ _. w.whole begun is;
+    some = record { gained = x; appended = w.whole begun is; beginning = beginning_self x };
+  }
+  by_end true is = record {
+    whole = λ none. absurd (none (w.part begun is).0);
+    some = (w.part begun is).1;
+  }
+
+  pub told_end : IsTold a.err c.err x
+  told_end = by_end c.failed refl

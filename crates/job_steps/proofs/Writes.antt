@@ -5,6 +5,7 @@ use Rattle.std.proofs.KnownBytes.{Appends-nil, Appends-trans}
 use Rattle.bg_io.specs.Ends.{CountsGained}
 use Rattle.bg_io.proofs.Transfers.{CountsAtMost-more, CountsAtMost-none}
 use Rattle.job_steps.specs.Gains.{CountsWrites}
+use Rattle.job_steps.specs.States.{SinkState}
 
 -- nothing was written
 pub counts_none : (a : Option (List ℕ)) (x : Option ℕ) (spare : ℕ) → CountsGained a a x x spare
@@ -25,6 +26,6 @@ counts_more a b c x y z spare p q = record {
 }
 
 -- what ended with a fault
-pub counts_fault : {T E : Type 0} (a b : Option (List ℕ)) (x y : Option ℕ) (result : Result T E) (fault : E) → result ≡ Err fault →
-    CountsGained a b x y 1 → CountsWrites a b x y result
-counts_fault a b x y result fault is p = rw is p
+pub counts_fault : {T E : Type 0} (a b : SinkState) (result : Result T E) (fault : E) → result ≡ Err fault →
+    CountsGained a.held b.held a.calls b.calls 1 → CountsWrites a b result
+counts_fault a b result fault is p = rw is p

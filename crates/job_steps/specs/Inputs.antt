@@ -9,6 +9,7 @@ use Rattle.relation_reader.specs.Meaning.{FirstFault, Reads}
 use Rattle.job_steps.specs.declared.status.InputProblem.TheVariants.{TooLong, Text}
 use Rattle.job_steps.specs.declared.status.Status.{Status}
 use Rattle.job_steps.specs.declared.status.Status.TheVariants.{Input, ReadFault, NoMemory}
+use Rattle.job_steps.specs.States.{SourceState}
 
 -- In the following, left and now are what the source tells of its bytes before and after.
 
@@ -31,10 +32,10 @@ abbrev pub IsTaken : Option (List ℕ) → Option (List ℕ) → Status → Type
 IsTaken left now (Input TooLong) = Loses left now 1048577
 IsTaken left now status = LosesAtMost left now 1048576
 
--- why no reading of a text was had
-abbrev pub IsInputEnd : ℕ → Option (List ℕ) → Option (List ℕ) → ℕ → ℕ → Status → Type 0
-IsInputEnd p left now before after (Input TooLong) = Loses left now 1048577
-IsInputEnd p left now before after (Input (Text fault)) = IsRefusedInput p left now fault
-IsInputEnd p left now before after ReadFault = Rose before after
-IsInputEnd p left now before after NoMemory = Unit {0}
-IsInputEnd p left now before after status = ⊥
+-- why no reading of a text was had from a source that is unread before
+abbrev pub IsInputEnd : ℕ → SourceState → SourceState → Status → Type 0
+IsInputEnd p unread rest (Input TooLong) = Loses unread.left rest.left 1048577
+IsInputEnd p unread rest (Input (Text fault)) = IsRefusedInput p unread.left rest.left fault
+IsInputEnd p unread rest ReadFault = Rose unread.faults rest.faults
+IsInputEnd p unread rest NoMemory = Unit {0}
+IsInputEnd p unread rest status = ⊥

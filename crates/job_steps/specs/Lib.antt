@@ -1,3 +1,4 @@
+pub mod States
 pub mod Progress
 pub mod Gains
 pub mod Printing

@@ -1,5 +1,5 @@
 -- The statuses that a task ends with by itself, and the text that goes with each.
-use Rattle.std.specs.Prelude.{ℕ, ◌≡◌, ◌⊎◌, List, [], Option}
+use Rattle.std.specs.Prelude.{ℕ, ◌≡◌, ◌⊎◌, List, []}
 use Rattle.std.specs.Io.KnownBytes.{Appends}
 use Rattle.bg_io.specs.Ends.{Rose}
 use Rattle.job_steps.specs.declared.status.InputProblem.TheVariants.{TooFewNames, Shape, TooFewRelations, AboveBound}
@@ -8,6 +8,9 @@ use Rattle.job_steps.specs.declared.status.Status.TheVariants.{Done, Input, Limi
 use Rattle.job_steps.specs.declared.status.Status.TheVariants.{NoMemory}
 use Rattle.job_steps.specs.Gains.{GainsPart, GainsSome, HasPrinted, HasPrintedPart, HasPrintedSome}
 use Rattle.job_steps.specs.Progress.{IsReach, IsStoppedBy, IsText, Reach, Task, whole}
+use Rattle.job_steps.specs.States.{SinkState}
+
+-- In the following, before and after are what the sink tells before the work and after it.
 
 -- a status that the work on a text ends with by itself
 abbrev pub IsOwn : Status → Type 0
@@ -35,39 +38,38 @@ IsTaskOutcome t (Limit kind d value) text = (reach : Reach) × IsReach t reach �
 IsTaskOutcome t status text = ⊥
 
 -- how a task that is printed degree by degree ended, and what was gained of its text
-abbrev pub IsTaskEnd : Task → Option (List ℕ) → Option (List ℕ) → Option ℕ → ℕ → ℕ → Status → Type 0
-IsTaskEnd t held more room before after Done = HasPrinted t whole held more
-IsTaskEnd t held more room before after (Limit kind d value) = (reach : Reach) × IsStoppedBy reach kind d value
-    × HasPrinted t reach held more
-IsTaskEnd t held more room before after WriteFault = Rose before after × HasPrintedPart t held more room
-IsTaskEnd t held more room before after NoMemory = HasPrintedSome t held more
-IsTaskEnd t held more room before after status = ⊥
+abbrev pub IsTaskEnd : Task → SinkState → SinkState → Status → Type 0
+IsTaskEnd t before after Done = HasPrinted t whole before after
+IsTaskEnd t before after (Limit kind d value) = (reach : Reach) × IsStoppedBy reach kind d value
+    × HasPrinted t reach before after
+IsTaskEnd t before after WriteFault = Rose before.faults after.faults × HasPrintedPart t before after
+IsTaskEnd t before after NoMemory = HasPrintedSome t before after
+IsTaskEnd t before after status = ⊥
 
 -- a status comes with such a text, which was gained
-abbrev pub HasGained : Option (List ℕ) → Option (List ℕ) → (List ℕ → Type 0) → Type 0
-HasGained held more Outcome = (text : List ℕ) × Outcome text × Appends held more text
+abbrev pub HasGained : SinkState → SinkState → (List ℕ → Type 0) → Type 0
+HasGained before after Outcome = (text : List ℕ) × Outcome text × Appends before.held after.held text
 
 -- an outcome has a text of which a proper prefix was gained, and no room was told for the whole
-abbrev pub HasGainedPart : Option (List ℕ) → Option (List ℕ) → Option ℕ → (Status → List ℕ → Type 0) → Type 0
-HasGainedPart held more room Outcome = (status : Status) × (text : List ℕ) × Outcome status text
-    × GainsPart held more room text
+abbrev pub HasGainedPart : SinkState → SinkState → (Status → List ℕ → Type 0) → Type 0
+HasGainedPart before after Outcome = (status : Status) × (text : List ℕ) × Outcome status text
+    × GainsPart before after text
 
 -- an outcome has a text of which some prefix was gained
-abbrev pub HasGainedSome : Option (List ℕ) → Option (List ℕ) → (Status → List ℕ → Type 0) → Type 0
-HasGainedSome held more Outcome = (status : Status) × (text : List ℕ) × Outcome status text × GainsSome held more text
+abbrev pub HasGainedSome : SinkState → SinkState → (Status → List ℕ → Type 0) → Type 0
+HasGainedSome before after Outcome = (status : Status) × (text : List ℕ) × Outcome status text
+    × GainsSome before after text
 
 -- how a task ended whose text is written at once, where it has these outcomes
-abbrev pub IsAnswered : (Status → List ℕ → Type 0) → Option (List ℕ) → Option (List ℕ) → Option ℕ → ℕ → ℕ → Status →
-    Type 0
-IsAnswered Outcome held more room before after WriteFault = Rose before after × HasGainedPart held more room Outcome
-IsAnswered Outcome held more room before after NoMemory = Appends held more []
-IsAnswered Outcome held more room before after status = HasGained held more (Outcome status)
+abbrev pub IsAnswered : (Status → List ℕ → Type 0) → SinkState → SinkState → Status → Type 0
+IsAnswered Outcome before after WriteFault = Rose before.faults after.faults × HasGainedPart before after Outcome
+IsAnswered Outcome before after NoMemory = Appends before.held after.held []
+IsAnswered Outcome before after status = HasGained before after (Outcome status)
 
 -- how a task ended whose text is written part by part, where it has these outcomes
-abbrev pub IsAnsweredInParts : (Status → List ℕ → Type 0) → Option (List ℕ) → Option (List ℕ) → Option ℕ → ℕ → ℕ →
-    Status → Type 0
-IsAnsweredInParts Outcome held more room before after NoMemory = Appends held more [] ⊎ HasGainedSome held more Outcome
-IsAnsweredInParts Outcome held more room before after status = IsAnswered Outcome held more room before after status
+abbrev pub IsAnsweredInParts : (Status → List ℕ → Type 0) → SinkState → SinkState → Status → Type 0
+IsAnsweredInParts Outcome before after NoMemory = Appends before.held after.held [] ⊎ HasGainedSome before after Outcome
+IsAnsweredInParts Outcome before after status = IsAnswered Outcome before after status
 
 -- this status with this text is the only outcome
 abbrev pub IsThis : Status → List ℕ → Status → List ℕ → Type 0

@@ -1,5 +1,5 @@
 -- What is told beside the output: the trace of each degree that was computed.
-use Rattle.std.specs.Prelude.{ℕ, ◌≡◌, ◌+◌, ◌<◌, ◌≤◌, Bool, true, false, List, [], ◌∷◌, ◌++◌, Option, All, length}
+use Rattle.std.specs.Prelude.{ℕ, ◌≡◌, ◌+◌, ◌<◌, ◌≤◌, Bool, true, false, List, [], ◌∷◌, ◌++◌, All, length}
 use Rattle.std.specs.Io.KnownBytes.{Appends}
 use Rattle.words.specs.Words.{IsOver}
 use Rattle.free_poly.specs.declared.term.Term.{Term}
@@ -14,6 +14,7 @@ use Rattle.ideal_laws.specs.Laws.{IsSetting}
 use Rattle.poly_writer.specs.Texts.{trace_text}
 use Rattle.job_steps.specs.Gains.{GainsSome, HasPrintedPart, HasPrintedSome}
 use Rattle.job_steps.specs.Progress.{IsPart, IsReach, IsStoppedBy, Reach, Task, ideal_of_task, last_degree}
+use Rattle.job_steps.specs.States.{SinkState, TellerState}
 use Rattle.job_steps.specs.declared.status.Status.{Status}
 use Rattle.job_steps.specs.declared.status.Status.TheVariants.{Done, Limit, WriteFault, NoMemory}
 
@@ -79,26 +80,26 @@ OfNextTrace May p given below traces Holds = (account : Account) × May p given 
     × Holds (trace_of traces given.alphabet.names (below.done + 1) account)
 
 -- a text is told after others: the whole, or a prefix where a write fails; and nothing where one has failed before
-pub record Tells (held more : Option (List ℕ)) (before now : ℕ) (failed fails : Bool) (text : List ℕ) : Type 0 where
-  pub later : before ≤ now
-  pub silent : failed ≡ true → (fails ≡ true) × Appends held more []
-  pub whole : failed ≡ false → fails ≡ false → Appends held more text
-  pub part : failed ≡ false → fails ≡ true → Rose before now × GainsSome held more text
+pub record Tells (before after : TellerState) (text : List ℕ) : Type 0 where
+  pub later : before.err.faults ≤ after.err.faults
+  pub silent : before.failed ≡ true → (after.failed ≡ true) × Appends before.err.held after.err.held []
+  pub whole : before.failed ≡ false → after.failed ≡ false → Appends before.err.held after.err.held text
+  pub part : before.failed ≡ false → after.failed ≡ true →
+      Rose before.err.faults after.err.faults × GainsSome before.err after.err text
 
 -- the whole was told, or the count of faults rose and a prefix was told
-pub record IsTold (held more : Option (List ℕ)) (before now : ℕ) (text : List ℕ) : Type 0 where
-  pub whole : (Rose before now → ⊥) → Appends held more text
-  pub some : GainsSome held more text
+pub record IsTold (before after : SinkState) (text : List ℕ) : Type 0 where
+  pub whole : (Rose before.faults after.faults → ⊥) → Appends before.held after.held text
+  pub some : GainsSome before after text
 
 -- the trace of a task that ended so: that of the degrees that were computed
-abbrev pub IsTaskTrace : Accounts → Bool → Task → Option (List ℕ) → Option (List ℕ) → Option ℕ → Status → List ℕ →
-    Type 0
-IsTaskTrace May traces t held more room Done trace = IsTracePart May t traces t.bound trace
-IsTaskTrace May traces t held more room (Limit kind d value) trace =
+abbrev pub IsTaskTrace : Accounts → Bool → Task → SinkState → SinkState → Status → List ℕ → Type 0
+IsTaskTrace May traces t before after Done trace = IsTracePart May t traces t.bound trace
+IsTaskTrace May traces t before after (Limit kind d value) trace =
     (reach : Reach) × IsReach t reach × IsStoppedBy reach kind d value
     × IsTracePart May t traces (last_degree t reach) trace
-IsTaskTrace May traces t held more room WriteFault trace = (part : HasPrintedPart t held more room)
+IsTaskTrace May traces t before after WriteFault trace = (part : HasPrintedPart t before after)
     × IsTracePart May t traces part.last trace
-IsTaskTrace May traces t held more room NoMemory trace = (part : HasPrintedSome t held more)
+IsTaskTrace May traces t before after NoMemory trace = (part : HasPrintedSome t before after)
     × IsTracePart May t traces part.last trace
-IsTaskTrace May traces t held more room status trace = ⊥
+IsTaskTrace May traces t before after status trace = ⊥

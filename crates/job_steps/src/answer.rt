@@ -1,6 +1,7 @@
 ghost use Rattle.std.specs.Prelude.{◌≡◌, ◌≢◌, []};
 ghost use Rattle.bg_io.specs.Ends.{CountsGained};
 ghost use Rattle.job_steps.specs.declared.status.Status.TheVariants.{Limit};
+ghost use Rattle.job_steps.specs.States.{state_of};
 ghost use Rattle.job_steps.specs.Statuses.{IsAnswered, IsOwn, IsThis};
 
 use crate::status::Status;
@@ -35,8 +36,8 @@ impl Answer {
 /// Writes the text of an answer.
 pub fn write_answer<K: Sink>(answer: Answer, out: &mut K) -> Status
     requires { IsOwn answer.status }
-    ensures end { IsAnswered (IsThis answer.status answer.text) (K.held out.old) (K.held out.new) (K.room out.old)
-        (K.faults out.old) (K.faults out.new) result }
+    ensures end { IsAnswered (IsThis answer.status answer.text) (state_of K.Sink out.old)
+        (state_of K.Sink out.new) result }
     ensures nothing { answer.text ≡ [] → out.new ≡ out.old }
     ensures steady { result ≢ Status.WriteFault → K.faults out.new ≡ K.faults out.old }
     ensures calls { CountsGained (K.held out.old) (K.held out.new) (K.calls out.old) (K.calls out.new) 1 }

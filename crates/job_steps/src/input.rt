@@ -2,6 +2,7 @@ ghost use Rattle.std.specs.Prelude.{◌≡◌, ◌≢◌, All, Err, IfOk, MatchR
 ghost use Rattle.free_poly.specs.Terms.{HasResidues};
 ghost use Rattle.bg_io.specs.Ends.{CountsAtMost, CountsTaken, LosesAtMost};
 ghost use Rattle.job_steps.specs.Inputs.{IsInputEnd, IsTaken, ReadsInput};
+ghost use Rattle.job_steps.specs.States.{source_state};
 
 use crate::status::{InputProblem, Status};
 use bg_io::{ReadAllFault, Source, read_all};
@@ -20,8 +21,8 @@ pub fn read_input<S: Source>(
     source: &mut S,
 ) -> Result<Presentation, Status>
     ensures reads { MatchResult result (λ given. ReadsInput field.now (S.left source.old) (S.left source.new)
-        given.alphabet given.relations) (IsInputEnd field.now (S.left source.old) (S.left source.new)
-        (S.faults source.old) (S.faults source.new)) }
+        given.alphabet given.relations) (IsInputEnd field.now (source_state S.Source source.old)
+        (source_state S.Source source.new)) }
     ensures taken { MatchResult result (λ _. LosesAtMost (S.left source.old) (S.left source.new) 1048576)
         (IsTaken (S.left source.old) (S.left source.new)) }
     ensures residues { IfOk result (λ given. All (HasResidues field.now) given.relations) }

@@ -18,4 +18,4 @@ pub use input::read_input;
 pub use laws::reach_law;
 pub use print::{Asked, PrintFault, print_job};
 pub use status::{InputProblem, Status};
-pub use telling::tell_status;
+pub use telling::{Teller, tell_status};

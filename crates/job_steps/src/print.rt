@@ -12,9 +12,10 @@ ghost use Rattle.poly_writer.specs.Texts.{degree_text, element_line, series_text
 ghost use Rattle.job_steps.specs.Gains.{CountsWrites, GainsAll, HasPrinted, IsUndone, IsUnwritten};
 ghost use Rattle.job_steps.specs.Printing.{IsBasisUndone, IsNextUndone, IsSeriesUndone, IsWholeSeries, OfNext, task_of};
 ghost use Rattle.job_steps.specs.Progress.{IsBasisSoFar, whole};
+ghost use Rattle.job_steps.specs.States.{state_of, teller_state};
 ghost use Rattle.job_steps.specs.Traces.{ArePrintable, OfNextTrace, OfTrace, Tells};
 
-use crate::telling::tell_degree;
+use crate::telling::{Teller, tell_degree};
 use bg_io::{Sink, write_all};
 use field_table::Field;
 use free_poly::Poly;
@@ -71,28 +72,27 @@ pub fn print_job<R: Threads + Sync, E: DegreeEngine, K: Sink, T: Sink>(
     given: &Presentation,
     asked: Asked,
     out: &mut K,
-    err: &mut T,
-    failed: &mut bool,
+    teller: &mut Teller<'_, T>,
 ) -> Result<(), PrintFault>
     requires small { asked.bound ≤ 64 }
     requires residues { All (HasResidues field.now) given.now.relations }
     requires printable { asked.trace ≡ true → ArePrintable (E.may_account engine.old) field.now given.now }
 
     ensures done { OnOk result (HasPrinted (task_of field.now given.now (E.kinds engine.old) asked) whole
-        (K.held out.old) (K.held out.new)) }
+        (state_of K.Sink out.old) (state_of K.Sink out.new)) }
     ensures told { OnOk result (OfTrace (E.may_account engine.old)
         (task_of field.now given.now (E.kinds engine.old) asked) asked.trace asked.bound
-        (Tells (T.held err.old) (T.held err.new) (T.faults err.old) (T.faults err.new) failed.old failed.new)) }
+        (Tells (teller_state T.Sink teller.old) (teller_state T.Sink teller.new))) }
     ensures undone { IfErr result (IsUndone (task_of field.now given.now (E.kinds engine.old) asked)
-        (K.held out.old) (K.held out.new) (K.room out.old) (K.faults out.old) (K.faults out.new)
+        (state_of K.Sink out.old) (state_of K.Sink out.new)
         (λ e. OfTrace (E.may_account engine.old) (task_of field.now given.now (E.kinds engine.old) asked)
-        asked.trace e (Tells (T.held err.old) (T.held err.new) (T.faults err.old) (T.faults err.new) failed.old
-        failed.new))) }
+        asked.trace e (Tells (teller_state T.Sink teller.old) (teller_state T.Sink teller.new)))) }
     ensures steady { result ≢ Err PrintFault.WriteFault → K.faults out.new ≡ K.faults out.old }
-    ensures calls { CountsWrites (K.held out.old) (K.held out.new) (K.calls out.old) (K.calls out.new) result }
+    ensures calls { CountsWrites (state_of K.Sink out.old) (state_of K.Sink out.new) result }
+    ensures same_sink { teller.new.err.ghost_name ≡ teller.old.err.ghost_name }
 {
     setting_law(field, given);
-    let basis = print_basis(rt, alloc, engine, field, given, asked, out, err, failed)?;
+    let basis = print_basis(rt, alloc, engine, field, given, asked, out, teller)?;
     if !asked.series {
         return Ok(());
     }
@@ -111,8 +111,7 @@ fn print_basis<R: Threads + Sync, E: DegreeEngine, K: Sink, T: Sink>(
     given: &Presentation,
     asked: Asked,
     out: &mut K,
-    err: &mut T,
-    failed: &mut bool,
+    teller: &mut Teller<'_, T>,
 ) -> Result<Basis, PrintFault>
     requires small { asked.bound ≤ 64 }
     requires residues { All (HasResidues field.now) given.now.relations }
@@ -123,23 +122,22 @@ fn print_basis<R: Threads + Sync, E: DegreeEngine, K: Sink, T: Sink>(
     ensures reduced { IfOk result (IsReducedUpto field.now given.now.relations) }
     ensures printed { OnOk result ((text : List ℕ) × IsBasisSoFar
         (task_of field.now given.now (E.kinds engine.old) asked) asked.bound text
-        × GainsAll (K.held out.old) (K.held out.new) (K.room out.old) (K.room out.new) (K.faults out.old)
-        (K.faults out.new) text) }
+        × GainsAll (state_of K.Sink out.old) (state_of K.Sink out.new) text) }
     ensures told { OnOk result (OfTrace (E.may_account engine.old)
         (task_of field.now given.now (E.kinds engine.old) asked) asked.trace asked.bound
-        (Tells (T.held err.old) (T.held err.new) (T.faults err.old) (T.faults err.new) failed.old failed.new)) }
+        (Tells (teller_state T.Sink teller.old) (teller_state T.Sink teller.new))) }
     ensures undone { IfErr result (IsBasisUndone (task_of field.now given.now (E.kinds engine.old) asked)
-        (K.held out.old) (K.held out.new) (K.room out.old) (K.faults out.old) (K.faults out.new)
+        (state_of K.Sink out.old) (state_of K.Sink out.new)
         (λ e. OfTrace (E.may_account engine.old) (task_of field.now given.now (E.kinds engine.old) asked)
-        asked.trace e (Tells (T.held err.old) (T.held err.new) (T.faults err.old) (T.faults err.new) failed.old
-        failed.new))) }
+        asked.trace e (Tells (teller_state T.Sink teller.old) (teller_state T.Sink teller.new)))) }
     ensures steady { result ≢ Err PrintFault.WriteFault → K.faults out.new ≡ K.faults out.old }
-    ensures calls { CountsWrites (K.held out.old) (K.held out.new) (K.calls out.old) (K.calls out.new) result }
+    ensures calls { CountsWrites (state_of K.Sink out.old) (state_of K.Sink out.new) result }
+    ensures same_sink { teller.new.err.ghost_name ≡ teller.old.err.ghost_name }
 {
     let mut basis = Basis::new(alloc, &given.alphabet);
     for _degree in 0..asked.bound {
         print_next(
-            rt, alloc, engine, field, given, asked, &mut basis, out, err, failed,
+            rt, alloc, engine, field, given, asked, &mut basis, out, teller,
         )?;
     }
     Ok(basis)
@@ -155,8 +153,7 @@ fn print_next<R: Threads + Sync, E: DegreeEngine, K: Sink, T: Sink>(
     asked: Asked,
     basis: &mut Basis,
     out: &mut K,
-    err: &mut T,
-    failed: &mut bool,
+    teller: &mut Teller<'_, T>,
 ) -> Result<(), PrintFault>
     requires next { IsNextDegree field.now given.now basis.old (basis.old.done + 1) }
     requires printable { asked.trace ≡ true → ArePrintable (E.may_account engine.old) field.now given.now }
@@ -165,21 +162,19 @@ fn print_next<R: Threads + Sync, E: DegreeEngine, K: Sink, T: Sink>(
     ensures kept { IsKept basis.old × IsKept basis.new }
     ensures done { OnOk result (basis.new.done ≡ basis.old.done + 1) }
     ensures reduced { OnOk result (IsReducedUpto field.now given.now.relations basis.new) }
-    ensures printed { OnOk result (OfNext field.now given.now.alphabet given.now.relations (E.kinds engine.old)
-        basis.old asked.basis
-        (GainsAll (K.held out.old) (K.held out.new) (K.room out.old) (K.room out.new) (K.faults out.old)
-        (K.faults out.new))) }
+    ensures printed { OnOk result (OfNext (task_of field.now given.now (E.kinds engine.old) asked) basis.old
+        (GainsAll (state_of K.Sink out.old) (state_of K.Sink out.new))) }
     ensures told { OnOk result (OfNextTrace (E.may_account engine.old) field.now given.now basis.old asked.trace
-        (Tells (T.held err.old) (T.held err.new) (T.faults err.old) (T.faults err.new) failed.old failed.new)) }
-    ensures undone { IfErr result (IsNextUndone field.now given.now.alphabet given.now.relations
-        (E.kinds engine.old) basis.old asked.basis (K.held out.old) (K.held out.new) (K.room out.old)
-        (K.faults out.old) (K.faults out.new)
-        (Tells (T.held err.old) (T.held err.new) (T.faults err.old) (T.faults err.new) failed.old failed.new [])
+        (Tells (teller_state T.Sink teller.old) (teller_state T.Sink teller.new))) }
+    ensures undone { IfErr result (IsNextUndone (task_of field.now given.now (E.kinds engine.old) asked) basis.old
+        (state_of K.Sink out.old) (state_of K.Sink out.new)
+        (Tells (teller_state T.Sink teller.old) (teller_state T.Sink teller.new) [])
         (OfNextTrace (E.may_account engine.old) field.now given.now basis.old asked.trace
-        (Tells (T.held err.old) (T.held err.new) (T.faults err.old) (T.faults err.new) failed.old failed.new))) }
+        (Tells (teller_state T.Sink teller.old) (teller_state T.Sink teller.new)))) }
     ensures steady { result ≢ Err PrintFault.WriteFault → K.faults out.new ≡ K.faults out.old }
-    ensures calls { CountsWrites (K.held out.old) (K.held out.new) (K.calls out.old) (K.calls out.new) result }
+    ensures calls { CountsWrites (state_of K.Sink out.old) (state_of K.Sink out.new) result }
 
+    ensures same_sink { teller.new.err.ghost_name ≡ teller.old.err.ghost_name }
     ensures kinds { E.kinds engine.new ≡ E.kinds engine.old }
     ensures accounts { (p : ℕ) (rs : Presentation) (b : Elements) (e : ℕ) (a : Account) →
         E.may_account engine.new p rs b e a → E.may_account engine.old p rs b e a }
@@ -200,15 +195,7 @@ fn print_next<R: Threads + Sync, E: DegreeEngine, K: Sink, T: Sink>(
         Err(EngineFault::NoMemory) => Err(PrintFault::NoMemory),
         Ok(account) => {
             let d = basis.done();
-            tell_degree(
-                alloc,
-                asked.trace,
-                &given.alphabet,
-                d,
-                &account,
-                err,
-                failed,
-            )?;
+            tell_degree(alloc, asked.trace, &given.alphabet, d, &account, teller)?;
             if !asked.basis {
                 return Ok(());
             }
@@ -231,16 +218,14 @@ fn write_degree<K: Sink>(
     requires weights { basis.now.weights ≡ alphabet.now.weights }
     requires residues { All (HasResidues field.now) basis.now.elements }
 
-    ensures written { OnOk result (GainsAll (K.held out.old) (K.held out.new) (K.room out.old) (K.room out.new)
-        (K.faults out.old) (K.faults out.new)
+    ensures written { OnOk result (GainsAll (state_of K.Sink out.old) (state_of K.Sink out.new)
         (degree_text alphabet.now.names field.now basis.now.done
         (of_degree basis.now.weights basis.now.done basis.now.elements))) }
-    ensures unwritten { IfErr result (IsUnwritten (K.held out.old) (K.held out.new) (K.room out.old)
-        (K.faults out.old) (K.faults out.new)
+    ensures unwritten { IfErr result (IsUnwritten (state_of K.Sink out.old) (state_of K.Sink out.new)
         (degree_text alphabet.now.names field.now basis.now.done
         (of_degree basis.now.weights basis.now.done basis.now.elements))) }
     ensures steady { result ≢ Err PrintFault.WriteFault → K.faults out.new ≡ K.faults out.old }
-    ensures calls { CountsWrites (K.held out.old) (K.held out.new) (K.calls out.old) (K.calls out.new) result }
+    ensures calls { CountsWrites (state_of K.Sink out.old) (state_of K.Sink out.new) result }
 {
     let d = basis.done();
     let (first, end) = basis.of_degree(d);
@@ -270,14 +255,12 @@ fn write_elements<K: Sink>(
     requires weights { basis.now.weights ≡ alphabet.now.weights }
     requires residues { All (HasResidues field.now) basis.now.elements }
 
-    ensures written { OnOk result (GainsAll (K.held out.old) (K.held out.new) (K.room out.old) (K.room out.new)
-        (K.faults out.old) (K.faults out.new)
+    ensures written { OnOk result (GainsAll (state_of K.Sink out.old) (state_of K.Sink out.new)
         (flat_map (element_line alphabet.now.names field.now) (slice_range basis.now.elements first end))) }
-    ensures unwritten { IfErr result (IsUnwritten (K.held out.old) (K.held out.new) (K.room out.old)
-        (K.faults out.old) (K.faults out.new)
+    ensures unwritten { IfErr result (IsUnwritten (state_of K.Sink out.old) (state_of K.Sink out.new)
         (flat_map (element_line alphabet.now.names field.now) (slice_range basis.now.elements first end))) }
     ensures steady { result ≢ Err PrintFault.WriteFault → K.faults out.new ≡ K.faults out.old }
-    ensures calls { CountsWrites (K.held out.old) (K.held out.new) (K.calls out.old) (K.calls out.new) result }
+    ensures calls { CountsWrites (state_of K.Sink out.old) (state_of K.Sink out.new) result }
 {
     let _done = basis.done();
     for place in first..end {
@@ -298,14 +281,12 @@ fn write_element<K: Sink>(
     requires residues { HasResidues field.now element.now }
     requires monic { IsMonic element.now }
 
-    ensures written { OnOk result (GainsAll (K.held out.old) (K.held out.new) (K.room out.old) (K.room out.new)
-        (K.faults out.old) (K.faults out.new)
+    ensures written { OnOk result (GainsAll (state_of K.Sink out.old) (state_of K.Sink out.new)
         (element_line alphabet.now.names field.now element.now)) }
-    ensures unwritten { IfErr result (IsUnwritten (K.held out.old) (K.held out.new) (K.room out.old)
-        (K.faults out.old) (K.faults out.new)
+    ensures unwritten { IfErr result (IsUnwritten (state_of K.Sink out.old) (state_of K.Sink out.new)
         (element_line alphabet.now.names field.now element.now)) }
     ensures steady { result ≢ Err PrintFault.WriteFault → K.faults out.new ≡ K.faults out.old }
-    ensures calls { CountsWrites (K.held out.old) (K.held out.new) (K.calls out.old) (K.calls out.new) result }
+    ensures calls { CountsWrites (state_of K.Sink out.old) (state_of K.Sink out.new) result }
 {
     let line = element_line(alloc, alphabet, field, element)?;
     match write_text(out, line.as_slice()) {
@@ -328,13 +309,11 @@ fn print_series<K: Sink>(
 
     ensures printed { OnOk result ((text : List ℕ) × IsWholeSeries field.now given.now.alphabet given.now.relations
         standard_limits.normal_words basis.now.done text
-        × GainsAll (K.held out.old) (K.held out.new) (K.room out.old) (K.room out.new) (K.faults out.old)
-        (K.faults out.new) text) }
+        × GainsAll (state_of K.Sink out.old) (state_of K.Sink out.new) text) }
     ensures undone { IfErr result (IsSeriesUndone field.now given.now.alphabet given.now.relations
-        standard_limits.normal_words basis.now.done (K.held out.old) (K.held out.new) (K.room out.old)
-        (K.faults out.old) (K.faults out.new)) }
+        standard_limits.normal_words basis.now.done (state_of K.Sink out.old) (state_of K.Sink out.new)) }
     ensures steady { result ≢ Err PrintFault.WriteFault → K.faults out.new ≡ K.faults out.old }
-    ensures calls { CountsWrites (K.held out.old) (K.held out.new) (K.calls out.old) (K.calls out.new) result }
+    ensures calls { CountsWrites (state_of K.Sink out.old) (state_of K.Sink out.new) result }
 {
     setting_law(field, given);
     lower_law();
@@ -365,12 +344,12 @@ fn print_series<K: Sink>(
 
 /// Writes the text of these numbers of degrees 0, 1 and so on.
 fn write_series<K: Sink>(alloc: Global, numbers: &[u64], out: &mut K) -> Result<(), PrintFault>
-    ensures written { OnOk result (GainsAll (K.held out.old) (K.held out.new) (K.room out.old) (K.room out.new)
-        (K.faults out.old) (K.faults out.new) (series_text numbers.now)) }
-    ensures unwritten { IfErr result (IsUnwritten (K.held out.old) (K.held out.new) (K.room out.old)
-        (K.faults out.old) (K.faults out.new) (series_text numbers.now)) }
+    ensures written { OnOk result (GainsAll (state_of K.Sink out.old) (state_of K.Sink out.new)
+        (series_text numbers.now)) }
+    ensures unwritten { IfErr result (IsUnwritten (state_of K.Sink out.old) (state_of K.Sink out.new)
+        (series_text numbers.now)) }
     ensures steady { result ≢ Err PrintFault.WriteFault → K.faults out.new ≡ K.faults out.old }
-    ensures calls { CountsWrites (K.held out.old) (K.held out.new) (K.calls out.old) (K.calls out.new) result }
+    ensures calls { CountsWrites (state_of K.Sink out.old) (state_of K.Sink out.new) result }
 {
     let text = series_text(alloc, numbers)?;
     match write_text(out, text.as_slice()) {
@@ -380,12 +359,10 @@ fn write_series<K: Sink>(alloc: Global, numbers: &[u64], out: &mut K) -> Result<
 }
 
 fn write_text<K: Sink>(out: &mut K, text: &[u8]) -> Result<(), PrintFault>
-    ensures written { OnOk result (GainsAll (K.held out.old) (K.held out.new) (K.room out.old) (K.room out.new)
-        (K.faults out.old) (K.faults out.new) text.now) }
-    ensures unwritten { IfErr result (IsUnwritten (K.held out.old) (K.held out.new) (K.room out.old)
-        (K.faults out.old) (K.faults out.new) text.now) }
+    ensures written { OnOk result (GainsAll (state_of K.Sink out.old) (state_of K.Sink out.new) text.now) }
+    ensures unwritten { IfErr result (IsUnwritten (state_of K.Sink out.old) (state_of K.Sink out.new) text.now) }
     ensures steady { result ≢ Err PrintFault.WriteFault → K.faults out.new ≡ K.faults out.old }
-    ensures calls { CountsWrites (K.held out.old) (K.held out.new) (K.calls out.old) (K.calls out.new) result }
+    ensures calls { CountsWrites (state_of K.Sink out.old) (state_of K.Sink out.new) result }
 {
     match write_all(out, text) {
         Ok(()) => Ok(()),

@@ -1,5 +1,6 @@
 ghost use Rattle.std.specs.Prelude.{◌≡◌, ◌<◌, [], List, ℕ, OnErr, OnOk, length, true};
 ghost use Rattle.job_steps.specs.Lines.{fault_line};
+ghost use Rattle.job_steps.specs.States.{teller_state};
 ghost use Rattle.job_steps.specs.Traces.{IsPrintable, Tells, trace_of};
 
 use crate::lines::fault_line;
@@ -10,6 +11,13 @@ use poly_writer::trace_text;
 use std::alloc::Global;
 use words::{Alphabet, NoMemory};
 
+/// Where lines are told, and whether telling has failed.
+#[derive(Drop)]
+pub struct Teller<'a, T> {
+    pub err: &'a mut T,
+    pub failed: bool,
+}
+
 /// Tells the trace of a degree, where it is asked for.
 pub fn tell_degree<T: Sink>(
     alloc: Global,
@@ -17,39 +25,40 @@ pub fn tell_degree<T: Sink>(
     alphabet: &Alphabet,
     d: u32,
     account: &Account,
-    err: &mut T,
-    failed: &mut bool,
+    teller: &mut Teller<'_, T>,
 ) -> Result<(), NoMemory>
     requires printable { traces ≡ true → IsPrintable (length alphabet.now.weights) account.now }
-    ensures told { OnOk result (Tells (T.held err.old) (T.held err.new) (T.faults err.old) (T.faults err.new)
-        failed.old failed.new (trace_of traces alphabet.now.names d account.now)) }
-    ensures untold { OnErr result (Tells (T.held err.old) (T.held err.new) (T.faults err.old) (T.faults err.new)
-        failed.old failed.new []) }
+    ensures same_sink { teller.new.err.ghost_name ≡ teller.old.err.ghost_name }
+    ensures told { OnOk result (Tells (teller_state T.Sink teller.old) (teller_state T.Sink teller.new)
+        (trace_of traces alphabet.now.names d account.now)) }
+    ensures untold { OnErr result (Tells (teller_state T.Sink teller.old) (teller_state T.Sink teller.new) []) }
 {
     if !traces {
         return Ok(());
     }
     let text = trace_text(alloc, alphabet, d, account)?;
-    tell(err, failed, text.as_slice());
+    tell(teller, text.as_slice());
     Ok(())
 }
 
 /// Tells the line of the status.
-pub fn tell_status<T: Sink>(err: &mut T, failed: &mut bool, status: Status)
-    ensures { Tells (T.held err.old) (T.held err.new) (T.faults err.old) (T.faults err.new) failed.old failed.new
+pub fn tell_status<T: Sink>(teller: &mut Teller<'_, T>, status: Status)
+    ensures same_sink { teller.new.err.ghost_name ≡ teller.old.err.ghost_name }
+    ensures told { Tells (teller_state T.Sink teller.old) (teller_state T.Sink teller.new)
         (fault_line status) }
 {
     let line = fault_line(&status);
-    tell(err, failed, line.as_bytes());
+    tell(teller, line.as_bytes());
 }
 
 /// Tells a text, unless a write has failed before.
-fn tell<T: Sink>(err: &mut T, failed: &mut bool, text: &[u8])
-    ensures { Tells (T.held err.old) (T.held err.new) (T.faults err.old) (T.faults err.new) failed.old failed.new
+fn tell<T: Sink>(teller: &mut Teller<'_, T>, text: &[u8])
+    ensures same_sink { teller.new.err.ghost_name ≡ teller.old.err.ghost_name }
+    ensures told { Tells (teller_state T.Sink teller.old) (teller_state T.Sink teller.new)
         text.now }
 {
-    if *failed {
+    if teller.failed {
         return;
     }
-    *failed = write_all(err, text).is_err();
+    teller.failed = write_all(teller.err, text).is_err();
 }

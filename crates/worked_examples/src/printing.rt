@@ -2,7 +2,7 @@ use crate::presented::{presented, residues};
 use bg_io::{FixedSink, MemorySink};
 use field_table::Field;
 use ideal_laws::{Basis, DegreeEngine, DegreeReport, EngineFault, Limits, Presentation};
-use job_steps::{Asked, PrintFault, print_job};
+use job_steps::{Asked, PrintFault, Teller, print_job};
 use plain_engine::PlainEngine;
 use std::alloc::Global;
 use std::test::Fail;
@@ -60,7 +60,10 @@ fn a_degree_is_printed_before_the_next_one_is_asked_for(rt: HostRuntime) -> Resu
         };
         let mut out = MemorySink::new(alloc, 3, Vec::new(alloc));
         let mut err = FixedSink::new(alloc, 0)?;
-        let mut failed = false;
+        let mut teller = Teller {
+            err: &mut err,
+            failed: false,
+        };
         let ended = print_job(
             &rt,
             alloc,
@@ -69,8 +72,7 @@ fn a_degree_is_printed_before_the_next_one_is_asked_for(rt: HostRuntime) -> Resu
             &given,
             asked,
             &mut out,
-            &mut err,
-            &mut failed,
+            &mut teller,
         );
         assert_eq!(rt; ended, answer, "no memory from degree {from} on");
         assert_eq!(rt;

@@ -7,6 +7,7 @@ use Rattle.free_poly.specs.Terms.{HasResidues}
 use Rattle.ideal_laws.specs.Laws.{IsRelation}
 use Rattle.job_steps.specs.declared.status.Status.{Status}
 use Rattle.job_steps.specs.declared.status.Status.TheVariants.{Limit}
+use Rattle.job_steps.specs.States.{state_of}
 use Rattle.job_steps.proofs.Statuses.{parts_among}
 use Rattle.bergman_cli.specs.Normal.{HasNone, IsAbove, IsFirstPlace, IsNormalOutcome}
 use Rattle.bergman_cli.proofs.NormalOutcomes.{All-part, above_outcome, answered_outcome, questions-part, stopped_outcome}
@@ -75,4 +76,4 @@ returns-in-Ok-run-clause-end g c =
     parts_among _ (IsNormalOutcome job given.alphabet given.relations)
     (λ status text h. answered_outcome job given.alphabet given.relations (enough, none) _ c.requires.limits c.args.field.now c.requires.modulus
     ideal.alphabet c.in-Ok.ensures.alphabet ideal.relations part c.in-Ok-run.ensures.within _ asked status text h)
-    _ _ _ _ _ c.write_answers.result c.write_answers.ensures.end
+    (state_of g.K.Sink c.args.out.now) (state_of g.K.Sink c.write_answers.new.out) c.write_answers.result c.write_answers.ensures.end

@@ -1,18 +1,15 @@
-use Rattle.std.proofs.Common.{◌≡◌, ◌∙◌, ◌+◌, ◌++◌, ◌<◌, ◌≤◌, [], ℕ, Err, List, ap, arith, inl, inr, length, refl, subst, sym}
+use Rattle.std.proofs.Common.{◌≡◌, ◌∙◌, ◌+◌, ◌<◌, ◌≤◌, [], ℕ, Err, List, ap, arith, inl, inr, refl, subst, sym}
 use Rattle.std.specs.Prelude.{slice_index_or}
 use Rattle.std.proofs.lemmas.Bool.{cases_lt}
 use Rattle.std.proofs.lemmas.List.{get_or_default}
-use Rattle.ideal_laws.specs.Ideal.{ideal_of, ideal_over}
+use Rattle.ideal_laws.specs.Ideal.{ideal_of}
 use Rattle.ideal_laws.specs.Kept.{lead_degree}
 use Rattle.job_steps.specs.declared.status.Status.TheVariants.{Products}
 use Rattle.job_steps.specs.Gains.{GainsAll, GainsPart}
+use Rattle.job_steps.specs.States.{state_of}
 use Rattle.job_steps.proofs.Gaining.{all_behind}
-use Rattle.cofactors.specs.Certificate.{IsCertificate}
-use Rattle.cofactors.specs.ProductList.{triples}
-use Rattle.cofactors.specs.Texts.{answer_text}
 use Rattle.bergman_cli.specs.Normal.{HasManyTriples, most_triples}
-use Rattle.bergman_cli.proofs.Answering.{begun, cut_off, few_are_not_many, one_more, some_gained}
-use Rattle.bergman_cli.proofs.Places.{none_next}
+use Rattle.bergman_cli.proofs.Answering.{begun, cut_off, next_answer, some_written}
 use Rattle.bergman_cli.proofs.normal.write_answers.Goals as goal
 
 pub index_of-requires : goal.index_of-requires
@@ -57,82 +54,46 @@ returns-in-Err-TooMany-clause-end g c =
 
 pub returns-in-Err-NoMemory-clause-end : goal.returns-in-Err-NoMemory-clause-end
 returns-in-Err-NoMemory-clause-end g c =
-    let p = c.args.field.now in
-    let letters = c.args.ideal.now.alphabet in
-    let relations = c.args.ideal.now.relations in
-    let questions = c.args.questions.now in
-    let place = c.loop-place.place in
-    let written = c.loop-place.invariant.written in
     let laws = c.normal_form_laws.ensures in
-    inr (some_gained p letters relations questions _ _ _ _ _ _ written.0 written.2
-    (begun p letters relations questions c.setting_law.ensures laws.one laws.products c.requires.elements place
-    (omega (arith, c.loop-place-test.true)) written.0 c.loop-place.invariant.none written.1))
+    inr (some_written c.args.field.now c.args.ideal.now.alphabet c.args.ideal.now.relations c.args.questions.now _ _ c.setting_law.ensures
+    laws.one laws.products c.requires.elements c.loop-place.place (omega (arith, c.loop-place-test.true)) c.loop-place.invariant.none
+    c.loop-place.invariant.written)
 
 pub returns-in_default-answer_text-clause-end : goal.returns-in_default-answer_text-clause-end
 returns-in_default-answer_text-clause-end g c =
-    let p = c.args.field.now in
-    let letters = c.args.ideal.now.alphabet in
-    let relations = c.args.ideal.now.relations in
-    let questions = c.args.questions.now in
-    let place = c.loop-place.place in
-    let written = c.loop-place.invariant.written in
     let laws = c.normal_form_laws.ensures in
-    inr (some_gained p letters relations questions _ _ _ _ _ _ written.0 written.2
-    (begun p letters relations questions c.setting_law.ensures laws.one laws.products c.requires.elements place
-    (omega (arith, c.loop-place-test.true)) written.0 c.loop-place.invariant.none written.1))
+    inr (some_written c.args.field.now c.args.ideal.now.alphabet c.args.ideal.now.relations c.args.questions.now _ _ c.setting_law.ensures
+    laws.one laws.products c.requires.elements c.loop-place.place (omega (arith, c.loop-place-test.true)) c.loop-place.invariant.none
+    c.loop-place.invariant.written)
 
 pub returns-in-Err-clause-end : goal.returns-in-Err-clause-end
 returns-in-Err-clause-end g c =
-    let p = c.args.field.now in
-    let letters = c.args.ideal.now.alphabet in
-    let relations = c.args.ideal.now.relations in
-    let questions = c.args.questions.now in
-    let place = c.loop-place.place in
+    let ideal = c.args.ideal.now in
     let written = c.loop-place.invariant.written in
     let laws = c.normal_form_laws.ensures in
-    let weights = letters.weights in
-    let f = c.index-questions-place.result in
-    let own = c.in-Ok-normal_form.certificate in
-    let text = written.0 ++ answer_text letters.names p (place + 1) own in
-    let at : f ≡ slice_index_or questions place [] = c.index-questions-place.is ∙ get_or_default questions place f [] c.loop-place-test.true in
-    let few = subst (λ (ws : List ℕ). length (triples ws relations (lead_degree ws f)) ≤ most_triples) c.requires.weights
-    c.in-Ok-normal_form.ensures.within in
-    let is = subst (λ (ws : List ℕ). IsCertificate (ideal_over p ws relations) (lead_degree ws f) f own) c.requires.weights
-    c.in-Ok-normal_form.ensures.certificate in
-    let none = none_next (HasManyTriples weights relations) questions place f at c.loop-place.invariant.none
-    (few_are_not_many (length (triples weights relations (lead_degree weights f))) few) in
-    let answers = one_more p letters relations questions place written.0 f at c.loop-place-test.true written.1 own is in
-    let printed : c.as_slice.result.now ≡ answer_text letters.names p (place + 1) own = c.as_slice.ensures.value ∙ c.in-Ok-answer_text.ensures in
+    let answered = c.in-Ok-normal_form.ensures in
+    let first = next_answer c.args.field.now ideal.alphabet ideal.relations c.args.questions.now _ c.requires.weights c.loop-place.place written.0 _
+    c.index-questions-place.is c.loop-place-test.true (record { none = c.loop-place.invariant.none; answers = written.1 })
+    c.in-Ok-normal_form.certificate answered.certificate answered.within in
     let failed = c.in-Err.ensures in
-    let part = subst (GainsPart (g.K.Sink.held c.loop-place.out) (g.K.Sink.held c.write_all.new.sink) (g.K.Sink.room c.loop-place.out)) printed
+    let part = subst (GainsPart (state_of g.K.Sink c.loop-place.out) (state_of g.K.Sink c.write_all.new.sink))
+    (c.as_slice.ensures.value ∙ c.in-Ok-answer_text.ensures)
     (record { gained = failed.part.0; appended = failed.part.2; cut_short = failed.part.1; no_room = failed.taken }) in
-    cut_off p letters relations questions _ _ _ _ _ _ written.0 written.2 _ _ _ failed.cause.failed part
-    (begun p letters relations questions c.setting_law.ensures laws.one laws.products c.requires.elements (place + 1)
-    (omega (arith, c.loop-place-test.true)) text none answers)
+    cut_off c.args.field.now ideal.alphabet ideal.relations c.args.questions.now _ _ written.0 written.2 (state_of g.K.Sink c.write_all.new.sink) _
+    failed.cause.failed part
+    (begun c.args.field.now ideal.alphabet ideal.relations c.args.questions.now c.setting_law.ensures laws.one laws.products c.requires.elements
+    (c.loop-place.place + 1) (omega (arith, c.loop-place-test.true)) _ first)
 
 pub loop-place-preserved : goal.loop-place-preserved
 loop-place-preserved g c =
-    let p = c.args.field.now in
-    let letters = c.args.ideal.now.alphabet in
-    let relations = c.args.ideal.now.relations in
-    let questions = c.args.questions.now in
-    let place = c.loop-place.place in
+    let ideal = c.args.ideal.now in
     let written = c.loop-place.invariant.written in
-    let weights = letters.weights in
-    let f = c.index-questions-place.result in
-    let own = c.in-Ok-normal_form.certificate in
-    let text = written.0 ++ answer_text letters.names p (place + 1) own in
-    let at : f ≡ slice_index_or questions place [] = c.index-questions-place.is ∙ get_or_default questions place f [] c.loop-place-test.true in
-    let few = subst (λ (ws : List ℕ). length (triples ws relations (lead_degree ws f)) ≤ most_triples) c.requires.weights
-    c.in-Ok-normal_form.ensures.within in
-    let is = subst (λ (ws : List ℕ). IsCertificate (ideal_over p ws relations) (lead_degree ws f) f own) c.requires.weights
-    c.in-Ok-normal_form.ensures.certificate in
-    let none = none_next (HasManyTriples weights relations) questions place f at c.loop-place.invariant.none
-    (few_are_not_many (length (triples weights relations (lead_degree weights f))) few) in
-    let answers = one_more p letters relations questions place written.0 f at c.loop-place-test.true written.1 own is in
-    let printed : c.as_slice.result.now ≡ answer_text letters.names p (place + 1) own = c.as_slice.ensures.value ∙ c.in-Ok-answer_text.ensures in
+    let answered = c.in-Ok-normal_form.ensures in
+    let first = next_answer c.args.field.now ideal.alphabet ideal.relations c.args.questions.now _ c.requires.weights c.loop-place.place written.0 _
+    c.index-questions-place.is c.loop-place-test.true (record { none = c.loop-place.invariant.none; answers = written.1 })
+    c.in-Ok-normal_form.certificate answered.certificate answered.within in
     let gained = c.in-Ok-write_all.ensures in
-    let all = subst (GainsAll (g.K.Sink.held c.loop-place.out) (g.K.Sink.held c.write_all.new.sink) (g.K.Sink.room c.loop-place.out)
-    (g.K.Sink.room c.write_all.new.sink) (g.K.Sink.faults c.loop-place.out) (g.K.Sink.faults c.write_all.new.sink)) printed
+    let all = subst (GainsAll (state_of g.K.Sink c.loop-place.out) (state_of g.K.Sink c.write_all.new.sink))
+    (c.as_slice.ensures.value ∙ c.in-Ok-answer_text.ensures)
     (record { appended = gained.all; falls = gained.room; kept = gained.cause.kept }) in
-    record { none = none; written = (text, answers, all_behind _ _ _ _ _ _ _ _ _ written.0 _ written.2 all) }
+    record { none = first.none; written = (_, first.answers, all_behind _ _ _ written.0 _ written.2 all) }

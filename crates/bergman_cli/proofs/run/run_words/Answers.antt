@@ -15,13 +15,8 @@ run_job-requires-in-Seq-clause-sound g c κs within = sound_job (map string_byte
 pub run_job-requires-in-Core-clause-sound : goal.run_job-requires-in-Core-clause-sound
 run_job-requires-in-Core-clause-sound g c κs within = sound_job (map string_bytes c.args.words.now) c.in-Ok.job c.in-Ok.ensures c.listed_moduli_law.ensures
 
-pub new-engine-requires-in-Core-clause-some : goal.new-engine-requires-in-Core-clause-some
-new-engine-requires-in-Core-clause-some g c = let range = workers_range (map string_bytes c.args.words.now) c.in-Ok.job c.in-Ok.ensures in
-    search (range.0, rules)
-
-pub new-engine-requires-in-Core-clause-few : goal.new-engine-requires-in-Core-clause-few
-new-engine-requires-in-Core-clause-few g c = let range = workers_range (map string_bytes c.args.words.now) c.in-Ok.job c.in-Ok.ensures in
-    search (range.1, rules)
+pub run_job-requires-in-Race-clause-sound : goal.run_job-requires-in-Race-clause-sound
+run_job-requires-in-Race-clause-sound g c κs within = sound_job (map string_bytes c.args.words.now) c.in-Ok.job c.in-Ok.ensures c.listed_moduli_law.ensures
 
 pub run_job-requires-in-Core-clause-engine : goal.run_job-requires-in-Core-clause-engine
 run_job-requires-in-Core-clause-engine g c κs within =
@@ -31,17 +26,6 @@ run_job-requires-in-Core-clause-engine g c κs within =
     let is : job.engine ≡ Core = search rules in
     let same = ap engine_limits (made.limits ∙ c.standard-in-Core.ensures.value) ∙ ap limits_of (sym is) in
     core_engine c.claim_history_law.ensures c.lower_law.ensures.lower job _ _ _ is same made.workers made.schedule range.0 range.1
-
-pub run_job-requires-in-Race-clause-sound : goal.run_job-requires-in-Race-clause-sound
-run_job-requires-in-Race-clause-sound g c κs within = sound_job (map string_bytes c.args.words.now) c.in-Ok.job c.in-Ok.ensures c.listed_moduli_law.ensures
-
-pub new-engine-requires-in-Race-clause-some : goal.new-engine-requires-in-Race-clause-some
-new-engine-requires-in-Race-clause-some g c = let range = workers_range (map string_bytes c.args.words.now) c.in-Ok.job c.in-Ok.ensures in
-    search (range.0, rules)
-
-pub new-engine-requires-in-Race-clause-few : goal.new-engine-requires-in-Race-clause-few
-new-engine-requires-in-Race-clause-few g c = let range = workers_range (map string_bytes c.args.words.now) c.in-Ok.job c.in-Ok.ensures in
-    search (range.1, rules)
 
 pub run_job-requires-in-Race-clause-engine : goal.run_job-requires-in-Race-clause-engine
 run_job-requires-in-Race-clause-engine g c κs within =

@@ -1,9 +1,9 @@
-use Rattle.std.proofs.Common.{◌≢◌, [], refl, rules, subst}
+use Rattle.std.proofs.Common.{◌≢◌, rules, subst}
 use Rattle.command_words.specs.declared.job.Command.TheVariants.{Gb, Normal}
+use Rattle.job_steps.specs.States.{state_of, teller_state}
 use Rattle.job_steps.specs.Status.{PrintsNothing}
 use Rattle.job_steps.proofs.Statuses.{answered_status}
-use Rattle.job_steps.proofs.Traced.{tells_none}
-use Rattle.bergman_cli.proofs.RunTraces.{no_trace}
+use Rattle.bergman_cli.proofs.RunTraces.{untold}
 use Rattle.bergman_cli.proofs.Works.{answer_ends, due_own, outcome_due, quiet}
 use Rattle.bergman_cli.proofs.run.work.Goals as goal
 
@@ -21,40 +21,33 @@ returns-in-Ok-clause-end g c =
     let degrees : job.command ≢ Gb = search rules in
     let questions : job.command ≢ Normal = search rules in
     let answer = c.in-Ok.answer in
-    answer_ends job c.args.given.now.alphabet c.args.given.now.relations _ _ _ _ _ job.command degrees questions answer.status answer.text
+    answer_ends job c.args.given.now.alphabet c.args.given.now.relations (state_of g.K.Sink c.args.out.now)
+    (state_of g.K.Sink c.write_answer.new.out) job.command degrees questions answer.status answer.text
     c.in-Ok.ensures c.write_answer.result c.write_answer.ensures.end
 
 pub returns-in-Ok-clause-nothing : goal.returns-in-Ok-clause-nothing
 returns-in-Ok-clause-nothing g c = λ none.
     let job = c.args.job.now in
     let answer = c.in-Ok.answer in
-    let same = answered_status answer.status answer.text _ _ _ _ _ c.write_answer.result c.write_answer.ensures.end none in
+    let same = answered_status answer.status answer.text (state_of g.K.Sink c.args.out.now) (state_of g.K.Sink c.write_answer.new.out)
+    c.write_answer.result c.write_answer.ensures.end none in
     c.write_answer.ensures.nothing (quiet job c.args.given.now.alphabet c.args.given.now.relations job.command answer.status answer.text
     c.in-Ok.ensures (subst PrintsNothing same none))
 
 pub returns-then-eq-2-clause-told : goal.returns-then-eq-2-clause-told
 returns-then-eq-2-clause-told g c =
-    let job = c.args.job.now in
-    let other : job.command ≢ Gb = search rules in (
-      [],
-      no_trace job c.args.given.now.alphabet c.args.given.now.relations _ _ _ [] job.command c.run_normal.result other refl,
-      tells_none (g.T.Sink.held c.args.err.now) (g.T.Sink.faults c.args.err.now) c.args.failed.now,
-    )
+    let other : c.args.job.now.command ≢ Gb = search rules in
+    untold c.args.job.now c.args.given.now.alphabet c.args.given.now.relations (state_of g.K.Sink c.args.out.now)
+    (state_of g.K.Sink c.run_normal.new.out) c.run_normal.result other (teller_state g.T.Sink c.args.teller.now)
 
 pub returns-in-Ok-clause-told : goal.returns-in-Ok-clause-told
 returns-in-Ok-clause-told g c =
-    let job = c.args.job.now in
-    let other : job.command ≢ Gb = search rules in (
-      [],
-      no_trace job c.args.given.now.alphabet c.args.given.now.relations _ _ _ [] job.command c.write_answer.result other refl,
-      tells_none (g.T.Sink.held c.args.err.now) (g.T.Sink.faults c.args.err.now) c.args.failed.now,
-    )
+    let other : c.args.job.now.command ≢ Gb = search rules in
+    untold c.args.job.now c.args.given.now.alphabet c.args.given.now.relations (state_of g.K.Sink c.args.out.now)
+    (state_of g.K.Sink c.write_answer.new.out) c.write_answer.result other (teller_state g.T.Sink c.args.teller.now)
 
 pub returns-in-Err-clause-told : goal.returns-in-Err-clause-told
 returns-in-Err-clause-told g c =
-    let job = c.args.job.now in
-    let other : job.command ≢ Gb = search rules in (
-      [],
-      no_trace job c.args.given.now.alphabet c.args.given.now.relations _ _ _ [] job.command _ other refl,
-      tells_none (g.T.Sink.held c.args.err.now) (g.T.Sink.faults c.args.err.now) c.args.failed.now,
-    )
+    let other : c.args.job.now.command ≢ Gb = search rules in
+    untold c.args.job.now c.args.given.now.alphabet c.args.given.now.relations (state_of g.K.Sink c.args.out.now)
+    (state_of g.K.Sink c.args.out.now) _ other (teller_state g.T.Sink c.args.teller.now)

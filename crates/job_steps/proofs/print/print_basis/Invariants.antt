@@ -5,6 +5,7 @@ use Rattle.ideal_laws.specs.Engine.{Elements}
 use Rattle.bg_io.specs.Ends.{CountsGained}
 use Rattle.job_steps.specs.Gains.{GainsAll}
 use Rattle.job_steps.specs.Printing.{task_of}
+use Rattle.job_steps.specs.States.{state_of, teller_state}
 use Rattle.job_steps.specs.Traces.{OfTrace, Tells}
 use Rattle.job_steps.proofs.Printed.{Stands}
 use Rattle.job_steps.proofs.print.print_basis.Given as goal
@@ -13,11 +14,11 @@ abbrev pub invariant-loop-degree : goal.invariant-loop-degree
 invariant-loop-degree g l =
     (text : List ℕ)
     × Stands (task_of l.field l.given (g.E.DegreeEngine.kinds l.fn.engine) l.asked) l._degree l.basis text
-    × GainsAll (g.K.Sink.held l.fn.out) (g.K.Sink.held l.out) (g.K.Sink.room l.fn.out) (g.K.Sink.room l.out) (g.K.Sink.faults l.fn.out)
-    (g.K.Sink.faults l.out) text
+    × GainsAll (state_of g.K.Sink l.fn.out) (state_of g.K.Sink l.out) text
     × (g.E.DegreeEngine.kinds l.engine ≡ g.E.DegreeEngine.kinds l.fn.engine)
     × ((p : ℕ) (rs : Presentation) (b : Elements) (e : ℕ) (a : Account) → g.E.DegreeEngine.may_account l.engine p rs b e a →
     g.E.DegreeEngine.may_account l.fn.engine p rs b e a)
     × OfTrace (g.E.DegreeEngine.may_account l.fn.engine) (task_of l.field l.given (g.E.DegreeEngine.kinds l.fn.engine) l.asked) l.asked.trace l._degree
-    (Tells (g.T.Sink.held l.fn.err) (g.T.Sink.held l.err) (g.T.Sink.faults l.fn.err) (g.T.Sink.faults l.err) l.fn.failed l.failed)
+    (Tells (teller_state g.T.Sink l.fn.teller) (teller_state g.T.Sink l.teller))
     × CountsGained (g.K.Sink.held l.fn.out) (g.K.Sink.held l.out) (g.K.Sink.calls l.fn.out) (g.K.Sink.calls l.out) 0
+    × (l.teller.err.ghost_name ≡ l.fn.teller.err.ghost_name)

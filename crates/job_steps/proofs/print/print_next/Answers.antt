@@ -3,6 +3,8 @@ use Rattle.std.proofs.KnownBytes.{Appends-nil}
 use Rattle.ideal_laws.specs.Ideal.{ideal_of}
 use Rattle.ideal_laws.specs.Kept.{IsBelow}
 use Rattle.ideal_laws.specs.Quantities.{IsFirstPassing, IsQuantity}
+use Rattle.job_steps.specs.Printing.{task_of}
+use Rattle.job_steps.specs.States.{state_of, teller_state}
 use Rattle.job_steps.specs.Traces.{Tells, trace_of}
 use Rattle.job_steps.proofs.Gaining.{all_none}
 use Rattle.job_steps.proofs.Traced.{tells_none}
@@ -18,16 +20,16 @@ returns-in-Err-Limit-clause-undone g c =
       c.in-Err-Limit.degree-is ∙ u.0,
       limit_moved (IsFirstPassing Q limits) _ _ _ _ c.in-Err-Limit.kind-is c.in-Err-Limit.value-is u.1,
       Appends-nil (g.K.Sink.held c.args.out.now),
-      tells_none (g.T.Sink.held c.args.err.now) (g.T.Sink.faults c.args.err.now) c.args.failed.now,
+      tells_none (teller_state g.T.Sink c.args.teller.now),
     )
 
 pub returns-then-not-asked-clause-printed : goal.returns-then-not-asked-clause-printed
 returns-then-not-asked-clause-printed g c =
     let next = c.in-Ok.ensures in
-    hidden_next c.args.field.now c.args.given.now.alphabet c.args.given.now.relations (g.E.DegreeEngine.kinds c.args.engine.now)
+    hidden_next (task_of c.args.field.now c.args.given.now (g.E.DegreeEngine.kinds c.args.engine.now) c.args.asked)
     c.args.basis.now c.advance.new.basis c.requires.next.same_weights next.weights next.done next.reduced next.within
-    c.args.asked.basis _ _ _ _ _ _ (is_hidden c.args.asked.basis c.if-not-asked.true)
-    (all_none (g.K.Sink.held c.args.out.now) (g.K.Sink.room c.args.out.now) (g.K.Sink.faults c.args.out.now))
+    (state_of g.K.Sink c.args.out.now) (state_of g.K.Sink c.args.out.now) (is_hidden c.args.asked.basis c.if-not-asked.true)
+    (all_none (state_of g.K.Sink c.args.out.now))
 
 pub tell_degree-requires : goal.tell_degree-requires
 tell_degree-requires g c =
@@ -43,25 +45,25 @@ tell_degree-requires g c =
 pub write_degree-requires-clause-residues : goal.write_degree-requires-clause-residues
 write_degree-requires-clause-residues g c =
     let next = c.in-Ok.ensures in
-    residues_of c.args.field.now c.args.given.now.alphabet c.args.given.now.relations (g.E.DegreeEngine.kinds c.args.engine.now)
+    residues_of (task_of c.args.field.now c.args.given.now (g.E.DegreeEngine.kinds c.args.engine.now) c.args.asked)
     c.args.basis.now c.advance.new.basis c.requires.next.same_weights next.weights next.done next.reduced next.within
     c.setting_law.ensures next.kept.1
 
 pub returns-in-Ok-write_degree-clause-printed : goal.returns-in-Ok-write_degree-clause-printed
 returns-in-Ok-write_degree-clause-printed g c =
     let next = c.in-Ok.ensures in
-    shown_next c.args.field.now c.args.given.now.alphabet c.args.given.now.relations (g.E.DegreeEngine.kinds c.args.engine.now)
+    shown_next (task_of c.args.field.now c.args.given.now (g.E.DegreeEngine.kinds c.args.engine.now) c.args.asked)
     c.args.basis.now c.advance.new.basis c.requires.next.same_weights next.weights next.done next.reduced next.within
-    c.args.asked.basis _ _ _ _ _ _ (is_shown c.args.asked.basis c.if-not-asked.false) c.in-Ok-write_degree.ensures.written
+    _ _ (is_shown c.args.asked.basis c.if-not-asked.false) c.in-Ok-write_degree.ensures.written
 
 pub returns-clause-undone : goal.returns-clause-undone
 returns-clause-undone g c =
     let next = c.in-Ok.ensures in
-    let Told = Tells (g.T.Sink.held c.args.err.now) (g.T.Sink.held c.tell_degree.new.err) (g.T.Sink.faults c.args.err.now)
-    (g.T.Sink.faults c.tell_degree.new.err) c.args.failed.now c.tell_degree.new.failed in
+    let Told = Tells (teller_state g.T.Sink c.args.teller.now) (teller_state g.T.Sink c.tell_degree.new.teller) in
     let told = subst (λ (d : ℕ). Told (trace_of c.args.asked.trace c.args.given.now.alphabet.names d c.in-Ok.account))
     (c.done-d.ensures.value ∙ next.done) c.in_ok-tell_degree-in-Ok.ensures.told in
-    undone_shown c.args.field.now c.args.given.now.alphabet c.args.given.now.relations (g.E.DegreeEngine.kinds c.args.engine.now)
+    undone_shown (task_of c.args.field.now c.args.given.now (g.E.DegreeEngine.kinds c.args.engine.now) c.args.asked)
     c.args.basis.now c.advance.new.basis c.requires.next.same_weights next.weights next.done next.reduced next.within
-    c.args.asked.basis _ _ _ _ _ _ _ c.in-Err.fault (is_shown c.args.asked.basis c.if-not-asked.false) (c.in-Ok.account, next.account, told)
+    (state_of g.K.Sink c.args.out.now) (state_of g.K.Sink c.write_degree.new.out) _ _ c.in-Err.fault (is_shown c.args.asked.basis c.if-not-asked.false)
+    (c.in-Ok.account, next.account, told)
     c.in-Err.ensures.unwritten

@@ -5,6 +5,7 @@ use Rattle.ideal_laws.specs.Limits.{standard_limits}
 use Rattle.hilbert.specs.Series.{AreCounts, IsFirstLarge}
 use Rattle.poly_writer.specs.Texts.{series_text}
 use Rattle.job_steps.specs.Printing.{IsCutSeries, IsWholeSeries}
+use Rattle.job_steps.specs.States.{state_of}
 use Rattle.job_steps.proofs.Counted.{cut_from_large, undone_from_unwritten, whole_from_counts}
 use Rattle.job_steps.proofs.print.print_series.Goals as goal
 
@@ -42,8 +43,8 @@ returns-in-Ok-clause-undone g c =
     c.requires.weights c.done.ensures.kept c.requires.reduced standard_limits.normal_words c.done.result
     c.in-Ok.numbers.items c.done.ensures.value counts in
     undone_from_unwritten c.count_law.ensures c.args.field.now letters c.args.given.now.relations basis c.setting_law.ensures
-    c.requires.weights c.done.ensures.kept c.requires.reduced standard_limits.normal_words _ _ _ _ _
-    (series_text c.as_slice.result.now) c.in-Err.fault
+    c.requires.weights c.done.ensures.kept c.requires.reduced standard_limits.normal_words
+    (state_of g.K.Sink c.args.out.now) (state_of g.K.Sink c.write_series.new.out) (series_text c.as_slice.result.now) c.in-Err.fault
     (inl (subst (λ (numbers : List ℕ). IsWholeSeries c.args.field.now letters c.args.given.now.relations standard_limits.normal_words
     basis.done (series_text numbers)) (sym c.as_slice.ensures.value) series)) c.in-Err.ensures.unwritten
 
@@ -79,7 +80,8 @@ returns-in-Err-Limit-clause-undone g c =
     c.requires.weights c.done.ensures.kept c.requires.reduced standard_limits.normal_words (lit< tt) c.done.result at.degree at.value
     at.below c.done.ensures.value large in
     undone_from_unwritten c.count_law.ensures c.args.field.now letters c.args.given.now.relations basis c.setting_law.ensures
-    c.requires.weights c.done.ensures.kept c.requires.reduced standard_limits.normal_words _ _ _ _ _
+    c.requires.weights c.done.ensures.kept c.requires.reduced standard_limits.normal_words
+    (state_of g.K.Sink c.args.out.now) (state_of g.K.Sink c.write_series-in-Err-Limit.new.out)
     (series_text c.as_slice-in-Err-Limit.result.now) c.in-Err-write_series.fault
     (inr (
       at.degree,
