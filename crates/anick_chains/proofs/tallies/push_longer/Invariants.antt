@@ -5,8 +5,8 @@ use Rattle.anick_chains.proofs.tallies.push_longer.Given as goal
 
 abbrev pub invariant-loop-tally : goal.invariant-loop-tally
 invariant-loop-tally l = record {
-  longer : l.block.items ≡ l.fn.block.items ++ flat_map (longer_tallies l.basis.weights l.basis.elements l.degree) (take l.tally-index l.below);
+  longer : l.block.items ≡ l.fn.block.items ++ flat_map (longer_tallies l.tips.basis.now.weights l.tips.basis.now.elements l.degree) (take l.tally-index l.below);
   some : All (λ t. 0 < t.count) l.block.items;
-  total : l.total ≡ l.fn.total + sum_by (λ t. tally_total (longer_tallies l.basis.weights l.basis.elements l.degree t)) (take l.tally-index l.below);
+  total : l.total ≡ l.fn.total + sum_by (λ t. tally_total (longer_tallies l.tips.basis.now.weights l.tips.basis.now.elements l.degree t)) (take l.tally-index l.below);
   within : l.total ≤ l.most;
 }
