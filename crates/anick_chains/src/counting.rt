@@ -6,8 +6,8 @@ ghost use Rattle.ideal_laws.specs.Engine.{IsReducedUpto};
 ghost use Rattle.ideal_laws.specs.Ideal.{IsMinimal, ideal_over};
 ghost use Rattle.ideal_laws.specs.Laws.{IsSetting};
 ghost use Rattle.anick_chains.specs.BasisTips.{AreTips, leads_of};
-ghost use Rattle.anick_chains.specs.Listing.{IsFirstMany, IsNumber};
-ghost use Rattle.anick_chains.specs.Tallies.{AreCounts, AreTallied, IsTallyBelow, TellsSame};
+ghost use Rattle.anick_chains.specs.Listing.{IsFirstMany, IsNumberOf};
+ghost use Rattle.anick_chains.specs.Tallies.{AreCounts, AreTalliedOf, IsTallyBelow, TellsSame};
 ghost use Rattle.anick_chains.specs.Tallies.{count_of, count_total, counts_at, number_of, tallies_at, tally_total};
 
 use crate::chain::ChainFault;
@@ -89,20 +89,19 @@ fn count_degree(
     requires tips { AreTips tips.now.basis.now tips.now.index.now tips.now.weights.now }
     requires some { 1 ≤ degree }
     requires room { degree ≤ 64 }
-    requires below { AreTallied (Contains (leads_of tips.now.basis.now.elements)) (length tips.now.basis.now.weights) tips.now.basis.now.weights
-        (degree - 1) total.old tallies.old.items counts.old.items }
+    requires below { AreTalliedOf tips.now.basis.now (degree - 1) total.old tallies.old.items counts.old.items }
     requires few { total.old ≤ most }
 
     ensures tallied { OnOk result
-        (AreTallied (Contains (leads_of tips.now.basis.now.elements)) (length tips.now.basis.now.weights) tips.now.basis.now.weights degree
-        total.new tallies.new.items counts.new.items) }
+        (AreTalliedOf tips.now.basis.now degree total.new tallies.new.items counts.new.items) }
     ensures within { OnOk result (total.new ≤ most) }
 
     ensures many { (d : ℕ) → IsErrOf result (ChainFault.TooMany d) → (d ≡ degree) × (n : ℕ)
-        × IsNumber (Contains (leads_of tips.now.basis.now.elements)) (length tips.now.basis.now.weights) tips.now.basis.now.weights degree n
-        × (most < n) }
+        × IsNumberOf tips.now.basis.now degree n × (most < n) }
 {
-    let mut block = tallies_of(alloc, tips, degree, most, total, tallies.as_slice())?;
+    let mut room = most - *total;
+    let mut block = tallies_of(alloc, tips, degree, &mut room, tallies.as_slice())?;
+    *total = most - room;
     push_counts(block.as_slice(), degree, counts)?;
     tallies.append(&mut block)?;
     Ok(())
@@ -113,27 +112,25 @@ fn tallies_of(
     alloc: Global,
     tips: &TipIndex,
     degree: u32,
-    most: u32,
-    total: &mut u32,
+    room: &mut u32,
     below: &[Tally],
 ) -> Result<Vec<Tally>, ChainFault>
     requires tips { AreTips tips.now.basis.now tips.now.index.now tips.now.weights.now }
     requires room { degree ≤ 64 }
+    requires small { room.old < 2 ^ 32 }
     requires below { All (IsTallyBelow tips.now.basis.now.weights degree) below.now }
-    requires few { total.old ≤ most }
 
-    ensures same { IfOk result (λ block.
-        TellsSame block.items (tallies_at tips.now.basis.now.weights tips.now.basis.now.elements degree below.now)) }
+    ensures same { let b = tips.now.basis.now in IfOk result (λ block.
+        TellsSame block.items (tallies_at b.weights b.elements degree below.now)) }
     ensures some { IfOk result (λ block. All (λ t. 0 < t.count) block.items) }
-    ensures total { OnOk result (total.new ≡ total.old
-        + tally_total (tallies_at tips.now.basis.now.weights tips.now.basis.now.elements degree below.now)) }
-    ensures within { OnOk result (total.new ≤ most) }
-    ensures many { (d : ℕ) → IsErrOf result (ChainFault.TooMany d) → (d ≡ degree) × (most < total.old
-        + tally_total (tallies_at tips.now.basis.now.weights tips.now.basis.now.elements degree below.now)) }
+    ensures total { let b = tips.now.basis.now in OnOk result (room.old ≡ room.new
+        + tally_total (tallies_at b.weights b.elements degree below.now)) }
+    ensures many { let b = tips.now.basis.now in (d : ℕ) → IsErrOf result (ChainFault.TooMany d) → (d ≡ degree)
+        × (room.old < tally_total (tallies_at b.weights b.elements degree below.now)) }
 {
     let mut block = Vec::new(alloc);
-    push_letters(alloc, tips, degree, most, total, &mut block)?;
-    push_longer(alloc, tips, below, degree, most, total, &mut block)?;
+    push_letters(alloc, tips, degree, room, &mut block)?;
+    push_longer(alloc, tips, below, degree, room, &mut block)?;
     Ok(merged(alloc, block)?)
 }
 

@@ -8,8 +8,8 @@ ghost use Rattle.ideal_laws.specs.Ideal.{IsMinimal, ideal_over};
 ghost use Rattle.ideal_laws.specs.Laws.{IsSetting};
 ghost use Rattle.anick_chains.specs.BasisTips.{AreTips, leads_of};
 ghost use Rattle.anick_chains.specs.Compare.{pieces_cmp};
-ghost use Rattle.anick_chains.specs.Listed.{AreListed};
-ghost use Rattle.anick_chains.specs.Listing.{IsFirstMany, IsNumber};
+ghost use Rattle.anick_chains.specs.Listed.{AreListed, AreListedOf};
+ghost use Rattle.anick_chains.specs.Listing.{IsFirstMany, IsNumberOf};
 
 use crate::chain::{Chain, ChainFault};
 use crate::longer::{free_letters, push_continued, push_onward};
@@ -88,18 +88,14 @@ fn push_degree(
     requires tips { AreTips tips.now.basis.now tips.now.index.now tips.now.weights.now }
     requires some { 1 ≤ degree }
     requires room { degree ≤ 64 }
-    requires below { AreListed (Contains (leads_of tips.now.basis.now.elements)) (length tips.now.basis.now.weights) tips.now.basis.now.weights
-        (degree - 1) found.old.items }
+    requires below { AreListedOf tips.now.basis.now (degree - 1) found.old.items }
     requires few { length found.old.items ≤ most }
 
-    ensures listed { OnOk result
-        (AreListed (Contains (leads_of tips.now.basis.now.elements)) (length tips.now.basis.now.weights) tips.now.basis.now.weights degree
-        found.new.items) }
+    ensures listed { OnOk result (AreListedOf tips.now.basis.now degree found.new.items) }
     ensures within { OnOk result (length found.new.items ≤ most) }
 
     ensures many { (d : ℕ) → IsErrOf result (ChainFault.TooMany d) → (d ≡ degree) × (n : ℕ)
-        × IsNumber (Contains (leads_of tips.now.basis.now.elements)) (length tips.now.basis.now.weights) tips.now.basis.now.weights degree n
-        × (most < n) }
+        × IsNumberOf tips.now.basis.now degree n × (most < n) }
 {
     let room = most as usize - found.len();
     let mut block = Vec::new(alloc);

@@ -3,7 +3,7 @@ ghost use Rattle.std.specs.List.{flat_map};
 ghost use Rattle.anick_chains.specs.BasisTips.{AreTips, leads_of};
 ghost use Rattle.words.specs.Words.{IsOver};
 ghost use Rattle.anick_chains.specs.Chains.{chain_degree};
-ghost use Rattle.anick_chains.specs.Listed.{AreListed, pieces_of, with_degree};
+ghost use Rattle.anick_chains.specs.Listed.{AreListedOf, pieces_of, with_degree};
 ghost use Rattle.anick_chains.specs.Walk.{continued, free_letter, free_letters, last_piece, next_of, onward};
 
 use crate::chain::{Chain, ChainFault};
@@ -20,7 +20,8 @@ pub(crate) fn free_letters(
     degree: u32,
 ) -> Result<Vec<Word>, NoMemory>
     requires tips { AreTips tips.now.basis.now tips.now.index.now tips.now.weights.now }
-    ensures { IfOk result (λ found. found.items ≡ free_letters tips.now.basis.now.weights tips.now.basis.now.elements degree) }
+    ensures { let b = tips.now.basis.now in IfOk result
+        (λ found. found.items ≡ free_letters b.weights b.elements degree) }
 {
     let mut found = Vec::new(alloc);
     for letter in 0..tips.basis.letters() {
@@ -39,8 +40,8 @@ fn push_letter(
 ) -> Result<(), NoMemory>
     requires tips { AreTips tips.now.basis.now tips.now.index.now tips.now.weights.now }
     requires letter { letter < length tips.now.basis.now.weights }
-    ensures { OnOk result (found.new.items ≡ found.old.items
-        ++ free_letter tips.now.basis.now.weights tips.now.basis.now.elements degree letter) }
+    ensures { let b = tips.now.basis.now in OnOk result (found.new.items ≡ found.old.items
+        ++ free_letter b.weights b.elements degree letter) }
 {
     if u32::from(tips.basis.weight(letter)) != degree {
         return Ok(());
@@ -63,15 +64,15 @@ pub(crate) fn push_onward(
     requires tips { AreTips tips.now.basis.now tips.now.index.now tips.now.weights.now }
     requires some { 1 ≤ degree }
     requires room { degree ≤ 64 }
-    requires below { AreListed (Contains (leads_of tips.now.basis.now.elements)) (length tips.now.basis.now.weights) tips.now.basis.now.weights
-        (degree - 1) found.now }
+    requires below { AreListedOf tips.now.basis.now (degree - 1) found.now }
     requires few { length block.old.items ≤ room }
 
-    ensures onward { OnOk result (block.new.items ≡ block.old.items
-        ++ with_degree degree (flat_map (onward tips.now.basis.now.weights tips.now.basis.now.elements degree) (pieces_of found.now))) }
+    ensures onward { let b = tips.now.basis.now in OnOk result (block.new.items ≡ block.old.items
+        ++ with_degree degree (flat_map (onward b.weights b.elements degree) (pieces_of found.now))) }
     ensures within { OnOk result (length block.new.items ≤ room) }
-    ensures many { (d : ℕ) → IsErrOf result (ChainFault.TooMany d) → (d ≡ degree) × (room < length block.old.items
-        + length (flat_map (onward tips.now.basis.now.weights tips.now.basis.now.elements degree) (pieces_of found.now))) }
+    ensures many { let b = tips.now.basis.now in (d : ℕ) → IsErrOf result (ChainFault.TooMany d) → (d ≡ degree)
+        × (room < length block.old.items
+        + length (flat_map (onward b.weights b.elements degree) (pieces_of found.now))) }
 {
     for chain in found {
         push_longer(alloc, tips, chain, degree, room, block)?;
@@ -95,11 +96,11 @@ fn push_longer(
     requires letters { IsOver (length tips.now.basis.now.weights) (last_piece chain.now.pieces) }
     requires few { length block.old.items ≤ room }
 
-    ensures longer { OnOk result (block.new.items ≡ block.old.items ++ with_degree degree
-        (continued chain.now.pieces (next_of tips.now.basis.now.weights tips.now.basis.now.elements degree chain.now.pieces))) }
+    ensures longer { let b = tips.now.basis.now in OnOk result (block.new.items ≡ block.old.items ++ with_degree degree
+        (continued chain.now.pieces (next_of b.weights b.elements degree chain.now.pieces))) }
     ensures within { OnOk result (length block.new.items ≤ room) }
-    ensures many { (d : ℕ) → IsErrOf result (ChainFault.TooMany d) → (d ≡ degree) × (room < length block.old.items
-        + length (next_of tips.now.basis.now.weights tips.now.basis.now.elements degree chain.now.pieces)) }
+    ensures many { let b = tips.now.basis.now in (d : ℕ) → IsErrOf result (ChainFault.TooMany d) → (d ≡ degree)
+        × (room < length block.old.items + length (next_of b.weights b.elements degree chain.now.pieces)) }
 {
     let pieces = chain.pieces.as_slice();
     let last = last_piece(pieces);

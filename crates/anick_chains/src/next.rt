@@ -19,7 +19,8 @@ pub(crate) fn next_pieces(
     requires letters { IsOver (length tips.now.basis.now.weights) piece.now }
     requires fits { degree_of tips.now.basis.now.weights piece.now ≤ d }
     requires room { d ≤ 64 }
-    ensures { IfOk result (λ found. found.items ≡ next_pieces tips.now.basis.now.weights tips.now.basis.now.elements piece.now d) }
+    ensures { let b = tips.now.basis.now in IfOk result
+        (λ found. found.items ≡ next_pieces b.weights b.elements piece.now d) }
 {
     let mut found = Vec::new(alloc);
     let mut degree = 0;
@@ -42,8 +43,8 @@ fn push_ends(
     requires tips { AreTips tips.now.basis.now tips.now.index.now tips.now.weights.now }
     requires split { before < length piece.now }
     requires room { before + d ≤ 64 }
-    ensures { OnOk result (found.new.items ≡ found.old.items
-        ++ ends_of tips.now.basis.now.weights tips.now.basis.now.elements piece.now before d) }
+    ensures { let b = tips.now.basis.now in OnOk result (found.new.items ≡ found.old.items
+        ++ ends_of b.weights b.elements piece.now before d) }
 {
     let shared = &piece[before..];
     let (first, end) = tips.basis.of_degree(d);
@@ -67,8 +68,8 @@ fn push_end(
 ) -> Result<(), NoMemory>
     requires tips { AreTips tips.now.basis.now tips.now.index.now tips.now.weights.now }
     requires small { length piece.now + (length next.now - 1) ≤ 64 }
-    ensures { OnOk result (found.new.items ≡ found.old.items
-        ++ unless_stands (leads_of tips.now.basis.now.elements) piece.now next.now) }
+    ensures { let b = tips.now.basis.now in OnOk result (found.new.items ≡ found.old.items
+        ++ unless_stands (leads_of b.elements) piece.now next.now) }
 {
     let both = Word::joined(alloc, piece, &next[..next.len().saturating_sub(1)])?;
     match tips.index.first_reducer(both.letters()) {

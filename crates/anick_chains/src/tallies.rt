@@ -18,25 +18,20 @@ pub(crate) fn push_letters(
     alloc: Global,
     tips: &TipIndex,
     degree: u32,
-    most: u32,
-    total: &mut u32,
+    room: &mut u32,
     block: &mut Vec<Tally>,
 ) -> Result<(), ChainFault>
     requires tips { AreTips tips.now.basis.now tips.now.index.now tips.now.weights.now }
-    requires few { total.old ≤ most }
-    requires some { All (λ t. 0 < t.count) block.old.items }
 
-    ensures letters { OnOk result (block.new.items ≡ block.old.items
-        ++ tallies_with degree 1 1 (free_letters tips.now.basis.now.weights tips.now.basis.now.elements degree)) }
-    ensures some { OnOk result (All (λ t. 0 < t.count) block.new.items) }
-    ensures total { OnOk result (total.new ≡ total.old
-        + tally_total (tallies_with degree 1 1 (free_letters tips.now.basis.now.weights tips.now.basis.now.elements degree))) }
-    ensures within { OnOk result (total.new ≤ most) }
-    ensures many { (d : ℕ) → IsErrOf result (ChainFault.TooMany d) → (d ≡ degree) × (most < total.old
-        + tally_total (tallies_with degree 1 1 (free_letters tips.now.basis.now.weights tips.now.basis.now.elements degree))) }
+    ensures letters { let b = tips.now.basis.now in OnOk result (block.new.items ≡ block.old.items
+        ++ tallies_with degree 1 1 (free_letters b.weights b.elements degree)) }
+    ensures total { let b = tips.now.basis.now in OnOk result (room.old ≡ room.new
+        + tally_total (tallies_with degree 1 1 (free_letters b.weights b.elements degree))) }
+    ensures many { let b = tips.now.basis.now in (d : ℕ) → IsErrOf result (ChainFault.TooMany d) → (d ≡ degree)
+        × (room.old < tally_total (tallies_with degree 1 1 (free_letters b.weights b.elements degree))) }
 {
     let letters = free_letters(alloc, tips, degree)?;
-    push_each(alloc, letters.as_slice(), degree, 1, 1, most, total, block)
+    push_each(alloc, letters.as_slice(), degree, 1, 1, room, block)
 }
 
 /// Appends the chains of a degree that have one piece more than those of the tallies.
@@ -45,27 +40,22 @@ pub(crate) fn push_longer(
     tips: &TipIndex,
     below: &[Tally],
     degree: u32,
-    most: u32,
-    total: &mut u32,
+    room: &mut u32,
     block: &mut Vec<Tally>,
 ) -> Result<(), ChainFault>
     requires tips { AreTips tips.now.basis.now tips.now.index.now tips.now.weights.now }
     requires room { degree ≤ 64 }
     requires below { All (IsTallyBelow tips.now.basis.now.weights degree) below.now }
-    requires few { total.old ≤ most }
-    requires some { All (λ t. 0 < t.count) block.old.items }
 
-    ensures longer { OnOk result (block.new.items ≡ block.old.items
-        ++ flat_map (longer_tallies tips.now.basis.now.weights tips.now.basis.now.elements degree) below.now) }
-    ensures some { OnOk result (All (λ t. 0 < t.count) block.new.items) }
-    ensures total { OnOk result (total.new ≡ total.old
-        + tally_total (flat_map (longer_tallies tips.now.basis.now.weights tips.now.basis.now.elements degree) below.now)) }
-    ensures within { OnOk result (total.new ≤ most) }
-    ensures many { (d : ℕ) → IsErrOf result (ChainFault.TooMany d) → (d ≡ degree) × (most < total.old
-        + tally_total (flat_map (longer_tallies tips.now.basis.now.weights tips.now.basis.now.elements degree) below.now)) }
+    ensures longer { let b = tips.now.basis.now in OnOk result (block.new.items ≡ block.old.items
+        ++ flat_map (longer_tallies b.weights b.elements degree) below.now) }
+    ensures total { let b = tips.now.basis.now in OnOk result (room.old ≡ room.new
+        + tally_total (flat_map (longer_tallies b.weights b.elements degree) below.now)) }
+    ensures many { let b = tips.now.basis.now in (d : ℕ) → IsErrOf result (ChainFault.TooMany d) → (d ≡ degree)
+        × (room.old < tally_total (flat_map (longer_tallies b.weights b.elements degree) below.now)) }
 {
     for tally in below {
-        push_next(alloc, tips, tally, degree, most, total, block)?;
+        push_next(alloc, tips, tally, degree, room, block)?;
     }
     Ok(())
 }
@@ -76,24 +66,19 @@ fn push_next(
     tips: &TipIndex,
     tally: &Tally,
     degree: u32,
-    most: u32,
-    total: &mut u32,
+    room: &mut u32,
     block: &mut Vec<Tally>,
 ) -> Result<(), ChainFault>
     requires tips { AreTips tips.now.basis.now tips.now.index.now tips.now.weights.now }
     requires room { degree ≤ 64 }
     requires below { IsTallyBelow tips.now.basis.now.weights degree tally.now }
-    requires few { total.old ≤ most }
-    requires some { All (λ t. 0 < t.count) block.old.items }
 
-    ensures longer { OnOk result (block.new.items ≡ block.old.items
-        ++ longer_tallies tips.now.basis.now.weights tips.now.basis.now.elements degree tally.now) }
-    ensures some { OnOk result (All (λ t. 0 < t.count) block.new.items) }
-    ensures total { OnOk result (total.new ≡ total.old
-        + tally_total (longer_tallies tips.now.basis.now.weights tips.now.basis.now.elements degree tally.now)) }
-    ensures within { OnOk result (total.new ≤ most) }
-    ensures many { (d : ℕ) → IsErrOf result (ChainFault.TooMany d) → (d ≡ degree) × (most < total.old
-        + tally_total (longer_tallies tips.now.basis.now.weights tips.now.basis.now.elements degree tally.now)) }
+    ensures longer { let b = tips.now.basis.now in OnOk result (block.new.items ≡ block.old.items
+        ++ longer_tallies b.weights b.elements degree tally.now) }
+    ensures total { let b = tips.now.basis.now in OnOk result (room.old ≡ room.new
+        + tally_total (longer_tallies b.weights b.elements degree tally.now)) }
+    ensures many { let b = tips.now.basis.now in (d : ℕ) → IsErrOf result (ChainFault.TooMany d) → (d ≡ degree)
+        × (room.old < tally_total (longer_tallies b.weights b.elements degree tally.now)) }
 {
     let last = tally.last.letters();
     let both = word_degree(tips.weights, last) as u32 + (degree - tally.degree);
@@ -104,8 +89,7 @@ fn push_next(
         degree,
         tally.size + 1,
         tally.count,
-        most,
-        total,
+        room,
         block,
     )
 }
@@ -117,26 +101,19 @@ fn push_each(
     degree: u32,
     size: u32,
     count: u32,
-    most: u32,
-    total: &mut u32,
+    room: &mut u32,
     block: &mut Vec<Tally>,
 ) -> Result<(), ChainFault>
-    requires few { total.old ≤ most }
-    requires some { All (λ t. 0 < t.count) block.old.items }
-    requires more { 0 < count }
-
     ensures pushed { OnOk result (block.new.items ≡ block.old.items ++ tallies_with degree size count pieces.now) }
-    ensures some { OnOk result (All (λ t. 0 < t.count) block.new.items) }
-    ensures total { OnOk result (total.new ≡ total.old + tally_total (tallies_with degree size count pieces.now)) }
-    ensures within { OnOk result (total.new ≤ most) }
+    ensures total { OnOk result (room.old ≡ room.new + tally_total (tallies_with degree size count pieces.now)) }
     ensures many { (d : ℕ) → IsErrOf result (ChainFault.TooMany d) → (d ≡ degree)
-        × (most < total.old + tally_total (tallies_with degree size count pieces.now)) }
+        × (room.old < tally_total (tallies_with degree size count pieces.now)) }
 {
     for piece in pieces {
-        if count > most - *total {
+        if count > *room {
             return Err(ChainFault::TooMany { degree });
         }
-        *total += count;
+        *room -= count;
         push_tally(alloc, degree, size, piece, count, block)?;
     }
     Ok(())

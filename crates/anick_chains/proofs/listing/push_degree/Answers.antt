@@ -2,13 +2,12 @@ use Rattle.std.proofs.Common.{◌≡◌, ◌+◌, ◌-◌, ◌++◌, ◌∷◌, 
 use Rattle.std.proofs.lemmas.List.{length-map, map-append}
 use Rattle.std.proofs.lemmas.List.Sorted.{length_permutation}
 use Rattle.std.proofs.lemmas.Result.{err_from_is_err_and}
-use Rattle.std.specs.List.{Contains, flat_map}
+use Rattle.std.specs.List.{flat_map}
 use Rattle.std.specs.List.Sorted.{IsSorted}
 use Rattle.overlaps.proofs.Sums.{one_fault}
 use Rattle.anick_chains.specs.declared.chain.Chain.{Chain}
-use Rattle.anick_chains.specs.BasisTips.{leads_of}
 use Rattle.anick_chains.specs.Compare.{pieces_cmp}
-use Rattle.anick_chains.specs.Listed.{AreListed, pieces_of, with_degree}
+use Rattle.anick_chains.specs.Listed.{AreListedOf, pieces_of, with_degree}
 use Rattle.anick_chains.specs.Walk.{chains_at, continued, free_letters, onward}
 use Rattle.anick_chains.proofs.Steps.{all_length, listed_more, number_more}
 use Rattle.anick_chains.proofs.listing.push_degree.Goals as goal
@@ -79,10 +78,11 @@ returns-clause-listed c =
     ∙ sym (map-append {B = Chain} (λ (x : List (List ℕ)). record { degree = d; pieces = x })
     (continued [] (free_letters b.weights b.elements d)) (flat_map (onward b.weights b.elements d) below)) in
     let whole : c.append.new.self.items ≡ c.args.found.now.items ++ c.sort.new.block.items = search rules in
-    subst (AreListed (Contains (leads_of b.elements)) (length b.weights) b.weights d) (sym whole)
+    subst (AreListedOf b d) (sym whole)
     (listed_more b c.requires.tips.kept c.requires.tips.factor_free (c.args.degree - 1) c.args.found.now.items c.requires.below d next
     c.push_onward.new.block.items c.sort.new.block.items block c.sort.ensures.same
-    (subst (λ (ws : List ℕ). IsSorted (λ (x y : Chain). pieces_cmp ws x.pieces y.pieces) c.sort.new.block.items) c.requires.tips.weighted c.sort.ensures.sorted))
+    (subst (λ (ws : List ℕ). IsSorted (λ (x y : Chain). pieces_cmp ws x.pieces y.pieces) c.sort.new.block.items) c.requires.tips.weighted
+    c.sort.ensures.sorted))
 
 pub returns-clause-within : goal.returns-clause-within
 returns-clause-within c =

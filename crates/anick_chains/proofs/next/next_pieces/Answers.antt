@@ -6,7 +6,8 @@ use Rattle.anick_chains.proofs.Members.{joined, joined-one}
 use Rattle.anick_chains.proofs.next.next_pieces.Goals as goal
 
 pub overflow_sub-d : goal.overflow_sub-d
-overflow_sub-d c = omega (arith, c.loop-before.invariant.degree, degree_of-take c.args.tips.now.basis.now.weights c.args.piece.now c.loop-before.before, c.requires.fits)
+overflow_sub-d c =
+    omega (arith, c.loop-before.invariant.degree, degree_of-take c.args.tips.now.basis.now.weights c.args.piece.now c.loop-before.before, c.requires.fits)
 
 pub push_ends-requires-clause-room : goal.push_ends-requires-clause-room
 push_ends-requires-clause-room c =
