@@ -1,6 +1,5 @@
 -- Of a reduced basis the chains over the leading words are those over the minimal words.
 use Rattle.std.proofs.Common.{◌+◌, ◌≤◌, ℕ, List, length, refl, arith}
-use Rattle.std.specs.List.{Contains}
 use Rattle.free_poly.specs.declared.term.Term.{Term}
 use Rattle.ideal_laws.specs.Engine.{Elements, IsReducedUpto}
 use Rattle.ideal_laws.specs.Ideal.{IsMinimal, ideal_over}
@@ -9,8 +8,7 @@ use Rattle.ideal_laws.specs.Laws.{IsSetting}
 use Rattle.ideal_laws.specs.Overlaps.{AreLower}
 use Rattle.ideal_laws.proofs.Lower.{lists_lower}
 use Rattle.anick_chains.specs.declared.chain.Chain.{Chain}
-use Rattle.anick_chains.specs.BasisTips.{leads_of}
-use Rattle.anick_chains.specs.Listed.{AreListed}
+use Rattle.anick_chains.specs.Listed.{AreListed, AreListedOf}
 use Rattle.anick_chains.proofs.BasisChains.{has_minimal_chains}
 
 module _ (b : Elements) (kept : IsKept b) (p : ℕ) (relations : List (List Term)) (st : IsSetting (ideal_over p b.weights relations))
@@ -19,7 +17,7 @@ module _ (b : Elements) (kept : IsKept b) (p : ℕ) (relations : List (List Term
   lower = lists_lower (ideal_over p b.weights relations) st (b.done + 1) b (record { kept = kept; next = refl; same_weights = refl; reduced = upto })
 
   -- up to the last degree that is done
-  pub listed_minimal : (bound : ℕ) → bound ≤ b.done → (found : List Chain) → AreListed (Contains (leads_of b.elements)) (length b.weights) b.weights bound found
+  pub listed_minimal : (bound : ℕ) → bound ≤ b.done → (found : List Chain) → AreListedOf b bound found
       → AreListed (IsMinimal (ideal_over p b.weights relations)) (length b.weights) b.weights bound found
   listed_minimal bound le found h = record {
     degrees = h.degrees;

@@ -13,7 +13,7 @@ use Rattle.ideal_laws.specs.Kept.{IsKept}
 use Rattle.anick_chains.specs.declared.chain.Chain.{Chain}
 use Rattle.anick_chains.specs.BasisTips.{leads_of}
 use Rattle.anick_chains.specs.Chains.{AreNext, IsChain}
-use Rattle.anick_chains.specs.Listed.{AreListed, pieces_of, with_degree}
+use Rattle.anick_chains.specs.Listed.{AreListed, AreListedOf, pieces_of, with_degree}
 use Rattle.anick_chains.specs.Walk.{last_piece, next_of, onward}
 use Rattle.anick_chains.proofs.BasisTips.{listed_tips}
 use Rattle.anick_chains.proofs.Extensions.{are_tips}
@@ -22,7 +22,7 @@ use Rattle.anick_chains.proofs.Mates.{last_of_chain, last_over}
 use Rattle.anick_chains.proofs.Members.{flat_map-most, flat_map-take}
 
 module _ (b : Elements) (kept : IsKept b) (free : IsFactorFree b.elements) (e : ℕ) (found : List Chain)
-    (h : AreListed (Contains (leads_of b.elements)) (length b.weights) b.weights e found) where
+    (h : AreListedOf b e found) where
   -- the last piece of a listed chain is over the letters
   pub listed_letters : (i : ℕ) (x : Chain) → i < length found → x ≡ get_or found i x → IsOver (length b.weights) (last_piece x.pieces)
   listed_letters i x lt is =

@@ -5,11 +5,11 @@ use Rattle.std.specs.List.{Contains, flat_map, sum_by}
 use Rattle.std.specs.List.Sorted.{IsPermutation}
 use Rattle.std.proofs.lemmas.Bool.{eqb-true}
 use Rattle.std.proofs.lemmas.Slice.Eq.{bytes_eq-Decides}
-use Rattle.std.proofs.lemmas.List.Elements.{All-contains}
+use Rattle.std.proofs.lemmas.List.Elements.{All-append, All-contains, All-map}
 use Rattle.std.proofs.lemmas.List.Sorted.{sum_by-IsPermutation}
 use Rattle.std.proofs.lemmas.List.Sums.{sum_by-append}
 use Rattle.words.specs.Words.{AreWeights, IsOver, degree_of}
-use Rattle.words.proofs.Members.{All-from_members, Contains-map}
+use Rattle.words.proofs.Members.{All-from_members, Contains-flat_map_cases, Contains-map}
 use Rattle.words.proofs.Weights.{degree_of-positive}
 use Rattle.free_poly.specs.declared.term.Term.{Term}
 use Rattle.ideal_laws.specs.Closure.{IsFactorFree}
@@ -19,7 +19,7 @@ use Rattle.anick_chains.specs.declared.chain.Chain.{Chain}
 use Rattle.anick_chains.specs.declared.tally.Tally.{Tally}
 use Rattle.anick_chains.specs.BasisTips.{leads_of}
 use Rattle.anick_chains.specs.Chains.{AreNext, IsChain, chain_degree}
-use Rattle.anick_chains.specs.Listed.{AreListed, pieces_of, with_degree}
+use Rattle.anick_chains.specs.Listed.{AreListedOf, pieces_of, with_degree}
 use Rattle.anick_chains.specs.Tallies.{IsTallyBelow, Tells, TellsSame, chain_weight, longer_tallies, tallies_at, tallies_with, tally_total, tally_weight}
 use Rattle.anick_chains.specs.Walk.{chains_at, continued, free_letters, last_piece, next_of, next_pieces, onward}
 use Rattle.anick_chains.proofs.BasisTips.{listed_tips}
@@ -110,6 +110,22 @@ pub tells_both : (a b : List Tally) (xs ys : List Chain) → Tells a xs → Tell
 tells_both a b xs ys left right f =
     omega (arith, left f, right f, sum_by-append (tally_weight f) a b, sum_by-append (chain_weight f) xs ys)
 
+-- none of them is of no chain
+pub tallies_some : (weights : List ℕ) (G : List (List Term)) (d : ℕ) (below : List Tally) → All (IsTallyBelow weights d) below →
+    All (λ t. 0 < t.count) (tallies_at weights G d below)
+tallies_some weights G d below h =
+    let some = λ (t : Tally). 0 < t.count in
+    let made = λ (size count : ℕ) (more : 0 < count) (pieces : List (List ℕ)).
+    All-map some (λ (r : List ℕ). record { degree = d; size = size; last = r; count = count }) pieces (λ k x lt. more) in
+    All-append some (tallies_with d 1 1 (free_letters weights G d)) (flat_map (longer_tallies weights G d) below)
+    (made 1 1 (omega arith) (free_letters weights G d))
+    (All-from_members some (flat_map (longer_tallies weights G d) below) (λ t m.
+    let r = Contains-flat_map_cases (longer_tallies weights G d) below t m in
+    All-contains some (longer_tallies weights G d r.0) t
+    (made (r.0.size + 1) r.0.count (All-contains (IsTallyBelow weights d) below r.0 h r.1).some
+    (next_pieces weights G r.0.last (degree_of weights r.0.last + (d - r.0.degree))))
+    r.2))
+
 -- they have all chains
 pub tally_total-is : (tallies : List Tally) → tally_total tallies ≡ sum_by (tally_weight (λ _ _ _. 1)) tallies
 tally_total-is tallies = sum_by-same (λ (t : Tally). t.count) (tally_weight (λ _ _ _. 1)) tallies (λ t m. omega arith)
@@ -161,7 +177,7 @@ chain_length weights aw T names (q ∷ qs) h = (omega arith, omega (arith, first
     rest p (r ∷ rs) k = omega (arith, rest r rs k.1, degree_of-positive weights aw r k.0.some)
 
 module _ (b : Elements) (kept : IsKept b) (free : IsFactorFree b.elements) (e : ℕ) (found : List Chain)
-    (h : AreListed (Contains (leads_of b.elements)) (length b.weights) b.weights e found) where
+    (h : AreListedOf b e found) where
   abbrev T : List ℕ → Type 0
   T = Contains (leads_of b.elements)
 

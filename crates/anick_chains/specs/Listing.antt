@@ -1,6 +1,8 @@
 -- The list of chains up to a degree, and their number.
 use Rattle.std.specs.Prelude.{ℕ, ◌≡◌, ◌≢◌, ◌<◌, ◌≤◌, ◌⊎◌, ◌↔◌, List, ◌∷◌, ◌++◌, AllPairs, Contains, length}
 use Rattle.words.specs.Order.{IsGreater}
+use Rattle.ideal_laws.specs.Engine.{Elements}
+use Rattle.anick_chains.specs.BasisTips.{leads_of}
 use Rattle.anick_chains.specs.Chains.{IsChain, chain_degree}
 
 -- two lists of pieces have the same first pieces, and then one piece of the first is greater
@@ -35,6 +37,10 @@ pub record IsNumber (T : List ℕ → Type 0) (names : ℕ) (weights : List ℕ)
   pub exactly : (c : List (List ℕ)) → Contains chains c ↔ (IsChain T names c × (chain_degree weights c ≤ bound))
   pub apart : AllPairs (λ a b. a ≢ b) chains
   pub count : number ≡ length chains
+
+-- that over the leading words of a basis
+abbrev pub IsNumberOf : Elements → ℕ → ℕ → Type 0
+IsNumberOf b = IsNumber (Contains (leads_of b.elements)) (length b.weights) b.weights
 
 -- the first degree up to which there are more than so many
 pub record IsFirstMany (T : List ℕ → Type 0) (names : ℕ) (weights : List ℕ) (bound most d : ℕ) : Type 0 where

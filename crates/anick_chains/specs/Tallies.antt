@@ -1,13 +1,14 @@
 -- How many chains have a degree, a length and a last piece, and how many a degree and a length.
 use Rattle.std.specs.Prelude.{ℕ, zero, suc, ◌≡◌, ◌+◌, ◌-◌, ◌*◌, ◌<◌, ◌≤◌, ◌==◌, ◌⊎◌, cond, List, [], ◌∷◌, ◌++◌, All}
-use Rattle.std.specs.Prelude.{AllPairs}
-use Rattle.std.specs.Prelude.{length, map}
+use Rattle.std.specs.Prelude.{AllPairs, Contains, length, map}
 use Rattle.std.specs.List.{flat_map, range_with_len, sum_by}
 use Rattle.words.specs.Words.{IsOver, degree_of}
 use Rattle.free_poly.specs.declared.term.Term.{Term}
+use Rattle.ideal_laws.specs.Engine.{Elements}
 use Rattle.anick_chains.specs.declared.chain.Chain.{Chain}
 use Rattle.anick_chains.specs.declared.tally.ChainCount.{ChainCount}
 use Rattle.anick_chains.specs.declared.tally.Tally.{Tally}
+use Rattle.anick_chains.specs.BasisTips.{leads_of}
 use Rattle.anick_chains.specs.Listed.{AreListed}
 use Rattle.anick_chains.specs.Texts.{blocks_of, count_line}
 use Rattle.anick_chains.specs.Walk.{free_letters, last_piece, next_pieces}
@@ -107,6 +108,10 @@ pub record AreTallied (T : List ℕ → Type 0) (names : ℕ) (weights : List �
   pub tells : Tells tallies chains
   pub some : All (λ t. 0 < t.count) tallies
   pub counted : IsCounted e counts chains
+
+-- those over the leading words of a basis
+abbrev pub AreTalliedOf : Elements → ℕ → ℕ → List Tally → List ChainCount → Type 0
+AreTalliedOf b = AreTallied (Contains (leads_of b.elements)) (length b.weights) b.weights
 
 -- a line for each degree and length that has a chain
 abbrev pub count_text : List ChainCount → List ℕ

@@ -5,10 +5,9 @@ ghost use Rattle.ideal_laws.specs.Closure.{IsFactorFree};
 ghost use Rattle.ideal_laws.specs.Engine.{IsReducedUpto};
 ghost use Rattle.ideal_laws.specs.Ideal.{IsMinimal, ideal_over};
 ghost use Rattle.ideal_laws.specs.Laws.{IsSetting};
-ghost use Rattle.lead_index.specs.Leads.{IsIndexOf};
-ghost use Rattle.anick_chains.specs.BasisTips.{leads_of};
-ghost use Rattle.anick_chains.specs.Listing.{IsFirstMany, IsNumber};
-ghost use Rattle.anick_chains.specs.Tallies.{AreCounts, AreTallied, IsTallyBelow, TellsSame};
+ghost use Rattle.anick_chains.specs.BasisTips.{AreTips, leads_of};
+ghost use Rattle.anick_chains.specs.Listing.{IsFirstMany, IsNumberOf};
+ghost use Rattle.anick_chains.specs.Tallies.{AreCounts, AreTalliedOf, IsTallyBelow, TellsSame};
 ghost use Rattle.anick_chains.specs.Tallies.{count_of, count_total, counts_at, number_of, tallies_at, tally_total};
 
 use crate::chain::ChainFault;
@@ -16,8 +15,9 @@ use crate::listing::weights_of;
 use crate::merging::merged;
 use crate::tallies::{push_letters, push_longer};
 use crate::tally::{ChainCount, Tally};
+use crate::tip_index::TipIndex;
 use ideal_laws::Basis;
-use lead_index::{LeadIndex, index_of};
+use lead_index::index_of;
 use std::alloc::Global;
 use words::{Alphabet, Items, NoMemory};
 
@@ -54,15 +54,18 @@ pub fn chain_counts(
     let _done = basis.done();
     let index = index_of(alloc, basis)?;
     let weights = weights_of(alloc, basis)?;
+    let tips = TipIndex {
+        basis,
+        index: &index,
+        weights: weights.as_slice(),
+    };
     let mut total = 0;
     let mut tallies = Vec::new(alloc);
     let mut counts = Vec::new(alloc);
     for degree in 1..bound + 1 {
         count_degree(
             alloc,
-            basis,
-            &index,
-            weights.as_slice(),
+            &tips,
             degree,
             most,
             &mut total,
@@ -76,44 +79,29 @@ pub fn chain_counts(
 /// Appends what is told of the chains of a degree to what is told of those of the lower degrees.
 fn count_degree(
     alloc: Global,
-    basis: &Basis,
-    index: &LeadIndex,
-    weights: &[u8],
+    tips: &TipIndex,
     degree: u32,
     most: u32,
     total: &mut u32,
     tallies: &mut Vec<Tally>,
     counts: &mut Vec<ChainCount>,
 ) -> Result<(), ChainFault>
-    requires index { IsIndexOf basis.now.elements index.now }
-    requires weights { weights.now ≡ basis.now.weights }
-    requires factor_free { IsFactorFree basis.now.elements }
+    requires tips { AreTips tips.now.basis.now tips.now.index.now tips.now.weights.now }
     requires some { 1 ≤ degree }
     requires room { degree ≤ 64 }
-    requires below { AreTallied (Contains (leads_of basis.now.elements)) (length basis.now.weights) basis.now.weights
-        (degree - 1) total.old tallies.old.items counts.old.items }
+    requires below { AreTalliedOf tips.now.basis.now (degree - 1) total.old tallies.old.items counts.old.items }
     requires few { total.old ≤ most }
 
     ensures tallied { OnOk result
-        (AreTallied (Contains (leads_of basis.now.elements)) (length basis.now.weights) basis.now.weights degree
-        total.new tallies.new.items counts.new.items) }
+        (AreTalliedOf tips.now.basis.now degree total.new tallies.new.items counts.new.items) }
     ensures within { OnOk result (total.new ≤ most) }
 
     ensures many { (d : ℕ) → IsErrOf result (ChainFault.TooMany d) → (d ≡ degree) × (n : ℕ)
-        × IsNumber (Contains (leads_of basis.now.elements)) (length basis.now.weights) basis.now.weights degree n
-        × (most < n) }
+        × IsNumberOf tips.now.basis.now degree n × (most < n) }
 {
-    let _done = basis.done();
-    let mut block = tallies_of(
-        alloc,
-        basis,
-        index,
-        weights,
-        degree,
-        most,
-        total,
-        tallies.as_slice(),
-    )?;
+    let mut room = most - *total;
+    let mut block = tallies_of(alloc, tips, degree, &mut room, tallies.as_slice())?;
+    *total = most - room;
     push_counts(block.as_slice(), degree, counts)?;
     tallies.append(&mut block)?;
     Ok(())
@@ -122,35 +110,27 @@ fn count_degree(
 /// The tallies of the chains of a degree, from those of the lower degrees.
 fn tallies_of(
     alloc: Global,
-    basis: &Basis,
-    index: &LeadIndex,
-    weights: &[u8],
+    tips: &TipIndex,
     degree: u32,
-    most: u32,
-    total: &mut u32,
+    room: &mut u32,
     below: &[Tally],
 ) -> Result<Vec<Tally>, ChainFault>
-    requires index { IsIndexOf basis.now.elements index.now }
-    requires weights { weights.now ≡ basis.now.weights }
+    requires tips { AreTips tips.now.basis.now tips.now.index.now tips.now.weights.now }
     requires room { degree ≤ 64 }
-    requires below { All (IsTallyBelow basis.now.weights degree) below.now }
-    requires few { total.old ≤ most }
+    requires small { room.old < 2 ^ 32 }
+    requires below { All (IsTallyBelow tips.now.basis.now.weights degree) below.now }
 
-    ensures same { IfOk result (λ block.
-        TellsSame block.items (tallies_at basis.now.weights basis.now.elements degree below.now)) }
+    ensures same { let b = tips.now.basis.now in IfOk result (λ block.
+        TellsSame block.items (tallies_at b.weights b.elements degree below.now)) }
     ensures some { IfOk result (λ block. All (λ t. 0 < t.count) block.items) }
-    ensures total { OnOk result (total.new ≡ total.old
-        + tally_total (tallies_at basis.now.weights basis.now.elements degree below.now)) }
-    ensures within { OnOk result (total.new ≤ most) }
-    ensures many { (d : ℕ) → IsErrOf result (ChainFault.TooMany d) → (d ≡ degree) × (most < total.old
-        + tally_total (tallies_at basis.now.weights basis.now.elements degree below.now)) }
+    ensures total { let b = tips.now.basis.now in OnOk result (room.old ≡ room.new
+        + tally_total (tallies_at b.weights b.elements degree below.now)) }
+    ensures many { let b = tips.now.basis.now in (d : ℕ) → IsErrOf result (ChainFault.TooMany d) → (d ≡ degree)
+        × (room.old < tally_total (tallies_at b.weights b.elements degree below.now)) }
 {
-    let _done = basis.done();
     let mut block = Vec::new(alloc);
-    push_letters(alloc, basis, index, degree, most, total, &mut block)?;
-    push_longer(
-        alloc, basis, index, weights, below, degree, most, total, &mut block,
-    )?;
+    push_letters(alloc, tips, degree, room, &mut block)?;
+    push_longer(alloc, tips, below, degree, room, &mut block)?;
     Ok(merged(alloc, block)?)
 }
 

@@ -12,6 +12,7 @@ mod order;
 mod tallies;
 mod tally;
 mod text;
+mod tip_index;
 
 ghost use Rattle.anick_chains.specs.BasisTips.{HasMinimalChains};
 ghost use Rattle.anick_chains.specs.Laws.{HasExtensions, HasListedMates, HasMates, IsPairing};

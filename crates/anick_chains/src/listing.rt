@@ -6,17 +6,17 @@ ghost use Rattle.ideal_laws.specs.Closure.{IsFactorFree};
 ghost use Rattle.ideal_laws.specs.Engine.{IsReducedUpto};
 ghost use Rattle.ideal_laws.specs.Ideal.{IsMinimal, ideal_over};
 ghost use Rattle.ideal_laws.specs.Laws.{IsSetting};
-ghost use Rattle.lead_index.specs.Leads.{IsIndexOf};
-ghost use Rattle.anick_chains.specs.BasisTips.{leads_of};
+ghost use Rattle.anick_chains.specs.BasisTips.{AreTips, leads_of};
 ghost use Rattle.anick_chains.specs.Compare.{pieces_cmp};
-ghost use Rattle.anick_chains.specs.Listed.{AreListed};
-ghost use Rattle.anick_chains.specs.Listing.{IsFirstMany, IsNumber};
+ghost use Rattle.anick_chains.specs.Listed.{AreListed, AreListedOf};
+ghost use Rattle.anick_chains.specs.Listing.{IsFirstMany, IsNumberOf};
 
 use crate::chain::{Chain, ChainFault};
 use crate::longer::{free_letters, push_continued, push_onward};
 use crate::order::compare;
+use crate::tip_index::TipIndex;
 use ideal_laws::Basis;
-use lead_index::{LeadIndex, index_of};
+use lead_index::index_of;
 use std::alloc::Global;
 use words::{Alphabet, Items, NoMemory};
 
@@ -54,17 +54,14 @@ pub fn chains(
     let _done = basis.done();
     let index = index_of(alloc, basis)?;
     let weights = weights_of(alloc, basis)?;
+    let tips = TipIndex {
+        basis,
+        index: &index,
+        weights: weights.as_slice(),
+    };
     let mut found = Vec::new(alloc);
     for degree in 1..bound + 1 {
-        push_degree(
-            alloc,
-            basis,
-            &index,
-            weights.as_slice(),
-            degree,
-            most,
-            &mut found,
-        )?;
+        push_degree(alloc, &tips, degree, most, &mut found)?;
     }
     Ok(Items::from_vec(found))
 }
@@ -83,47 +80,29 @@ pub(crate) fn weights_of(alloc: Global, basis: &Basis) -> Result<Vec<u8>, NoMemo
 /// Appends the chains of a degree to those of the lower degrees.
 fn push_degree(
     alloc: Global,
-    basis: &Basis,
-    index: &LeadIndex,
-    weights: &[u8],
+    tips: &TipIndex,
     degree: u32,
     most: u32,
     found: &mut Vec<Chain>,
 ) -> Result<(), ChainFault>
-    requires index { IsIndexOf basis.now.elements index.now }
-    requires weights { weights.now ≡ basis.now.weights }
-    requires factor_free { IsFactorFree basis.now.elements }
+    requires tips { AreTips tips.now.basis.now tips.now.index.now tips.now.weights.now }
     requires some { 1 ≤ degree }
     requires room { degree ≤ 64 }
-    requires below { AreListed (Contains (leads_of basis.now.elements)) (length basis.now.weights) basis.now.weights
-        (degree - 1) found.old.items }
+    requires below { AreListedOf tips.now.basis.now (degree - 1) found.old.items }
     requires few { length found.old.items ≤ most }
 
-    ensures listed { OnOk result
-        (AreListed (Contains (leads_of basis.now.elements)) (length basis.now.weights) basis.now.weights degree
-        found.new.items) }
+    ensures listed { OnOk result (AreListedOf tips.now.basis.now degree found.new.items) }
     ensures within { OnOk result (length found.new.items ≤ most) }
 
     ensures many { (d : ℕ) → IsErrOf result (ChainFault.TooMany d) → (d ≡ degree) × (n : ℕ)
-        × IsNumber (Contains (leads_of basis.now.elements)) (length basis.now.weights) basis.now.weights degree n
-        × (most < n) }
+        × IsNumberOf tips.now.basis.now degree n × (most < n) }
 {
-    let _done = basis.done();
     let room = most as usize - found.len();
     let mut block = Vec::new(alloc);
-    let letters = free_letters(alloc, basis, index, degree)?;
+    let letters = free_letters(alloc, tips, degree)?;
     push_continued(alloc, &[], letters, degree, room, &mut block)?;
-    push_onward(
-        alloc,
-        basis,
-        index,
-        weights,
-        found.as_slice(),
-        degree,
-        room,
-        &mut block,
-    )?;
-    sort(weights, &mut block);
+    push_onward(alloc, tips, found.as_slice(), degree, room, &mut block)?;
+    sort(tips.weights, &mut block);
     found.append(&mut block)?;
     Ok(())
 }

@@ -1,34 +1,31 @@
 ghost use Rattle.std.specs.Prelude.{◌≡◌, ◌+◌, ◌-◌, ◌++◌, ◌∷◌, ◌<◌, ◌≤◌, [], ℕ, Contains, IfOk, IsErrOf, OnOk, length};
 ghost use Rattle.std.specs.List.{flat_map};
-ghost use Rattle.ideal_laws.specs.Closure.{IsFactorFree};
-ghost use Rattle.anick_chains.specs.BasisTips.{leads_of};
+ghost use Rattle.anick_chains.specs.BasisTips.{AreTips, leads_of};
 ghost use Rattle.words.specs.Words.{IsOver};
-ghost use Rattle.lead_index.specs.Leads.{IsIndexOf};
 ghost use Rattle.anick_chains.specs.Chains.{chain_degree};
-ghost use Rattle.anick_chains.specs.Listed.{AreListed, pieces_of, with_degree};
+ghost use Rattle.anick_chains.specs.Listed.{AreListedOf, pieces_of, with_degree};
 ghost use Rattle.anick_chains.specs.Walk.{continued, free_letter, free_letters, last_piece, next_of, onward};
 
 use crate::chain::{Chain, ChainFault};
 use crate::next::{next_pieces, push_word};
 use crate::order::word_degree;
-use ideal_laws::Basis;
-use lead_index::LeadIndex;
+use crate::tip_index::TipIndex;
 use std::alloc::Global;
 use words::{Items, NoMemory, Word};
 
 /// The letters of a degree that are no tips, as words.
 pub(crate) fn free_letters(
     alloc: Global,
-    basis: &Basis,
-    index: &LeadIndex,
+    tips: &TipIndex,
     degree: u32,
 ) -> Result<Vec<Word>, NoMemory>
-    requires index { IsIndexOf basis.now.elements index.now }
-    ensures { IfOk result (λ found. found.items ≡ free_letters basis.now.weights basis.now.elements degree) }
+    requires tips { AreTips tips.now.basis.now tips.now.index.now tips.now.weights.now }
+    ensures { let b = tips.now.basis.now in IfOk result
+        (λ found. found.items ≡ free_letters b.weights b.elements degree) }
 {
     let mut found = Vec::new(alloc);
-    for letter in 0..basis.letters() {
-        push_letter(alloc, basis, index, degree, letter as u8, &mut found)?;
+    for letter in 0..tips.basis.letters() {
+        push_letter(alloc, tips, degree, letter as u8, &mut found)?;
     }
     Ok(found)
 }
@@ -36,22 +33,20 @@ pub(crate) fn free_letters(
 /// Appends a letter as a word, if it has the degree and is no tip.
 fn push_letter(
     alloc: Global,
-    basis: &Basis,
-    index: &LeadIndex,
+    tips: &TipIndex,
     degree: u32,
     letter: u8,
     found: &mut Vec<Word>,
 ) -> Result<(), NoMemory>
-    requires index { IsIndexOf basis.now.elements index.now }
-    requires letter { letter < length basis.now.weights }
-    ensures { OnOk result (found.new.items ≡ found.old.items
-        ++ free_letter basis.now.weights basis.now.elements degree letter) }
+    requires tips { AreTips tips.now.basis.now tips.now.index.now tips.now.weights.now }
+    requires letter { letter < length tips.now.basis.now.weights }
+    ensures { let b = tips.now.basis.now in OnOk result (found.new.items ≡ found.old.items
+        ++ free_letter b.weights b.elements degree letter) }
 {
-    let _done = basis.done();
-    if u32::from(basis.weight(letter)) != degree {
+    if u32::from(tips.basis.weight(letter)) != degree {
         return Ok(());
     }
-    match index.first_reducer(&[letter]) {
+    match tips.index.first_reducer(&[letter]) {
         Some(_) => Ok(()),
         None => push_word(alloc, &[letter], found),
     }
@@ -60,32 +55,27 @@ fn push_letter(
 /// Appends the chains of a degree that have one piece more than a chain of a lower degree.
 pub(crate) fn push_onward(
     alloc: Global,
-    basis: &Basis,
-    index: &LeadIndex,
-    weights: &[u8],
+    tips: &TipIndex,
     found: &[Chain],
     degree: u32,
     room: usize,
     block: &mut Vec<Chain>,
 ) -> Result<(), ChainFault>
-    requires index { IsIndexOf basis.now.elements index.now }
-    requires weights { weights.now ≡ basis.now.weights }
-    requires factor_free { IsFactorFree basis.now.elements }
+    requires tips { AreTips tips.now.basis.now tips.now.index.now tips.now.weights.now }
     requires some { 1 ≤ degree }
     requires room { degree ≤ 64 }
-    requires below { AreListed (Contains (leads_of basis.now.elements)) (length basis.now.weights) basis.now.weights
-        (degree - 1) found.now }
+    requires below { AreListedOf tips.now.basis.now (degree - 1) found.now }
     requires few { length block.old.items ≤ room }
 
-    ensures onward { OnOk result (block.new.items ≡ block.old.items
-        ++ with_degree degree (flat_map (onward basis.now.weights basis.now.elements degree) (pieces_of found.now))) }
+    ensures onward { let b = tips.now.basis.now in OnOk result (block.new.items ≡ block.old.items
+        ++ with_degree degree (flat_map (onward b.weights b.elements degree) (pieces_of found.now))) }
     ensures within { OnOk result (length block.new.items ≤ room) }
-    ensures many { (d : ℕ) → IsErrOf result (ChainFault.TooMany d) → (d ≡ degree) × (room < length block.old.items
-        + length (flat_map (onward basis.now.weights basis.now.elements degree) (pieces_of found.now))) }
+    ensures many { let b = tips.now.basis.now in (d : ℕ) → IsErrOf result (ChainFault.TooMany d) → (d ≡ degree)
+        × (room < length block.old.items
+        + length (flat_map (onward b.weights b.elements degree) (pieces_of found.now))) }
 {
-    let _done = basis.done();
     for chain in found {
-        push_longer(alloc, basis, index, weights, chain, degree, room, block)?;
+        push_longer(alloc, tips, chain, degree, room, block)?;
     }
     Ok(())
 }
@@ -93,32 +83,29 @@ pub(crate) fn push_onward(
 /// Appends the chains of a degree that have one piece more than this one.
 fn push_longer(
     alloc: Global,
-    basis: &Basis,
-    index: &LeadIndex,
-    weights: &[u8],
+    tips: &TipIndex,
     chain: &Chain,
     degree: u32,
     room: usize,
     block: &mut Vec<Chain>,
 ) -> Result<(), ChainFault>
-    requires index { IsIndexOf basis.now.elements index.now }
-    requires weights { weights.now ≡ basis.now.weights }
+    requires tips { AreTips tips.now.basis.now tips.now.index.now tips.now.weights.now }
     requires room { degree ≤ 64 }
     requires below { chain.now.degree < degree }
-    requires degree { chain.now.degree ≡ chain_degree basis.now.weights chain.now.pieces }
-    requires letters { IsOver (length basis.now.weights) (last_piece chain.now.pieces) }
+    requires degree { chain.now.degree ≡ chain_degree tips.now.basis.now.weights chain.now.pieces }
+    requires letters { IsOver (length tips.now.basis.now.weights) (last_piece chain.now.pieces) }
     requires few { length block.old.items ≤ room }
 
-    ensures longer { OnOk result (block.new.items ≡ block.old.items ++ with_degree degree
-        (continued chain.now.pieces (next_of basis.now.weights basis.now.elements degree chain.now.pieces))) }
+    ensures longer { let b = tips.now.basis.now in OnOk result (block.new.items ≡ block.old.items ++ with_degree degree
+        (continued chain.now.pieces (next_of b.weights b.elements degree chain.now.pieces))) }
     ensures within { OnOk result (length block.new.items ≤ room) }
-    ensures many { (d : ℕ) → IsErrOf result (ChainFault.TooMany d) → (d ≡ degree) × (room < length block.old.items
-        + length (next_of basis.now.weights basis.now.elements degree chain.now.pieces)) }
+    ensures many { let b = tips.now.basis.now in (d : ℕ) → IsErrOf result (ChainFault.TooMany d) → (d ≡ degree)
+        × (room < length block.old.items + length (next_of b.weights b.elements degree chain.now.pieces)) }
 {
     let pieces = chain.pieces.as_slice();
     let last = last_piece(pieces);
-    let both = word_degree(weights, last) as u32 + (degree - chain.degree);
-    let next = next_pieces(alloc, basis, index, last, both)?;
+    let both = word_degree(tips.weights, last) as u32 + (degree - chain.degree);
+    let next = next_pieces(alloc, tips, last, both)?;
     push_continued(alloc, pieces, next, degree, room, block)
 }
 

@@ -1,11 +1,9 @@
 ghost use Rattle.std.specs.Prelude.{◌≡◌, ◌+◌, ◌-◌, ◌++◌, ◌∷◌, ◌<◌, ◌≤◌, [], IfOk, OnOk, length};
 ghost use Rattle.words.specs.Words.{IsOver, degree_of};
-ghost use Rattle.lead_index.specs.Leads.{IsIndexOf};
-ghost use Rattle.anick_chains.specs.BasisTips.{leads_of};
+ghost use Rattle.anick_chains.specs.BasisTips.{AreTips, leads_of};
 ghost use Rattle.anick_chains.specs.Walk.{ends_of, next_pieces, unless_stands};
 
-use ideal_laws::Basis;
-use lead_index::LeadIndex;
+use crate::tip_index::TipIndex;
 use overlaps::{first_place, lead_at};
 use std::alloc::Global;
 use words::{NoMemory, Word, occurs_at};
@@ -13,23 +11,22 @@ use words::{NoMemory, Word, occurs_at};
 /// The pieces that may follow a piece and have the degree `d` together with it.
 pub(crate) fn next_pieces(
     alloc: Global,
-    basis: &Basis,
-    index: &LeadIndex,
+    tips: &TipIndex,
     piece: &[u8],
     d: u32,
 ) -> Result<Vec<Word>, NoMemory>
-    requires index { IsIndexOf basis.now.elements index.now }
-    requires letters { IsOver (length basis.now.weights) piece.now }
-    requires fits { degree_of basis.now.weights piece.now ≤ d }
+    requires tips { AreTips tips.now.basis.now tips.now.index.now tips.now.weights.now }
+    requires letters { IsOver (length tips.now.basis.now.weights) piece.now }
+    requires fits { degree_of tips.now.basis.now.weights piece.now ≤ d }
     requires room { d ≤ 64 }
-    ensures { IfOk result (λ found. found.items ≡ next_pieces basis.now.weights basis.now.elements piece.now d) }
+    ensures { let b = tips.now.basis.now in IfOk result
+        (λ found. found.items ≡ next_pieces b.weights b.elements piece.now d) }
 {
-    let _done = basis.done();
     let mut found = Vec::new(alloc);
     let mut degree = 0;
     for before in 0..piece.len() {
-        push_ends(alloc, basis, index, piece, before, d - degree, &mut found)?;
-        degree += u32::from(basis.weight(piece[before]));
+        push_ends(alloc, tips, piece, before, d - degree, &mut found)?;
+        degree += u32::from(tips.basis.weight(piece[before]));
     }
     Ok(found)
 }
@@ -37,28 +34,26 @@ pub(crate) fn next_pieces(
 /// Appends the next pieces from tips of degree `d` that share all of the piece but so many letters.
 fn push_ends(
     alloc: Global,
-    basis: &Basis,
-    index: &LeadIndex,
+    tips: &TipIndex,
     piece: &[u8],
     before: usize,
     d: u32,
     found: &mut Vec<Word>,
 ) -> Result<(), NoMemory>
-    requires index { IsIndexOf basis.now.elements index.now }
+    requires tips { AreTips tips.now.basis.now tips.now.index.now tips.now.weights.now }
     requires split { before < length piece.now }
     requires room { before + d ≤ 64 }
-    ensures { OnOk result (found.new.items ≡ found.old.items
-        ++ ends_of basis.now.weights basis.now.elements piece.now before d) }
+    ensures { let b = tips.now.basis.now in OnOk result (found.new.items ≡ found.old.items
+        ++ ends_of b.weights b.elements piece.now before d) }
 {
-    let _done = basis.done();
     let shared = &piece[before..];
-    let (first, end) = basis.of_degree(d);
-    for place in first_place(basis, first, end, shared)..end {
-        let tip = lead_at(basis, place);
+    let (first, end) = tips.basis.of_degree(d);
+    for place in first_place(tips.basis, first, end, shared)..end {
+        let tip = lead_at(tips.basis, place);
         if !occurs_at(shared, tip, 0) {
             return Ok(());
         }
-        push_end(alloc, basis, index, piece, &tip[shared.len()..], found)?;
+        push_end(alloc, tips, piece, &tip[shared.len()..], found)?;
     }
     Ok(())
 }
@@ -66,20 +61,18 @@ fn push_ends(
 /// Appends a piece, unless a tip stands in the two up to the last letter.
 fn push_end(
     alloc: Global,
-    basis: &Basis,
-    index: &LeadIndex,
+    tips: &TipIndex,
     piece: &[u8],
     next: &[u8],
     found: &mut Vec<Word>,
 ) -> Result<(), NoMemory>
-    requires index { IsIndexOf basis.now.elements index.now }
+    requires tips { AreTips tips.now.basis.now tips.now.index.now tips.now.weights.now }
     requires small { length piece.now + (length next.now - 1) ≤ 64 }
-    ensures { OnOk result (found.new.items ≡ found.old.items
-        ++ unless_stands (leads_of basis.now.elements) piece.now next.now) }
+    ensures { let b = tips.now.basis.now in OnOk result (found.new.items ≡ found.old.items
+        ++ unless_stands (leads_of b.elements) piece.now next.now) }
 {
-    let _done = basis.done();
     let both = Word::joined(alloc, piece, &next[..next.len().saturating_sub(1)])?;
-    match index.first_reducer(both.letters()) {
+    match tips.index.first_reducer(both.letters()) {
         Some(_) => Ok(()),
         None => push_word(alloc, next, found),
     }

@@ -1,6 +1,6 @@
 ghost use Rattle.std.specs.Prelude.{◌≡◌, ◌+◌, ◌-◌, ◌++◌, ◌∷◌, ◌<◌, ◌≤◌, [], ℕ, All, IsErrOf, OnOk};
 ghost use Rattle.std.specs.List.{flat_map};
-ghost use Rattle.lead_index.specs.Leads.{IsIndexOf};
+ghost use Rattle.anick_chains.specs.BasisTips.{AreTips};
 ghost use Rattle.anick_chains.specs.Tallies.{IsTallyBelow, longer_tallies, tallies_with, tally_total};
 ghost use Rattle.anick_chains.specs.Walk.{free_letters};
 
@@ -9,70 +9,53 @@ use crate::longer::free_letters;
 use crate::next::next_pieces;
 use crate::order::word_degree;
 use crate::tally::Tally;
-use ideal_laws::Basis;
-use lead_index::LeadIndex;
+use crate::tip_index::TipIndex;
 use std::alloc::Global;
 use words::{NoMemory, Word};
 
 /// Appends the letters of a degree that are no tips.
 pub(crate) fn push_letters(
     alloc: Global,
-    basis: &Basis,
-    index: &LeadIndex,
+    tips: &TipIndex,
     degree: u32,
-    most: u32,
-    total: &mut u32,
+    room: &mut u32,
     block: &mut Vec<Tally>,
 ) -> Result<(), ChainFault>
-    requires index { IsIndexOf basis.now.elements index.now }
-    requires few { total.old ≤ most }
-    requires some { All (λ t. 0 < t.count) block.old.items }
+    requires tips { AreTips tips.now.basis.now tips.now.index.now tips.now.weights.now }
 
-    ensures letters { OnOk result (block.new.items ≡ block.old.items
-        ++ tallies_with degree 1 1 (free_letters basis.now.weights basis.now.elements degree)) }
-    ensures some { OnOk result (All (λ t. 0 < t.count) block.new.items) }
-    ensures total { OnOk result (total.new ≡ total.old
-        + tally_total (tallies_with degree 1 1 (free_letters basis.now.weights basis.now.elements degree))) }
-    ensures within { OnOk result (total.new ≤ most) }
-    ensures many { (d : ℕ) → IsErrOf result (ChainFault.TooMany d) → (d ≡ degree) × (most < total.old
-        + tally_total (tallies_with degree 1 1 (free_letters basis.now.weights basis.now.elements degree))) }
+    ensures letters { let b = tips.now.basis.now in OnOk result (block.new.items ≡ block.old.items
+        ++ tallies_with degree 1 1 (free_letters b.weights b.elements degree)) }
+    ensures total { let b = tips.now.basis.now in OnOk result (room.old ≡ room.new
+        + tally_total (tallies_with degree 1 1 (free_letters b.weights b.elements degree))) }
+    ensures many { let b = tips.now.basis.now in (d : ℕ) → IsErrOf result (ChainFault.TooMany d) → (d ≡ degree)
+        × (room.old < tally_total (tallies_with degree 1 1 (free_letters b.weights b.elements degree))) }
 {
-    let letters = free_letters(alloc, basis, index, degree)?;
-    push_each(alloc, letters.as_slice(), degree, 1, 1, most, total, block)
+    let letters = free_letters(alloc, tips, degree)?;
+    push_each(alloc, letters.as_slice(), degree, 1, 1, room, block)
 }
 
 /// Appends the chains of a degree that have one piece more than those of the tallies.
 pub(crate) fn push_longer(
     alloc: Global,
-    basis: &Basis,
-    index: &LeadIndex,
-    weights: &[u8],
+    tips: &TipIndex,
     below: &[Tally],
     degree: u32,
-    most: u32,
-    total: &mut u32,
+    room: &mut u32,
     block: &mut Vec<Tally>,
 ) -> Result<(), ChainFault>
-    requires index { IsIndexOf basis.now.elements index.now }
-    requires weights { weights.now ≡ basis.now.weights }
+    requires tips { AreTips tips.now.basis.now tips.now.index.now tips.now.weights.now }
     requires room { degree ≤ 64 }
-    requires below { All (IsTallyBelow basis.now.weights degree) below.now }
-    requires few { total.old ≤ most }
-    requires some { All (λ t. 0 < t.count) block.old.items }
+    requires below { All (IsTallyBelow tips.now.basis.now.weights degree) below.now }
 
-    ensures longer { OnOk result (block.new.items ≡ block.old.items
-        ++ flat_map (longer_tallies basis.now.weights basis.now.elements degree) below.now) }
-    ensures some { OnOk result (All (λ t. 0 < t.count) block.new.items) }
-    ensures total { OnOk result (total.new ≡ total.old
-        + tally_total (flat_map (longer_tallies basis.now.weights basis.now.elements degree) below.now)) }
-    ensures within { OnOk result (total.new ≤ most) }
-    ensures many { (d : ℕ) → IsErrOf result (ChainFault.TooMany d) → (d ≡ degree) × (most < total.old
-        + tally_total (flat_map (longer_tallies basis.now.weights basis.now.elements degree) below.now)) }
+    ensures longer { let b = tips.now.basis.now in OnOk result (block.new.items ≡ block.old.items
+        ++ flat_map (longer_tallies b.weights b.elements degree) below.now) }
+    ensures total { let b = tips.now.basis.now in OnOk result (room.old ≡ room.new
+        + tally_total (flat_map (longer_tallies b.weights b.elements degree) below.now)) }
+    ensures many { let b = tips.now.basis.now in (d : ℕ) → IsErrOf result (ChainFault.TooMany d) → (d ≡ degree)
+        × (room.old < tally_total (flat_map (longer_tallies b.weights b.elements degree) below.now)) }
 {
     for tally in below {
-        push_next(
-            alloc, basis, index, weights, tally, degree, most, total, block,
-        )?;
+        push_next(alloc, tips, tally, degree, room, block)?;
     }
     Ok(())
 }
@@ -80,42 +63,33 @@ pub(crate) fn push_longer(
 /// Appends the chains of a degree that have one piece more than those of the tally.
 fn push_next(
     alloc: Global,
-    basis: &Basis,
-    index: &LeadIndex,
-    weights: &[u8],
+    tips: &TipIndex,
     tally: &Tally,
     degree: u32,
-    most: u32,
-    total: &mut u32,
+    room: &mut u32,
     block: &mut Vec<Tally>,
 ) -> Result<(), ChainFault>
-    requires index { IsIndexOf basis.now.elements index.now }
-    requires weights { weights.now ≡ basis.now.weights }
+    requires tips { AreTips tips.now.basis.now tips.now.index.now tips.now.weights.now }
     requires room { degree ≤ 64 }
-    requires below { IsTallyBelow basis.now.weights degree tally.now }
-    requires few { total.old ≤ most }
-    requires some { All (λ t. 0 < t.count) block.old.items }
+    requires below { IsTallyBelow tips.now.basis.now.weights degree tally.now }
 
-    ensures longer { OnOk result (block.new.items ≡ block.old.items
-        ++ longer_tallies basis.now.weights basis.now.elements degree tally.now) }
-    ensures some { OnOk result (All (λ t. 0 < t.count) block.new.items) }
-    ensures total { OnOk result (total.new ≡ total.old
-        + tally_total (longer_tallies basis.now.weights basis.now.elements degree tally.now)) }
-    ensures within { OnOk result (total.new ≤ most) }
-    ensures many { (d : ℕ) → IsErrOf result (ChainFault.TooMany d) → (d ≡ degree) × (most < total.old
-        + tally_total (longer_tallies basis.now.weights basis.now.elements degree tally.now)) }
+    ensures longer { let b = tips.now.basis.now in OnOk result (block.new.items ≡ block.old.items
+        ++ longer_tallies b.weights b.elements degree tally.now) }
+    ensures total { let b = tips.now.basis.now in OnOk result (room.old ≡ room.new
+        + tally_total (longer_tallies b.weights b.elements degree tally.now)) }
+    ensures many { let b = tips.now.basis.now in (d : ℕ) → IsErrOf result (ChainFault.TooMany d) → (d ≡ degree)
+        × (room.old < tally_total (longer_tallies b.weights b.elements degree tally.now)) }
 {
     let last = tally.last.letters();
-    let both = word_degree(weights, last) as u32 + (degree - tally.degree);
-    let next = next_pieces(alloc, basis, index, last, both)?;
+    let both = word_degree(tips.weights, last) as u32 + (degree - tally.degree);
+    let next = next_pieces(alloc, tips, last, both)?;
     push_each(
         alloc,
         next.as_slice(),
         degree,
         tally.size + 1,
         tally.count,
-        most,
-        total,
+        room,
         block,
     )
 }
@@ -127,26 +101,19 @@ fn push_each(
     degree: u32,
     size: u32,
     count: u32,
-    most: u32,
-    total: &mut u32,
+    room: &mut u32,
     block: &mut Vec<Tally>,
 ) -> Result<(), ChainFault>
-    requires few { total.old ≤ most }
-    requires some { All (λ t. 0 < t.count) block.old.items }
-    requires more { 0 < count }
-
     ensures pushed { OnOk result (block.new.items ≡ block.old.items ++ tallies_with degree size count pieces.now) }
-    ensures some { OnOk result (All (λ t. 0 < t.count) block.new.items) }
-    ensures total { OnOk result (total.new ≡ total.old + tally_total (tallies_with degree size count pieces.now)) }
-    ensures within { OnOk result (total.new ≤ most) }
+    ensures total { OnOk result (room.old ≡ room.new + tally_total (tallies_with degree size count pieces.now)) }
     ensures many { (d : ℕ) → IsErrOf result (ChainFault.TooMany d) → (d ≡ degree)
-        × (most < total.old + tally_total (tallies_with degree size count pieces.now)) }
+        × (room.old < tally_total (tallies_with degree size count pieces.now)) }
 {
     for piece in pieces {
-        if count > most - *total {
+        if count > *room {
             return Err(ChainFault::TooMany { degree });
         }
-        *total += count;
+        *room -= count;
         push_tally(alloc, degree, size, piece, count, block)?;
     }
     Ok(())

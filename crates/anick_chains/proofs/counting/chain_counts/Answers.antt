@@ -5,7 +5,7 @@ use Rattle.overlaps.proofs.Sums.{one_fault}
 use Rattle.anick_chains.specs.declared.tally.ChainCount.{ChainCount}
 use Rattle.anick_chains.specs.declared.tally.Tally.{Tally}
 use Rattle.anick_chains.specs.BasisTips.{leads_of}
-use Rattle.anick_chains.specs.Tallies.{AreCounts, AreTallied, count_total}
+use Rattle.anick_chains.specs.Tallies.{AreCounts, AreTalliedOf, count_total}
 use Rattle.anick_chains.proofs.FirstMany.{few_more, first_many}
 use Rattle.anick_chains.proofs.MinimalChains.{listed_minimal}
 use Rattle.anick_chains.proofs.Tallied.{none_tallied, tallied_counts, tallied_number, tallied_total}
@@ -16,11 +16,11 @@ loop-degree-init c =
     let b = c.args.basis.now in
     let kept = c.done-done.ensures.kept in
     let T = Contains (leads_of b.elements) in
-    let none : AreTallied T (length b.weights) b.weights 0 0 [] [] = none_tallied b kept c.requires.factor_free in
+    let none : AreTalliedOf b 0 0 [] [] = none_tallied b kept c.requires.factor_free in
     record {
       tallied =
-          subst (λ (ts : List Tally). AreTallied T (length b.weights) b.weights 0 0 ts c.new-counts.result.items) (sym c.new-tallies.ensures.items)
-          (subst (λ (ks : List ChainCount). AreTallied T (length b.weights) b.weights 0 0 [] ks) (sym c.new-counts.ensures.items) none);
+          subst (λ (ts : List Tally). AreTalliedOf b 0 0 ts c.new-counts.result.items) (sym c.new-tallies.ensures.items)
+          (subst (λ (ks : List ChainCount). AreTalliedOf b 0 0 [] ks) (sym c.new-counts.ensures.items) none);
       within = omega arith;
       before = few_more T (length b.weights) b.weights c.args.most 0 0 (λ e lt. absurd (omega (arith, lt)))
           (tallied_number b kept c.requires.factor_free 0 0 [] [] none) (omega arith);
@@ -37,7 +37,7 @@ loop-degree-preserved c =
     let counts = c.count_degree.new.counts.items in
     let same : d ≡ d + 1 - 1 = omega arith in
     record {
-      tallied = subst (λ (n : ℕ). AreTallied T (length b.weights) b.weights n total tallies counts) same c.in_ok-count_degree.ensures.tallied;
+      tallied = subst (λ (n : ℕ). AreTalliedOf b n total tallies counts) same c.in_ok-count_degree.ensures.tallied;
       within = c.in_ok-count_degree.ensures.within;
       before = few_more T (length b.weights) b.weights c.args.most d total c.loop-degree.invariant.before
           (tallied_number b kept c.requires.factor_free d total tallies counts c.in_ok-count_degree.ensures.tallied)

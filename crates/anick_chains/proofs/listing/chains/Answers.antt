@@ -3,7 +3,7 @@ use Rattle.std.specs.List.{Contains}
 use Rattle.std.proofs.lemmas.Result.{err_from_is_err_and}
 use Rattle.overlaps.proofs.Sums.{one_fault}
 use Rattle.anick_chains.specs.BasisTips.{leads_of}
-use Rattle.anick_chains.specs.Listed.{AreListed}
+use Rattle.anick_chains.specs.Listed.{AreListedOf}
 use Rattle.words.specs.Words.{IsOver}
 use Rattle.anick_chains.proofs.FirstMany.{few_more, first_many}
 use Rattle.anick_chains.proofs.Onward.{listed_over}
@@ -15,9 +15,9 @@ pub loop-degree-init : goal.loop-degree-init
 loop-degree-init c =
     let b = c.args.basis.now in
     let kept = c.done-done.ensures.kept in
-    let none : AreListed (Contains (leads_of b.elements)) (length b.weights) b.weights 0 [] = none_listed b kept c.requires.factor_free in
+    let none : AreListedOf b 0 [] = none_listed b kept c.requires.factor_free in
     record {
-      listed = subst (AreListed (Contains (leads_of b.elements)) (length b.weights) b.weights 0) (sym c.new-found.ensures.items) none;
+      listed = subst (AreListedOf b 0) (sym c.new-found.ensures.items) none;
       within = omega (arith, ap length c.new-found.ensures.items);
       before = few_more (Contains (leads_of b.elements)) (length b.weights) b.weights c.args.most 0 0 (λ e lt. absurd (omega (arith, lt)))
           (number_listed b kept c.requires.factor_free 0 [] none) (omega arith);
@@ -31,7 +31,7 @@ loop-degree-preserved c =
     let T = Contains (leads_of b.elements) in
     let same : d ≡ d + 1 - 1 = omega arith in
     record {
-      listed = subst (λ (n : ℕ). AreListed (Contains (leads_of b.elements)) (length b.weights) b.weights n found) same c.in_ok-push_degree.ensures.listed;
+      listed = subst (λ (n : ℕ). AreListedOf b n found) same c.in_ok-push_degree.ensures.listed;
       within = c.in_ok-push_degree.ensures.within;
       before = few_more (Contains (leads_of b.elements)) (length b.weights) b.weights c.args.most d (length found) c.loop-degree.invariant.before
           (number_listed b c.done-done.ensures.kept c.requires.factor_free d found c.in_ok-push_degree.ensures.listed)
@@ -50,8 +50,8 @@ pub returns-clause-listed : goal.returns-clause-listed
 returns-clause-listed c =
     let b = c.args.basis.now in
     let last : c.loop-degree.degree - 1 ≡ c.args.bound = omega (arith, c.loop-degree-test.false, c.loop-degree.auto.degree-end (omega arith)) in
-    subst (AreListed (Contains (leads_of b.elements)) (length b.weights) b.weights c.args.bound) (sym c.from_vec.ensures)
-    (subst (λ (n : ℕ). AreListed (Contains (leads_of b.elements)) (length b.weights) b.weights n c.loop-degree.found.items) last c.loop-degree.invariant.listed)
+    subst (AreListedOf b c.args.bound) (sym c.from_vec.ensures)
+    (subst (λ (n : ℕ). AreListedOf b n c.loop-degree.found.items) last c.loop-degree.invariant.listed)
 
 pub returns-clause-minimal : goal.returns-clause-minimal
 returns-clause-minimal c = λ p relations st upto.

@@ -2,27 +2,26 @@ use Rattle.std.proofs.Common.{◌≡◌, ◌+◌, ◌-◌, ◌++◌, ◌∷◌, 
 use Rattle.std.proofs.lemmas.List.{length-map, map-append}
 use Rattle.std.proofs.lemmas.List.Sorted.{length_permutation}
 use Rattle.std.proofs.lemmas.Result.{err_from_is_err_and}
-use Rattle.std.specs.List.{Contains, flat_map}
+use Rattle.std.specs.List.{flat_map}
 use Rattle.std.specs.List.Sorted.{IsSorted}
 use Rattle.overlaps.proofs.Sums.{one_fault}
 use Rattle.anick_chains.specs.declared.chain.Chain.{Chain}
-use Rattle.anick_chains.specs.BasisTips.{leads_of}
 use Rattle.anick_chains.specs.Compare.{pieces_cmp}
-use Rattle.anick_chains.specs.Listed.{AreListed, pieces_of, with_degree}
+use Rattle.anick_chains.specs.Listed.{AreListedOf, pieces_of, with_degree}
 use Rattle.anick_chains.specs.Walk.{chains_at, continued, free_letters, onward}
 use Rattle.anick_chains.proofs.Steps.{all_length, listed_more, number_more}
 use Rattle.anick_chains.proofs.listing.push_degree.Goals as goal
 
 pub returns-in_err-push_continued-clause-many : goal.returns-in_err-push_continued-clause-many
 returns-in_err-push_continued-clause-many c = λ d e.
-    let b = c.args.basis.now in
+    let b = c.args.tips.now.basis.now in
     let next : c.args.degree ≡ (c.args.degree - 1) + 1 = omega (arith, c.requires.some) in
     let p = err_from_is_err_and c.from_residual-in_err-push_continued.result c.from_residual-in_err-push_continued.ensures.1 in
     let m = c.in_err-push_continued.ensures.many d (ap Err (sym p.2 ∙ one_fault c.from_residual-in_err-push_continued.result _ _ p.1 e)) in
-    let kept = c.done-done.ensures.kept in (
+    let kept = c.requires.tips.kept in (
       m.0,
       length c.args.found.now.items + length (chains_at b.weights b.elements c.args.degree (pieces_of c.args.found.now.items)),
-      number_more b kept c.requires.factor_free (c.args.degree - 1) c.args.found.now.items c.requires.below c.args.degree next,
+      number_more b kept c.requires.tips.factor_free (c.args.degree - 1) c.args.found.now.items c.requires.below c.args.degree next,
       omega (
         arith,
         m.1,
@@ -30,21 +29,21 @@ returns-in_err-push_continued-clause-many c = λ d e.
         c.len.ensures,
         ap length c.new-block.ensures.items,
         ap length c.in_ok-letters.ensures,
-        all_length b kept c.requires.factor_free (c.args.degree - 1) c.args.found.now.items c.requires.below c.args.degree next,
+        all_length b kept c.requires.tips.factor_free (c.args.degree - 1) c.args.found.now.items c.requires.below c.args.degree next,
       ),
     )
 
 pub returns-in_err-push_onward-clause-many : goal.returns-in_err-push_onward-clause-many
 returns-in_err-push_onward-clause-many c = λ d e.
-    let b = c.args.basis.now in
+    let b = c.args.tips.now.basis.now in
     let next : c.args.degree ≡ (c.args.degree - 1) + 1 = omega (arith, c.requires.some) in
     let p = err_from_is_err_and c.from_residual-in_err-push_onward.result c.from_residual-in_err-push_onward.ensures.1 in
     let m = c.in_err-push_onward.ensures.many d (ap Err (sym p.2 ∙ one_fault c.from_residual-in_err-push_onward.result _ _ p.1 e)) in
-    let kept = c.done-done.ensures.kept in
+    let kept = c.requires.tips.kept in
     let letters = continued [] c.in_ok-letters.letters.items in (
       m.0,
       length c.args.found.now.items + length (chains_at b.weights b.elements c.args.degree (pieces_of c.args.found.now.items)),
-      number_more b kept c.requires.factor_free (c.args.degree - 1) c.args.found.now.items c.requires.below c.args.degree next,
+      number_more b kept c.requires.tips.factor_free (c.args.degree - 1) c.args.found.now.items c.requires.below c.args.degree next,
       omega (
         arith,
         m.1,
@@ -57,13 +56,13 @@ returns-in_err-push_onward-clause-many c = λ d e.
         length-map {B = Chain} letters (λ (x : List (List ℕ)). record { degree = c.args.degree; pieces = x }),
         length-map c.in_ok-letters.letters.items (λ (r : List ℕ). [] ++ r ∷ []),
         ap (λ (found : List Chain). length (flat_map (onward b.weights b.elements c.args.degree) (pieces_of found))) c.as_slice.ensures.value,
-        all_length b kept c.requires.factor_free (c.args.degree - 1) c.args.found.now.items c.requires.below c.args.degree next,
+        all_length b kept c.requires.tips.factor_free (c.args.degree - 1) c.args.found.now.items c.requires.below c.args.degree next,
       ),
     )
 
 pub returns-clause-listed : goal.returns-clause-listed
 returns-clause-listed c =
-    let b = c.args.basis.now in
+    let b = c.args.tips.now.basis.now in
     let next : c.args.degree ≡ (c.args.degree - 1) + 1 = omega (arith, c.requires.some) in
     let d = c.args.degree in
     let below = pieces_of c.args.found.now.items in
@@ -79,10 +78,11 @@ returns-clause-listed c =
     ∙ sym (map-append {B = Chain} (λ (x : List (List ℕ)). record { degree = d; pieces = x })
     (continued [] (free_letters b.weights b.elements d)) (flat_map (onward b.weights b.elements d) below)) in
     let whole : c.append.new.self.items ≡ c.args.found.now.items ++ c.sort.new.block.items = search rules in
-    subst (AreListed (Contains (leads_of b.elements)) (length b.weights) b.weights d) (sym whole)
-    (listed_more b c.done-done.ensures.kept c.requires.factor_free (c.args.degree - 1) c.args.found.now.items c.requires.below d next
+    subst (AreListedOf b d) (sym whole)
+    (listed_more b c.requires.tips.kept c.requires.tips.factor_free (c.args.degree - 1) c.args.found.now.items c.requires.below d next
     c.push_onward.new.block.items c.sort.new.block.items block c.sort.ensures.same
-    (subst (λ (ws : List ℕ). IsSorted (λ (x y : Chain). pieces_cmp ws x.pieces y.pieces) c.sort.new.block.items) c.requires.weights c.sort.ensures.sorted))
+    (subst (λ (ws : List ℕ). IsSorted (λ (x y : Chain). pieces_cmp ws x.pieces y.pieces) c.sort.new.block.items) c.requires.tips.weighted
+    c.sort.ensures.sorted))
 
 pub returns-clause-within : goal.returns-clause-within
 returns-clause-within c =

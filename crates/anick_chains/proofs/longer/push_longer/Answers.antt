@@ -12,25 +12,25 @@ last_degree weights own piece n pieces items counted same last is = counted ∙ 
 
 pub overflow_cast-both : goal.overflow_cast-both
 overflow_cast-both c =
-    let degree = last_degree _ _ _ _ _ _ c.word_degree.ensures c.requires.weights c.last_piece-last.ensures c.as_slice-pieces.ensures in
-    omega (arith, degree, last_piece-degree c.args.basis.now.weights c.args.chain.now.pieces, c.requires.below, c.requires.degree, c.requires.room)
+    let degree = last_degree _ _ _ _ _ _ c.word_degree.ensures c.requires.tips.weighted c.last_piece-last.ensures c.as_slice-pieces.ensures in
+    omega (arith, degree, last_piece-degree c.args.tips.now.basis.now.weights c.args.chain.now.pieces, c.requires.below, c.requires.degree, c.requires.room)
 
 pub overflow_add-both : goal.overflow_add-both
 overflow_add-both c =
-    let degree = last_degree _ _ _ _ _ _ c.word_degree.ensures c.requires.weights c.last_piece-last.ensures c.as_slice-pieces.ensures in
-    omega (arith, degree, last_piece-degree c.args.basis.now.weights c.args.chain.now.pieces, c.requires.below, c.requires.degree, c.requires.room)
+    let degree = last_degree _ _ _ _ _ _ c.word_degree.ensures c.requires.tips.weighted c.last_piece-last.ensures c.as_slice-pieces.ensures in
+    omega (arith, degree, last_piece-degree c.args.tips.now.basis.now.weights c.args.chain.now.pieces, c.requires.below, c.requires.degree, c.requires.room)
 
 pub next_pieces-requires-clause-room : goal.next_pieces-requires-clause-room
 next_pieces-requires-clause-room c =
-    let degree = last_degree _ _ _ _ _ _ c.word_degree.ensures c.requires.weights c.last_piece-last.ensures c.as_slice-pieces.ensures in
-    omega (arith, degree, last_piece-degree c.args.basis.now.weights c.args.chain.now.pieces, c.requires.below, c.requires.degree, c.requires.room)
+    let degree = last_degree _ _ _ _ _ _ c.word_degree.ensures c.requires.tips.weighted c.last_piece-last.ensures c.as_slice-pieces.ensures in
+    omega (arith, degree, last_piece-degree c.args.tips.now.basis.now.weights c.args.chain.now.pieces, c.requires.below, c.requires.degree, c.requires.room)
 
 pub returns : goal.returns
 returns c =
-    let b = c.args.basis.now in
+    let b = c.args.tips.now.basis.now in
     let front = c.as_slice-pieces.ensures in
     let last : c.last_piece-last.result.now ≡ last_piece c.args.chain.now.pieces = c.last_piece-last.ensures ∙ ap last_piece front in
-    let degree = last_degree _ _ _ _ _ _ c.word_degree.ensures c.requires.weights c.last_piece-last.ensures front in
+    let degree = last_degree _ _ _ _ _ _ c.word_degree.ensures c.requires.tips.weighted c.last_piece-last.ensures front in
     let next : c.in_ok-next.next.items ≡ next_of b.weights b.elements c.args.degree c.args.chain.now.pieces =
     c.in_ok-next.ensures ∙ ap (λ (w : List ℕ). next_pieces b.weights b.elements w (c.word_degree.result + (c.args.degree - c.args.chain.now.degree))) last
     ∙ ap (next_pieces b.weights b.elements (last_piece c.args.chain.now.pieces)) (omega (arith, degree, c.requires.degree)) in

@@ -6,11 +6,12 @@ use Rattle.anick_chains.proofs.Members.{joined, joined-one}
 use Rattle.anick_chains.proofs.next.next_pieces.Goals as goal
 
 pub overflow_sub-d : goal.overflow_sub-d
-overflow_sub-d c = omega (arith, c.loop-before.invariant.degree, degree_of-take c.args.basis.now.weights c.args.piece.now c.loop-before.before, c.requires.fits)
+overflow_sub-d c =
+    omega (arith, c.loop-before.invariant.degree, degree_of-take c.args.tips.now.basis.now.weights c.args.piece.now c.loop-before.before, c.requires.fits)
 
 pub push_ends-requires-clause-room : goal.push_ends-requires-clause-room
 push_ends-requires-clause-room c =
-    let ws = c.args.basis.now.weights in
+    let ws = c.args.tips.now.basis.now.weights in
     let front = take c.loop-before.before c.args.piece.now in
     omega (
       arith,
@@ -19,7 +20,7 @@ push_ends-requires-clause-room c =
       c.requires.fits,
       c.loop-before-test.true,
       degree_of-take ws c.args.piece.now c.loop-before.before,
-      length-le-degree_of ws c.done-done.ensures.kept.weights front,
+      length-le-degree_of ws c.requires.tips.kept.weights front,
       length-take c.loop-before.before c.args.piece.now,
     )
 
@@ -28,7 +29,7 @@ overflow_add-degree c =
     omega (
       arith,
       c.loop-before.invariant.degree,
-      degree_of-take c.args.basis.now.weights c.args.piece.now c.loop-before.before,
+      degree_of-take c.args.tips.now.basis.now.weights c.args.piece.now c.loop-before.before,
       c.requires.fits,
       c.requires.room,
       c.weight.ensures.small,
@@ -37,7 +38,7 @@ overflow_add-degree c =
 
 pub loop-before-preserved : goal.loop-before-preserved
 loop-before-preserved c =
-    let b = c.args.basis.now in
+    let b = c.args.tips.now.basis.now in
     let q = c.args.piece.now in
     let at = c.loop-before.before in
     let f : ℕ → List (List ℕ) = λ k. ends_of b.weights b.elements q k (c.args.d - degree_of b.weights (take k q)) in
@@ -56,7 +57,7 @@ loop-before-preserved c =
 
 pub returns : goal.returns
 returns c =
-    let b = c.args.basis.now in
+    let b = c.args.tips.now.basis.now in
     let q = c.args.piece.now in
     let last : c.loop-before.before ≡ length q = omega (arith, c.loop-before-test.false, c.loop-before.auto.before-end) in
     c.loop-before.invariant.so_far ∙ ap (joined (λ (k : ℕ). ends_of b.weights b.elements q k (c.args.d - degree_of b.weights (take k q)))) last

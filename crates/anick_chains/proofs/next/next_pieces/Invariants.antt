@@ -6,6 +6,8 @@ use Rattle.anick_chains.proofs.next.next_pieces.Given as goal
 
 abbrev pub invariant-loop-before : goal.invariant-loop-before
 invariant-loop-before l = record {
-  degree : l.degree ≡ degree_of l.basis.weights (take l.before l.piece);
-  so_far : l.found.items ≡ joined (λ (k : ℕ). ends_of l.basis.weights l.basis.elements l.piece k (l.d - degree_of l.basis.weights (take k l.piece))) l.before;
+  degree : l.degree ≡ degree_of l.tips.basis.now.weights (take l.before l.piece);
+  so_far : l.found.items
+      ≡ joined (λ (k : ℕ). ends_of l.tips.basis.now.weights l.tips.basis.now.elements l.piece k
+      (l.d - degree_of l.tips.basis.now.weights (take k l.piece))) l.before;
 }

@@ -1,4 +1,4 @@
-use Rattle.std.proofs.Common.{◌≡◌, ◌+◌, ◌<◌, ◌≤◌, ◌++◌, All, take}
+use Rattle.std.proofs.Common.{◌≡◌, ◌+◌, ◌++◌, take}
 use Rattle.std.specs.List.{sum_by}
 use Rattle.anick_chains.specs.Tallies.{tallies_with}
 use Rattle.anick_chains.proofs.tallies.push_each.Given as goal
@@ -6,7 +6,5 @@ use Rattle.anick_chains.proofs.tallies.push_each.Given as goal
 abbrev pub invariant-loop-piece : goal.invariant-loop-piece
 invariant-loop-piece l = record {
   pushed : l.block.items ≡ l.fn.block.items ++ tallies_with l.degree l.size l.count (take l.piece-index l.pieces);
-  some : All (λ t. 0 < t.count) l.block.items;
-  total : l.total ≡ l.fn.total + sum_by (λ r. l.count) (take l.piece-index l.pieces);
-  within : l.total ≤ l.most;
+  total : l.fn.room ≡ l.room + sum_by (λ r. l.count) (take l.piece-index l.pieces);
 }

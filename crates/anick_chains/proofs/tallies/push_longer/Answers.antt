@@ -11,7 +11,7 @@ use Rattle.anick_chains.proofs.tallies.push_longer.Goals as goal
 
 pub returns-in_err-push_next-clause-many : goal.returns-in_err-push_next-clause-many
 returns-in_err-push_next-clause-many c = λ d e.
-    let b = c.args.basis.now in
+    let b = c.args.tips.now.basis.now in
     let g = λ (t : Tally). tally_total (longer_tallies b.weights b.elements c.args.degree t) in
     let p = err_from_is_err_and c.from_residual.result c.from_residual.ensures.1 in
     let m = c.in_err-push_next.ensures.many d (ap Err (sym p.2 ∙ one_fault c.from_residual.result _ _ p.1 e)) in (
@@ -28,7 +28,7 @@ returns-in_err-push_next-clause-many c = λ d e.
 
 pub returns-clause-total : goal.returns-clause-total
 returns-clause-total c =
-    let b = c.args.basis.now in
+    let b = c.args.tips.now.basis.now in
     let g = λ (t : Tally). tally_total (longer_tallies b.weights b.elements c.args.degree t) in
     omega (
       arith,
