@@ -5,7 +5,7 @@ ghost use Rattle.free_poly.specs.Poly.{IsPolynomial};
 ghost use Rattle.lead_index.specs.Leads.{IsIndexOf};
 ghost use Rattle.symbolic_prep.specs.Numbers.{IsLonger};
 ghost use Rattle.symbolic_prep.specs.Packing.{IsPacking};
-ghost use Rattle.symbolic_prep.specs.PackedWords.{ArePackedWithin, IsPackedWord, letters_in};
+ghost use Rattle.symbolic_prep.specs.PackedWords.{ArePackedWithin, IsPackedAs, IsPackedWord};
 ghost use Rattle.symbolic_prep.specs.Tails.{AreTails, HasTail};
 
 use crate::lists::{Span, place_behind};
@@ -83,8 +83,7 @@ fn push_tail(
     requires small { length word.now ≤ 64 }
     requires letters { IsOver (length basis.now.weights) word.now }
     requires room { degree_of basis.now.weights word.now ≤ packing.room }
-    requires packed { IsPackedWord packing.bits packing.room packed }
-    requires same { letters_in packing.bits packing.room packed ≡ word.now }
+    requires packed { IsPackedAs packing.bits packing.room word.now packed }
     requires words { All (IsPackedWord packing.bits packing.room) words.old.items }
     ensures words { OnOk result (All (IsPackedWord packing.bits packing.room) words.new.items) }
     ensures longer { OnOk result (IsLonger words.old.items words.new.items) }
