@@ -1,6 +1,6 @@
 -- The multiple of an element that is the reducer of a word, packed.
 use Rattle.std.proofs.Common.{◌≡◌, ◌+◌, ◌<◌, ◌≤◌, ℕ, List, [], ◌∷◌, ◌++◌, All, length, map, take, drop, get_or, refl, sym, ap, ◌∙◌, arith}
-use Rattle.std.proofs.Common.{Some, subst, append_assoc, length-append}
+use Rattle.std.proofs.Common.{Some, subst, append_assoc}
 use Rattle.std.specs.List.{AllZip, slice_get}
 use Rattle.std.specs.Option.{option_map}
 use Rattle.std.proofs.lemmas.List.{append-nil, get_or-map, get_or_default, map-append, take_more}
@@ -24,6 +24,7 @@ use Rattle.symbolic_prep.specs.Tails.{HasTail}
 use Rattle.symbolic_prep.proofs.Ending.{AllZip-length}
 use Rattle.symbolic_prep.proofs.Listings.{AllZip-at}
 use Rattle.symbolic_prep.proofs.PackedWords.{first_len-is, length-packed, multiple_words, packed_tail}
+use Rattle.symbolic_prep.proofs.Parts.{part_last}
 use Rattle.symbolic_prep.proofs.Reduced.{parts_fit, residues_of-product, tail_product}
 use Rattle.symbolic_prep.proofs.Reducing.{IsElementAt, element_at, element_within}
 use Rattle.symbolic_prep.proofs.Stays.{words_of_reducer}
@@ -120,12 +121,8 @@ module _ (b : Elements) (kept : IsKept b) (forms : All IsPolynomial b.elements) 
             is = is_reducer;
             tail = record {
               lead = (words_of_reducer b kept forms (degree_of b.weights w) w (letters, refl) r is_reducer).lead;
-              before = old;
               own = m.more;
-              behind = [];
-              tails_are = m.joined ∙ sym (append-nil (old ++ m.more));
-              starts = starts;
-              ends = omega (arith, starts, ends, ap length m.joined, length-append old m.more);
+              place = part_last old new m.more s.start s.end m.joined starts ends;
               words = m.letters ∙ (λ i. map (λ (q : PackedWord). before_is i ++ letters_in bits room q ++ behind_is i) qs)
                   ∙ multiple_words bits room (take at w) rest (below_lead f) qs tail_packed.words ∙ tail_product (take at w) rest f;
               residues_are = ap (slice_get (map residues_of b.elements)) is ∙ slice_get-map residues_of b.elements element

@@ -2,7 +2,8 @@ ghost use Rattle.std.specs.Prelude.{◌≡◌, ◌+◌, ◌^◌, ◌<◌, ◌≤
 ghost use Rattle.std.specs.Prelude.{[], slice_index_or};
 ghost use Rattle.std.specs.List.{AllZip};
 ghost use Rattle.symbolic_prep.specs.Packing.{HasDigits, IsPacking};
-ghost use Rattle.symbolic_prep.specs.PackedWords.{ArePackedWithin, HasMultiple, IsPackedAs, IsPackedWord, first_len, letters_in};
+ghost use Rattle.symbolic_prep.specs.PackedWords.{ArePackedWithin, HasMultiple, IsPackedAs};
+ghost use Rattle.symbolic_prep.specs.PackedWords.{IsPackedWord, first_len, letters_in};
 
 use crate::packing::{PackedWord, Packing, joined, pack};
 use free_poly::Term;

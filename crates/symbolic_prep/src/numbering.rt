@@ -3,12 +3,12 @@ ghost use Rattle.std.specs.Prelude.{slice_index_or};
 ghost use Rattle.words.specs.Words.{IsOver, degree_of};
 ghost use Rattle.free_poly.specs.declared.term.Term.{Term};
 ghost use Rattle.free_poly.specs.Poly.{IsPolynomial};
-ghost use Rattle.ideal_laws.specs.Closure.{AreColumns, IsInClosure};
+ghost use Rattle.ideal_laws.specs.Closure.{IsInClosure};
 ghost use Rattle.lead_index.specs.Leads.{IsIndex, IsIndexOf};
 ghost use Rattle.symbolic_prep.specs.Numbers.{IsNumberWalk, IsReducedTo};
 ghost use Rattle.symbolic_prep.specs.PackedWords.{IsPackedWord};
 ghost use Rattle.symbolic_prep.specs.Tails.{HasTail};
-ghost use Rattle.symbolic_prep.specs.Walk.{HasMore};
+ghost use Rattle.symbolic_prep.specs.Walk.{HasMore, HasMoreColumns};
 
 use crate::closing::keeps;
 use crate::lists::{Span, add_words, place_behind, push_number};
@@ -57,8 +57,7 @@ pub(crate) fn walk_by_number(
     ensures within { IfOk result (λ n. length n.table.words ≤ most) }
     ensures bits { IfOk result (λ n. n.table.bits ≡ table.bits) }
     ensures room { IfOk result (λ n. n.table.room ≡ table.room) }
-    ensures many { IsErrOf result ColumnFault.TooMany →
-        (columns : List (List ℕ)) × AreColumns basis.now.elements table.words columns × (most < length columns) }
+    ensures many { IsErrOf result ColumnFault.TooMany → HasMoreColumns basis.now.elements table.words most }
 {
     let _done = basis.done();
     let _len = table.len();
