@@ -16,7 +16,7 @@ use crate::multiples::packed_basis;
 use crate::packing::PackedWord;
 use crate::pending::ColumnFault;
 use crate::table::WordTable;
-use crate::tails::tails_of;
+use crate::tails::put_together;
 use crate::walk::counted;
 use ideal_laws::Basis;
 use lead_index::LeadIndex;
@@ -67,14 +67,27 @@ pub(crate) fn walk_by_number(
     let mut spans = Vec::new(alloc);
     let mut numbers = Vec::new(alloc);
     let elements = packed_basis(alloc, basis, table.packing())?;
+    let mut letters = Vec::new(alloc);
+    let mut tails = Vec::new(alloc);
+    let mut words = Vec::new(alloc);
     let mut next = 0;
     while next < table.len() {
-        let tails = tails_of(alloc, basis, index, elements.as_slice(), &table, next, d)?;
-        for span in &tails.spans {
+        put_together(
+            basis,
+            index,
+            elements.as_slice(),
+            &table,
+            next,
+            d,
+            &mut letters,
+            &mut tails,
+            &mut words,
+        )?;
+        for span in &tails {
             let (span, more) = push_reducer(
                 basis,
                 *span,
-                tails.words.as_slice(),
+                words.as_slice(),
                 next as u32,
                 most,
                 entries,
