@@ -2,7 +2,7 @@
 use Rattle.std.proofs.Common.{◌≡◌, ◌≢◌, ◌<◌, ◌+◌, ℕ, zero, suc, List, [], ◌∷◌, ◌++◌, length, take, get_or, sym, ap, ◌∙◌, arith, All, AllPairs}
 use Rattle.std.proofs.Common.{Option, Some, None, subst, length-append}
 use Rattle.std.specs.List.{AllZip, Contains, slice_get}
-use Rattle.std.proofs.lemmas.List.{append-nil, get_or_default, take_more}
+use Rattle.std.proofs.lemmas.List.{get_or_default, take_more}
 use Rattle.std.proofs.lemmas.List.Elements.{All-head, All-tail}
 use Rattle.std.proofs.Math.Seq.{get_or-append_seam}
 use Rattle.std.proofs.lemmas.Option.{slice_get-get_or}
@@ -17,6 +17,7 @@ use Rattle.symbolic_prep.specs.Columns.{IsOnColumns}
 use Rattle.symbolic_prep.specs.Numbers.{AreListed, IsLonger, IsSpanOf, StandsAt, residues_of}
 use Rattle.symbolic_prep.proofs.Numbers.{grown_none}
 use Rattle.symbolic_prep.proofs.NumberWalks.{spans-more}
+use Rattle.symbolic_prep.proofs.Parts.{part_last}
 use Rattle.symbolic_prep.proofs.Walks.{AllZip-push}
 
 -- falling words are pairwise different
@@ -35,12 +36,8 @@ module _ (columns : List (List ℕ)) (n m : List ℕ) (f : List Term) (h : AreLi
   pub listed_stands : (r q : List (List ℕ)) → q ≡ r ++ residues_of f ∷ [] → (s : Span) → length n ≡ s.start → length m ≡ s.end →
       length r ≡ s.element → StandsAt columns m q s f
   listed_stands r q pushed s starts ends is = record {
-    before = n;
     ns = h.ns;
-    behind = [];
-    numbers_are = h.numbers_are ∙ sym (append-nil (n ++ h.ns));
-    starts = starts;
-    ends = omega (arith, ap length h.numbers_are, length-append n h.ns, starts, ends);
+    place = part_last n m h.ns s.start s.end h.numbers_are starts ends;
     residues_are = ap (slice_get q) (sym is) ∙ ap (λ (xs : List (List ℕ)). slice_get xs (length r)) pushed ∙ slice_get-last r (residues_of f);
     are_terms = h.are_terms;
   }

@@ -1,5 +1,5 @@
 -- A walk by number, with its words put in order.
-use Rattle.std.proofs.Common.{◌≡◌, ◌≢◌, ◌<◌, ◌≤◌, ◌+◌, ℕ, List, [], ◌∷◌, ◌++◌, length, map, get_or, refl, sym, ap, ◌∙◌, arith, All}
+use Rattle.std.proofs.Common.{◌≡◌, ◌≢◌, ◌<◌, ◌≤◌, ◌+◌, ℕ, List, [], ◌∷◌, length, map, get_or, refl, sym, ap, ◌∙◌, arith, All}
 use Rattle.std.proofs.Common.{AllPairs, Option, Some, None, subst, length-append}
 use Rattle.std.specs.List.{AllZip, Contains, flat_map, range_with_len, slice_get, sum_by}
 use Rattle.std.specs.List.Sorted.{IsPermutation}
@@ -15,11 +15,11 @@ use Rattle.ideal_laws.specs.Closure.{HasReducer}
 use Rattle.ideal_laws.specs.Quantities.{reducers_in, terms_in}
 use Rattle.symbolic_prep.specs.declared.lists.Span.{Span}
 use Rattle.symbolic_prep.specs.Columns.{IsListedClosure}
-use Rattle.symbolic_prep.specs.Numbers.{IsListing, IsNumberWalk, IsSpanOf, StandsAt, residues_of}
+use Rattle.symbolic_prep.specs.Numbers.{IsListing, IsNumberWalk, IsPart, IsSpanOf, StandsAt, residues_of}
 use Rattle.symbolic_prep.specs.Orders.{IsMoved, IsMovedTo, IsOrder, IsSpanIn, columns_at}
 use Rattle.symbolic_prep.specs.Walk.{count_terms}
 use Rattle.symbolic_prep.proofs.Ending.{AllZip-length}
-use Rattle.symbolic_prep.proofs.ListedClosures.{range_is}
+use Rattle.symbolic_prep.proofs.Parts.{part_within, range_is}
 use Rattle.symbolic_prep.proofs.Listings.{AllZip-at, closed_listing}
 use Rattle.symbolic_prep.proofs.Numbers.{AreTerms-renumbered, numbered_all}
 use Rattle.symbolic_prep.proofs.Orders.{apart-permutation}
@@ -84,14 +84,9 @@ module _ (words : List (List ℕ)) (order : List ℕ) (columns : List (List ℕ)
     stands_moved : (n m : List ℕ) (r : List (List ℕ)) (s t : Span) (f : List Term) → StandsAt words n r s f → IsMovedTo places n m s t →
         StandsAt columns m r t f
     stands_moved n m r s t f h k =
-        let ns = range_is n h.before h.ns h.behind s.start s.end h.numbers_are h.starts h.ends in
         record {
-          before = k.before;
           ns = columns_at places h.ns;
-          behind = k.behind;
-          numbers_are = k.moved_are ∙ ap (λ (xs : List ℕ). k.before ++ columns_at places xs ++ k.behind) ns;
-          starts = k.starts;
-          ends = omega (arith, k.ends, ap length ns, length-map h.ns (λ n. get_or places n 0));
+          place = subst (λ (xs : List ℕ). IsPart m (columns_at places xs) t.start t.end) (range_is n h.ns s.start s.end h.place) k.place;
           residues_are = ap (slice_get r) k.element ∙ h.residues_are;
           are_terms = AreTerms-renumbered words columns (λ n. get_or places n 0) moved h.ns (residues_of f) f h.are_terms;
         }
@@ -183,6 +178,6 @@ spans_in words n r (None ∷ spans) (None ∷ os) z = All-cons (IsSpanIn n) None
 spans_in words n r (None ∷ spans) (Some f ∷ os) z = absurd z.0
 spans_in words n r (Some s ∷ spans) (None ∷ os) z = absurd z.0
 spans_in words n r (Some s ∷ spans) (Some f ∷ os) z = All-cons (IsSpanIn n) (Some s) spans (
-  omega (arith, z.0.ends),
-  omega (arith, z.0.ends, z.0.starts, ap length z.0.numbers_are, length-append (z.0.before ++ z.0.ns) z.0.behind, length-append z.0.before z.0.ns),
+  omega (arith, z.0.place.ends),
+  part_within n z.0.ns s.start s.end z.0.place,
 ) (spans_in words n r spans os z.1)

@@ -8,6 +8,7 @@ pub mod Contested
 pub mod Ending
 pub mod Single
 pub mod Digits
+pub mod Parts
 pub mod Numbers
 pub mod Keys
 pub mod PackedWords

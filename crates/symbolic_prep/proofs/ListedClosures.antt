@@ -1,8 +1,7 @@
 -- A closure that is listed.
-use Rattle.std.proofs.Common.{◌≡◌, ◌↔◌, ◌≤◌, ◌<◌, ◌+◌, ◌-◌, ◌++◌, ℕ, List, [], ◌∷◌, length, map, take, drop, refl, sym, ap, ◌∙◌, arith, All, Option}
-use Rattle.std.proofs.Common.{Some, None, subst, length-append, append_assoc}
-use Rattle.std.specs.List.{AllZip, Contains, slice_range}
-use Rattle.std.proofs.Math.Seq.{drop-append_seam, take-append_seam}
+use Rattle.std.proofs.Common.{◌≡◌, ◌↔◌, ◌≤◌, ◌<◌, ◌+◌, ℕ, List, [], ◌∷◌, length, map, take, drop, refl, sym, ap, ◌∙◌, arith, All, Option}
+use Rattle.std.proofs.Common.{Some, None, subst}
+use Rattle.std.specs.List.{AllZip, Contains}
 use Rattle.std.proofs.lemmas.List.{length-map}
 use Rattle.std.proofs.lemmas.List.Elements.{All-cons, All-nil}
 use Rattle.std.proofs.lemmas.Option.{get_or_from_slice_get, slice_get_within}
@@ -20,6 +19,7 @@ use Rattle.symbolic_prep.specs.Orders.{HaveOneDegree}
 use Rattle.symbolic_prep.specs.Walk.{IsWalked}
 use Rattle.symbolic_prep.proofs.Ending.{AllZip-length}
 use Rattle.symbolic_prep.proofs.Numbers.{terms_on-is}
+use Rattle.symbolic_prep.proofs.Parts.{part_within, range_is}
 use Rattle.symbolic_prep.proofs.Reduced.{AreTerms-below, AreTerms-length}
 use Rattle.symbolic_prep.proofs.Stays.{IsWord, stays}
 use Rattle.symbolic_prep.proofs.Walks.{same_columns}
@@ -59,24 +59,6 @@ walked_listed G words from limit columns held entries spans n r h listed = recor
 }
 
 -- and the other way: the reducers are those that are listed
-pub listed_walked : (G : List (List Term)) (words : List (List ℕ)) (from limit : ℕ) (columns : List (List ℕ)) (spans : List (Option Span))
-    (n : List ℕ) (r : List (List ℕ)) (entries : ℕ)
-    → (h : IsListedClosure G words from limit columns spans n r entries) → IsWalked G words from limit columns h.reducers entries
-listed_walked G words from limit columns spans n r entries h = record {
-  reducers = h.reducers;
-  closed = h.closed;
-  counted = record { count = h.count; size = refl; same = λ le. refl };
-}
-
--- what stands between others
-pub range_is : {X : Type 0} (xs before mid behind : List X) (start end : ℕ) → xs ≡ before ++ mid ++ behind → length before ≡ start →
-    start + length mid ≡ end → slice_range xs start end ≡ mid
-range_is xs before mid behind start end e first last =
-    ap (slice_range xs start) (sym last) ∙ ap (λ (s : ℕ). slice_range xs s (s + length mid)) (sym first)
-    ∙ (let long : length before + length mid - length before ≡ length mid = omega arith in ap (λ (k : ℕ). take k (drop (length before) xs)) long)
-    ∙ ap (λ ys. take (length mid) (drop (length before) ys)) (e ∙ append_assoc before mid behind)
-    ∙ ap (take (length mid)) (drop-append_seam before (mid ++ behind)) ∙ take-append_seam mid behind
-
 -- a reducer has a term
 reducer_some : (G : List (List Term)) (w : List ℕ) (f : List Term) → IsReducer G w f → 0 < length f
 reducer_some G w f q = some q.element q.is_lead q.is
@@ -88,7 +70,7 @@ reducer_some G w f q = some q.element q.is_lead q.is
 module _ (columns : List (List ℕ)) (n : List ℕ) (r : List (List ℕ)) where
   stands_on : (s : Span) (f : List Term) → StandsAt columns n r s f → reducer_on columns n r (Some s) ≡ Some f
   stands_on s f h =
-      let ns = range_is n h.before h.ns h.behind s.start s.end h.numbers_are h.starts h.ends in
+      let ns = range_is n h.ns s.start s.end h.place in
       let rs = get_or_from_slice_get r s.element (residues_of f) [] h.residues_are in
       (λ i. Some (terms_on columns (ns i) (rs i))) ∙ ap Some (terms_on-is columns h.ns (residues_of f) f h.are_terms)
 
@@ -110,19 +92,19 @@ module _ (columns : List (List ℕ)) (n : List ℕ) (r : List (List ℕ)) where
 
   within_one : (s : Span) (f : List Term) → StandsAt columns n r s f → 0 < length f → IsSpanWithin (length columns) n r (Some s)
   within_one s f h some =
-      let ns = range_is n h.before h.ns h.behind s.start s.end h.numbers_are h.starts h.ends in (
+      let ns = range_is n h.ns s.start s.end h.place in (
         omega (
           arith,
           some,
-          h.ends,
+          h.place.ends,
           AreTerms-length columns h.ns (residues_of f) f h.are_terms,
           length-map f (λ (t : Term). t.coefficient),
         ),
-        omega (arith, ap length h.numbers_are, length-append (h.before ++ h.ns) h.behind, length-append h.before h.ns, h.starts, h.ends),
+        part_within n h.ns s.start s.end h.place,
         slice_get_within r s.element (residues_of f) h.residues_are,
         omega (
           arith,
-          h.ends,
+          h.place.ends,
           AreTerms-length columns h.ns (residues_of f) f h.are_terms,
           ap length (get_or_from_slice_get r s.element (residues_of f) [] h.residues_are),
         ),

@@ -1,23 +1,19 @@
 -- Reducers that are put in another order, one behind another.
 use Rattle.std.proofs.Common.{◌≡◌, ◌+◌, ◌<◌, ℕ, List, [], ◌∷◌, ◌++◌, length, map, take, get_or, sym, ap, ◌∙◌, Option, Some, None, subst}
-use Rattle.std.proofs.Common.{◌-◌, append-nil, append_assoc, arith, drop, length-append, slice_index}
+use Rattle.std.proofs.Common.{◌-◌, drop, slice_index}
 use Rattle.std.specs.List.{AllZip, slice_range}
-use Rattle.std.proofs.lemmas.List.{drop-map, length-map, map-append, take-map, take_more}
+use Rattle.std.proofs.lemmas.List.{drop-map, map-append, take-map, take_more}
 use Rattle.symbolic_prep.specs.declared.lists.Span.{Span}
 use Rattle.symbolic_prep.specs.Numbers.{IsLonger}
 use Rattle.symbolic_prep.specs.Orders.{IsMoved, IsMovedTo, columns_at}
+use Rattle.symbolic_prep.proofs.Parts.{part_last, part_longer}
 use Rattle.symbolic_prep.proofs.Walks.{AllZip-push}
 
 module _ (columns numbers m q : List ℕ) (l : IsLonger m q) where
   -- what has moved stays where more is put behind it
   moved-more : (s t : Span) → IsMovedTo columns numbers m s t → IsMovedTo columns numbers q s t
   moved-more s t h = record {
-    before = h.before;
-    behind = h.behind ++ l.more;
-    moved_are = l.joined ∙ ap (λ (xs : List ℕ). xs ++ l.more) h.moved_are
-        ∙ append_assoc (h.before ++ columns_at columns (slice_range numbers s.start s.end)) h.behind l.more;
-    starts = h.starts;
-    ends = h.ends;
+    place = part_longer m (columns_at columns (slice_range numbers s.start s.end)) t.start t.end q l h.place;
     element = h.element;
   }
 
@@ -57,18 +53,7 @@ moved_part columns numbers placed old new s t is made starts ends element =
     let part : slice_range placed s.start s.end ≡ columns_at columns (slice_range numbers s.start s.end) =
     ap (λ (xs : List ℕ). slice_range xs s.start s.end) is ∙ range_at columns numbers s.start s.end in
     record {
-      before = old;
-      behind = [];
-      moved_are = made ∙ ap (λ (xs : List ℕ). old ++ xs) part ∙ sym (append-nil (old ++ columns_at columns (slice_range numbers s.start s.end)));
-      starts = starts;
-      ends = omega (
-        arith,
-        starts,
-        ends,
-        ap length made,
-        length-append old (slice_range placed s.start s.end),
-        ap length part,
-        length-map (slice_range numbers s.start s.end) (λ n. slice_index columns n),
-      );
+      place = part_last old new (columns_at columns (slice_range numbers s.start s.end)) t.start t.end
+          (made ∙ ap (λ (xs : List ℕ). old ++ xs) part) starts ends;
       element = element;
     }

@@ -1,6 +1,6 @@
 -- A walk by number, step by step.
 use Rattle.std.proofs.Common.{◌≡◌, ◌≢◌, ◌+◌, ◌<◌, ◌≤◌, ℕ, List, [], ◌∷◌, ◌++◌, length, map, get_or, sym, ap, ◌∙◌, arith, All, AllPairs, Option, Some, None}
-use Rattle.std.proofs.Common.{subst, append_assoc, length-append}
+use Rattle.std.proofs.Common.{subst, length-append}
 use Rattle.std.specs.List.{AllZip, Contains, slice_get}
 use Rattle.std.proofs.lemmas.List.Elements.{All-nil}
 use Rattle.free_poly.specs.declared.term.Term.{Term}
@@ -13,6 +13,7 @@ use Rattle.symbolic_prep.specs.declared.lists.Span.{Span}
 use Rattle.symbolic_prep.specs.Walk.{tail_words}
 use Rattle.symbolic_prep.specs.Numbers.{AreTerms, IsGrown, IsLonger, IsNumberWalk, IsReducedTo, IsSpanOf, StandsAt, residues_of}
 use Rattle.symbolic_prep.proofs.Numbers.{AreTerms-more, numbered_more, numbered_none}
+use Rattle.symbolic_prep.proofs.Parts.{part_longer}
 use Rattle.symbolic_prep.proofs.Reduced.{longer_none, slice_get-more}
 use Rattle.symbolic_prep.proofs.Stays.{IsWord}
 use Rattle.symbolic_prep.proofs.Walks.{AllZip-push, reducers_in-push}
@@ -22,12 +23,8 @@ module _ (words new wanted : List (List ℕ)) (n m : List ℕ) (r q : List (List
     (k : IsLonger r q) where
   stands-more : (s : Span) (f : List Term) → StandsAt words n r s f → StandsAt new m q s f
   stands-more s f h = record {
-    before = h.before;
     ns = h.ns;
-    behind = h.behind ++ l.more;
-    numbers_are = l.joined ∙ ap (λ (xs : List ℕ). xs ++ l.more) h.numbers_are ∙ append_assoc (h.before ++ h.ns) h.behind l.more;
-    starts = h.starts;
-    ends = h.ends;
+    place = part_longer n h.ns s.start s.end m l h.place;
     residues_are = ap (λ (xs : List (List ℕ)). slice_get xs s.element) k.joined ∙ slice_get-more r k.more s.element (residues_of f) h.residues_are;
     are_terms = subst (λ (ws : List (List ℕ)). AreTerms ws h.ns (residues_of f) f) (sym g.joined)
         (AreTerms-more words g.more h.ns (residues_of f) f h.are_terms);

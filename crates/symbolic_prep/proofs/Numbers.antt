@@ -9,12 +9,12 @@ use Rattle.words.specs.Order.{IsLetterwiseGreater}
 use Rattle.words.proofs.Members.{Contains-cases, Contains-none}
 use Rattle.free_poly.specs.declared.term.Term.{Term}
 use Rattle.free_poly.specs.Poly.{IsPolynomial}
-use Rattle.ideal_laws.specs.Closure.{AreColumns, HasReducer, IsInClosure, given, brought, IsReducer}
+use Rattle.ideal_laws.specs.Closure.{HasReducer, IsInClosure, given, brought, IsReducer}
 use Rattle.ideal_laws.specs.Engine.{Elements}
 use Rattle.ideal_laws.specs.Kept.{IsKept}
 use Rattle.lead_index.specs.declared.lead.Lead.{Lead}
 use Rattle.lead_index.specs.Leads.{IsIndex, IsIndexOf}
-use Rattle.symbolic_prep.specs.Walk.{HasMore, tail_words}
+use Rattle.symbolic_prep.specs.Walk.{HasMore, HasMoreColumns, tail_words}
 use Rattle.symbolic_prep.specs.Numbers.{AreListed, AreTerms, IsGrown, IsNumbered, residues_of, terms_on}
 use Rattle.symbolic_prep.proofs.Stays.{IsWord, stays}
 use Rattle.symbolic_prep.proofs.Listing.{brought_words, has_columns, tail_brought}
@@ -40,7 +40,7 @@ module _ (b : Elements) (kept : IsKept b) (forms : All IsPolynomial b.elements) 
   G = b.elements
 
   -- where more different words of the closure are at hand than are asked for, there are more columns
-  pub closure_many : (most : ℕ) → HasMore most (IsInClosure G given_words) → (cs : List (List ℕ)) × AreColumns G given_words cs × (most < length cs)
+  pub closure_many : (most : ℕ) → HasMore most (IsInClosure G given_words) → HasMoreColumns G given_words most
   closure_many most more =
       let all = has_columns b kept forms d leads index indexed given_words are_words in
       (all.columns, all.are, omega (arith, at_most more.words all.columns more.apart (λ x m. (all.are.exactly x).1 (more.each x m)), more.more))

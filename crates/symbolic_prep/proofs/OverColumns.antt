@@ -1,5 +1,5 @@
 -- The reducers of a closure over its columns.
-use Rattle.std.proofs.Common.{◌+◌, ℕ, List, [], ◌∷◌, take, drop, length, sym, All, Option, Some, None, subst}
+use Rattle.std.proofs.Common.{◌+◌, ◌<◌, ◌≤◌, ℕ, List, [], ◌∷◌, take, drop, length, map, refl, sym, All, Option, Some, None, subst}
 use Rattle.std.specs.List.{AllZip, Contains}
 use Rattle.std.proofs.lemmas.List.Elements.{All-contains}
 use Rattle.words.proofs.Members.{All-from_members, Contains-first, Contains-map, Contains-more}
@@ -9,7 +9,12 @@ use Rattle.free_poly.specs.Terms.{product}
 use Rattle.ideal_laws.specs.Closure.{AreColumns, HasReducer, brought}
 use Rattle.ideal_laws.specs.Engine.{Elements}
 use Rattle.ideal_laws.specs.Kept.{IsKept, IsKeptElement}
+use Rattle.ideal_laws.specs.Quantities.{contested_words}
+use Rattle.symbolic_prep.specs.declared.lists.Span.{Span}
 use Rattle.symbolic_prep.specs.Closed.{MayReduceOver}
+use Rattle.symbolic_prep.specs.Columns.{IsKeptClosed, IsListedClosure}
+use Rattle.symbolic_prep.specs.Numbers.{reducer_on}
+use Rattle.symbolic_prep.proofs.ListedClosures.{reducers_on, spans_long, spans_within}
 use Rattle.symbolic_prep.proofs.Stays.{IsWord, stays, words_of_reducer}
 
 IsMonic-product : (u : List ℕ) (f : List Term) (v : List ℕ) → IsMonic f → IsMonic (product u f v)
@@ -47,3 +52,19 @@ module _ (b : Elements) (kept : IsKept b) (forms : All IsPolynomial b.elements) 
   pub reducers_over : (reducers : List (Option (List Term))) → AllZip (HasReducer b.elements) columns reducers →
       AllZip (MayReduceOver columns) columns reducers
   reducers_over reducers have = all_reduce columns reducers (λ w m. m) have
+
+  -- and what is kept of the closure stands
+  pub listed_kept : (from limit : ℕ) (spans : List (Option Span)) (n : List ℕ) (r : List (List ℕ)) (entries : ℕ) →
+      (h : IsListedClosure b.elements given_words from limit columns spans n r entries) → entries ≤ limit → length columns < 4294967296 →
+      IsKeptClosed columns spans n r (contested_words columns (map (reducer_on columns n r) spans))
+  listed_kept from limit spans n r entries h le few =
+      let z = h.listed le in
+      record {
+        few = few;
+        falling = are.falling;
+        size = spans_long columns n r b.elements columns spans h.reducers h.closed.are_reducers z;
+        within = spans_within columns n r b.elements columns spans h.reducers h.closed.are_reducers z;
+        reducers = subst (AllZip (MayReduceOver columns) columns) (sym (reducers_on columns n r spans h.reducers z))
+            (reducers_over h.reducers h.closed.are_reducers);
+        contested_is = refl;
+      }

@@ -1,6 +1,6 @@
 -- The multiple of an element that is the reducer of a word, packed.
 use Rattle.std.proofs.Common.{◌≡◌, ◌+◌, ◌<◌, ◌≤◌, ℕ, List, [], ◌∷◌, ◌++◌, All, length, map, take, drop, get_or, refl, sym, ap, ◌∙◌, arith}
-use Rattle.std.proofs.Common.{Some, subst, append_assoc, length-append}
+use Rattle.std.proofs.Common.{Some, subst, append_assoc}
 use Rattle.std.specs.List.{AllZip, slice_get}
 use Rattle.std.specs.Option.{option_map}
 use Rattle.std.proofs.lemmas.List.{append-nil, get_or-map, get_or_default, map-append, take_more}
@@ -19,11 +19,12 @@ use Rattle.lead_index.specs.Leads.{IsFirstReducer, IsIndexOf}
 use Rattle.symbolic_prep.specs.declared.lists.Span.{Span}
 use Rattle.symbolic_prep.specs.declared.packing.PackedWord.{PackedWord}
 use Rattle.symbolic_prep.specs.Numbers.{residues_of}
-use Rattle.symbolic_prep.specs.PackedWords.{ArePacked, ArePackedWithin, HasMultiple, IsPackedWord, first_len, letters_in}
+use Rattle.symbolic_prep.specs.PackedWords.{ArePacked, ArePackedWithin, HasMultiple, IsPackedAs, IsPackedWord, first_len, letters_in}
 use Rattle.symbolic_prep.specs.Tails.{HasTail}
 use Rattle.symbolic_prep.proofs.Ending.{AllZip-length}
 use Rattle.symbolic_prep.proofs.Listings.{AllZip-at}
-use Rattle.symbolic_prep.proofs.PackedWords.{IsPackedAs, first_len-is, length-packed, multiple_words, packed_tail}
+use Rattle.symbolic_prep.proofs.PackedWords.{first_len-is, length-packed, multiple_words, packed_tail}
+use Rattle.symbolic_prep.proofs.Parts.{part_last}
 use Rattle.symbolic_prep.proofs.Reduced.{parts_fit, residues_of-product, tail_product}
 use Rattle.symbolic_prep.proofs.Reducing.{IsElementAt, element_at, element_within}
 use Rattle.symbolic_prep.proofs.Stays.{words_of_reducer}
@@ -55,7 +56,7 @@ module _ (b : Elements) (kept : IsKept b) (forms : All IsPolynomial b.elements) 
   pub listed : element < length lists
   listed = omega (arith, within, AllZip-length (ArePackedWithin bits room) b.elements lists zipped)
 
-  module _ (ps qs : List PackedWord) (list_is : ps ≡ get_or lists element []) (tail_is : qs ≡ drop 1 ps) where
+  module _ (p : PackedWord) (own : IsPackedAs bits room w p) (ps qs : List PackedWord) (list_is : ps ≡ get_or lists element []) (tail_is : qs ≡ drop 1 ps) where
     abbrev f : List Term
     f = get_or b.elements element []
 
@@ -71,8 +72,8 @@ module _ (b : Elements) (kept : IsKept b) (forms : All IsPolynomial b.elements) 
         (λ i t lt. omega (arith, parts_fit b kept forms w letters (take at w) (drop (at + length (lead_or_none f)) w) f e.reducer room fits i t lt))
 
     -- the leading word stands in the word
-    pub lead_within : at + first_len ps ≤ length w
-    lead_within = omega (arith, e.fits, first_len-is bits room f ps packed)
+    pub lead_within : at + first_len ps ≤ p.len
+    lead_within = omega (arith, e.fits, first_len-is bits room f ps packed, own.is.len, ap length own.letters)
 
     is_reducer : IsReducer b.elements w (product (take at w) (get_or b.elements element []) (drop (at + first_len ps) w))
     is_reducer = subst (λ (n : ℕ). IsReducer b.elements w (product (take at w) f (drop (at + n) w))) (sym (first_len-is bits room f ps packed)) e.reducer
@@ -83,21 +84,28 @@ module _ (b : Elements) (kept : IsKept b) (forms : All IsPolynomial b.elements) 
     pub tail_each : All (IsPackedWord bits room) qs
     tail_each = tail_packed.each
 
-    module _ (u v : PackedWord) (h : IsPackedAs bits room (take at w) u) (k : IsPackedAs bits room (drop (at + first_len ps) w) v) where
+    module _ (u v : PackedWord) (n : ℕ) (is_first : n ≡ first_len ps) (front : IsPackedAs bits room (take at (letters_in bits room p)) u)
+        (back : IsPackedAs bits room (drop (at + n) (letters_in bits room p)) v) where
+      before_is : letters_in bits room u ≡ take at w
+      before_is = front.letters ∙ ap (take at) own.letters
+
+      behind_is : letters_in bits room v ≡ drop (at + first_len ps) w
+      behind_is = back.letters ∙ (λ i. drop (at + is_first i) (own.letters i))
+
       -- the words behind the leading one have room in the word
-      pub tail_fits : All (λ p. u.len + p.len + v.len ≤ room) qs
-      tail_fits = subst (All (λ (p : PackedWord). u.len + p.len + v.len ≤ room)) (sym tail_is)
-          (All-drop (λ (p : PackedWord). u.len + p.len + v.len ≤ room) 1 ps (λ i d lt.
+      pub tail_fits : All (λ q. u.len + q.len + v.len ≤ room) qs
+      tail_fits = subst (All (λ (q : PackedWord). u.len + q.len + v.len ≤ room)) (sym tail_is)
+          (All-drop (λ (q : PackedWord). u.len + q.len + v.len ≤ room) 1 ps (λ i d lt.
           let inside : i < length f = omega (arith, lt, length-packed bits room f ps packed) in
           let none : Term = record { word = []; coefficient = 0 } in
           let same : letters_in bits room (get_or ps i d) ≡ (get_or f i none).word = sym (get_or-map (letters_in bits room) ps i d [] lt)
           ∙ ap (λ (ws : List (List ℕ)). get_or ws i []) packed.words ∙ get_or-map (λ (t : Term). t.word) f i none [] inside in
           omega (
             arith,
-            h.is.len,
-            ap length h.letters,
-            k.is.len,
-            ap length k.letters,
+            front.is.len,
+            ap length before_is,
+            back.is.len,
+            ap length behind_is,
             (packed.each i d lt).len,
             ap length same,
             parts_fit b kept forms w letters (take at w) rest f is_reducer room fits i none inside,
@@ -113,13 +121,9 @@ module _ (b : Elements) (kept : IsKept b) (forms : All IsPolynomial b.elements) 
             is = is_reducer;
             tail = record {
               lead = (words_of_reducer b kept forms (degree_of b.weights w) w (letters, refl) r is_reducer).lead;
-              before = old;
               own = m.more;
-              behind = [];
-              tails_are = m.joined ∙ sym (append-nil (old ++ m.more));
-              starts = starts;
-              ends = omega (arith, starts, ends, ap length m.joined, length-append old m.more);
-              words = m.letters ∙ (λ i. map (λ (p : PackedWord). h.letters i ++ letters_in bits room p ++ k.letters i) qs)
+              place = part_last old new m.more s.start s.end m.joined starts ends;
+              words = m.letters ∙ (λ i. map (λ (q : PackedWord). before_is i ++ letters_in bits room q ++ behind_is i) qs)
                   ∙ multiple_words bits room (take at w) rest (below_lead f) qs tail_packed.words ∙ tail_product (take at w) rest f;
               residues_are = ap (slice_get (map residues_of b.elements)) is ∙ slice_get-map residues_of b.elements element
                   ∙ ap (option_map residues_of) e.place ∙ ap Some (sym (residues_of-product (take at w) rest f));

@@ -13,19 +13,15 @@ use Rattle.ideal_laws.specs.Basis.{below_lead}
 use Rattle.symbolic_prep.specs.declared.packing.PackedWord.{PackedWord}
 use Rattle.symbolic_prep.specs.Packing.{HasDigits, IsKey, IsTable, Table, packed, unpacked}
 use Rattle.symbolic_prep.specs.Numbers.{IsGrown}
-use Rattle.symbolic_prep.specs.PackedWords.{ArePacked, IsPackedWord, first_len, letters_in}
+use Rattle.symbolic_prep.specs.PackedWords.{ArePacked, IsPackedAs, IsPackedWord, first_len, letters_in}
 use Rattle.symbolic_prep.proofs.Digits.{front_is, joined_is, packed_fits}
 use Rattle.symbolic_prep.proofs.Keys.{key_below, key_is, table_grown, table_more, table_number, three_digits, three_long, word_of_key}
 use Rattle.symbolic_prep.proofs.Walks.{AllZip-push}
 
 module _ (bits room : ℕ) where
   -- the key and the count of a word
-  pub record IsPackedAs (w : List ℕ) (p : PackedWord) : Type 0 where
-    pub is : IsPackedWord bits room p
-    pub letters : letters_in bits room p ≡ w
-
   pub packed_as : (w : List ℕ) (p : PackedWord) → HasDigits bits w → length w ≤ room → p.key ≡ packed (2 ^ bits) room w → p.len ≡ length w →
-      IsPackedAs w p
+      IsPackedAs bits room w p
   packed_as w p over fits key len =
       let same : letters_in bits room p ≡ w = ap (unpacked (2 ^ bits) room) key ∙ key_is bits room w over fits in
       record {
@@ -40,7 +36,7 @@ module _ (bits room : ℕ) where
 
   -- the letters before a place
   pub front_as : (p q : PackedWord) → IsPackedWord bits room p → q.len ≤ p.len → q.key ≡ p.key - p.key % 2 ^ (bits * (room - q.len)) →
-      IsPackedAs (take q.len (letters_in bits room p)) q
+      IsPackedAs bits room (take q.len (letters_in bits room p)) q
   front_as p q h within is =
       let w = letters_in bits room p in
       let inside : q.len ≤ length w = omega (arith, within, h.len) in
@@ -50,7 +46,7 @@ module _ (bits room : ℕ) where
 
   -- and those behind it
   pub back_as : (p q : PackedWord) (at : ℕ) → IsPackedWord bits room p → at ≤ p.len → q.len ≡ p.len - at →
-      q.key ≡ packed (2 ^ bits) room (drop at (letters_in bits room p)) → IsPackedAs (drop at (letters_in bits room p)) q
+      q.key ≡ packed (2 ^ bits) room (drop at (letters_in bits room p)) → IsPackedAs bits room (drop at (letters_in bits room p)) q
   back_as p q at h within len key =
       let w = letters_in bits room p in
       packed_as (drop at w) q (All-drop (λ x. suc x < 2 ^ bits) at w h.over) (omega (arith, length-drop at w, h.fits)) key
@@ -82,7 +78,7 @@ module _ (bits room : ℕ) where
     sum_fits = omega (arith, sum_is, packed_fits bits room three whole over_three (omega (arith, long_three, fits)))
 
     pub joined_as : (q : PackedWord) → q.key ≡ u.key + second + third → q.len ≡ u.len + t.len + v.len →
-        IsPackedAs (letters_in bits room u ++ letters_in bits room t ++ letters_in bits room v) q
+        IsPackedAs bits room (letters_in bits room u ++ letters_in bits room t ++ letters_in bits room v) q
     joined_as q key len = packed_as three q over_three (omega (arith, long_three, fits)) (key ∙ sum_is) (len ∙ sym long_three)
 
   -- a table with one word more

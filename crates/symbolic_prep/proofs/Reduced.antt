@@ -20,6 +20,7 @@ use Rattle.symbolic_prep.specs.Packing.{HasDigits}
 use Rattle.symbolic_prep.specs.Walk.{tail_words}
 use Rattle.symbolic_prep.specs.Numbers.{AreListed, AreTerms, IsGrown, IsLonger, StandsAt, residues_of}
 use Rattle.symbolic_prep.proofs.Keys.{three_long}
+use Rattle.symbolic_prep.proofs.Parts.{part_last}
 use Rattle.symbolic_prep.proofs.Stays.{words_of_reducer}
 
 pub digits_of : (names bits : ℕ) (w : List ℕ) → names < 2 ^ bits → IsOver names w → HasDigits bits w
@@ -91,12 +92,8 @@ module _ (G : List (List Term)) (w : List ℕ) (f : List Term) (lead : lead_of f
   pub stands_at : (s : Span) → length n0 ≡ s.start → length n2 ≡ s.end → slice_get (map residues_of G) s.element ≡ Some (residues_of f) →
       StandsAt new n2 (map residues_of G) s f
   stands_at s starts ends place = record {
-    before = n0;
     ns = number ∷ listed.ns;
-    behind = [];
-    numbers_are = numbers ∙ sym (append-nil (n0 ++ (number ∷ listed.ns)));
-    starts = starts;
-    ends = omega (arith, ap length numbers, length-append n0 (number ∷ listed.ns), starts, ends);
+    place = part_last n0 n2 (number ∷ listed.ns) s.start s.end numbers starts ends;
     residues_are = place;
     are_terms = own_terms f lead listed.are_terms;
   }

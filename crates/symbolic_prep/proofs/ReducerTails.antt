@@ -1,6 +1,6 @@
 -- The reducers of words in a row, before their own words have numbers.
 use Rattle.std.proofs.Common.{◌≡◌, ◌+◌, ◌<◌, ℕ, List, [], ◌∷◌, ◌++◌, length, map, get_or, sym, ap, ◌∙◌, arith, Option, Some, None, subst}
-use Rattle.std.proofs.Common.{append_assoc, inl, inr, length-append}
+use Rattle.std.proofs.Common.{inl, inr, length-append}
 use Rattle.std.specs.List.{slice_range}
 use Rattle.std.proofs.Math.Seq.{get_or-append_seam}
 use Rattle.std.proofs.lemmas.Bool.{cases_lt}
@@ -14,7 +14,7 @@ use Rattle.symbolic_prep.specs.declared.packing.PackedWord.{PackedWord}
 use Rattle.symbolic_prep.specs.Numbers.{IsLonger}
 use Rattle.symbolic_prep.specs.PackedWords.{letters_in}
 use Rattle.symbolic_prep.specs.Tails.{HasTail, IsTailAt, IsTailOf}
-use Rattle.symbolic_prep.proofs.ListedClosures.{range_is}
+use Rattle.symbolic_prep.proofs.Parts.{part_longer, range_is}
 
 module _ (G : List (List Term)) (bits room : ℕ) where
   -- where there is a reducer
@@ -35,7 +35,7 @@ module _ (G : List (List Term)) (bits room : ℕ) where
       by_reducer : (o : Option (List Term)) → HasReducer G w o → IsTailOf G bits room tails w (Some s) o → HasOwn tails w s
       by_reducer None is t = absurd t
       by_reducer (Some f) is t =
-          let own : slice_range tails s.start s.end ≡ t.own = range_is tails t.before t.own t.behind s.start s.end t.tails_are t.starts t.ends in
+          let own : slice_range tails s.start s.end ≡ t.own = range_is tails t.own s.start s.end t.place in
           record {
             reducer = f;
             is = is;
@@ -62,12 +62,8 @@ module _ (G : List (List Term)) (bits room : ℕ) where
       still (Some s) None t = absurd t
       still (Some s) (Some f) t = record {
         lead = t.lead;
-        before = t.before;
         own = t.own;
-        behind = t.behind ++ l.more;
-        tails_are = l.joined ∙ ap (λ (ps : List PackedWord). ps ++ l.more) t.tails_are ∙ append_assoc (t.before ++ t.own) t.behind l.more;
-        starts = t.starts;
-        ends = t.ends;
+        place = part_longer tails t.own s.start s.end more l t.place;
         words = t.words;
         residues_are = t.residues_are;
       }

@@ -2,9 +2,19 @@
 use Rattle.std.proofs.Common.{◌≡◌, ◌⊎◌, ◌↔◌, ◌<◌, ◌≤◌, ◌^◌, ℕ, List, length, map, get_or, sym, ap, ◌∙◌, inl, inr, arith, All, subst}
 use Rattle.std.specs.List.{Contains}
 use Rattle.std.proofs.lemmas.List.Elements.{Contains-append_cases, Contains-append_left}
-use Rattle.words.specs.Words.{AreWeights}
+use Rattle.words.specs.Words.{AreWeights, IsOver, degree_of}
+use Rattle.words.proofs.Members.{All-from_members}
 use Rattle.words.proofs.Weights.{length-le-degree_of}
 use Rattle.free_poly.specs.declared.term.Term.{Term}
+use Rattle.free_poly.specs.Poly.{IsPolynomial}
+use Rattle.ideal_laws.specs.Engine.{Elements}
+use Rattle.ideal_laws.specs.Kept.{IsKept}
+use Rattle.ideal_laws.specs.Quantities.{words_of}
+use Rattle.lead_index.specs.declared.lead.Lead.{Lead}
+use Rattle.lead_index.specs.Leads.{IsIndex, IsIndexOf}
+use Rattle.symbolic_prep.specs.Walk.{HasMore, HasMoreColumns}
+use Rattle.symbolic_prep.proofs.Ending.{words_in_degree}
+use Rattle.symbolic_prep.proofs.Walks.{given_many, same_columns}
 use Rattle.free_poly.specs.Terms.{HasDegree, UsesLetters}
 use Rattle.symbolic_prep.specs.Numbers.{IsGrown}
 use Rattle.symbolic_prep.specs.declared.packing.PackedWord.{PackedWord}
@@ -45,3 +55,24 @@ module _ (weights : List ℕ) (are : AreWeights weights) (d bits room : ℕ) (ro
     degree i e within k s inside,
     length-le-degree_of weights are (get_or (get_or rows i e) k s).word,
   )
+
+module _ (b : Elements) (kept : IsKept b) (forms : All IsPolynomial b.elements) (d : ℕ) (rows : List (List Term))
+    (letters : All (UsesLetters (length b.weights)) rows) (degree : All (HasDegree b.weights d) rows) where
+  row_word : (w : List ℕ) → Contains (words_of rows) w → IsOver (length b.weights) w × (degree_of b.weights w ≡ d)
+  row_word = words_in_degree (length b.weights) b.weights d rows letters degree
+
+  -- words that are those of the rows
+  module _ (words : List (List ℕ)) (same : (w : List ℕ) → Contains words w ↔ Contains (words_of rows) w) where
+    pub given_word : (w : List ℕ) → Contains words w → IsOver (length b.weights) w × (degree_of b.weights w ≡ d)
+    given_word w m = row_word w ((same w).0 m)
+
+    pub given_words : All (λ w. IsOver (length b.weights) w × (degree_of b.weights w ≡ d)) words
+    given_words = All-from_members (λ w. IsOver (length b.weights) w × (degree_of b.weights w ≡ d)) words given_word
+
+    pub more_than : (most : ℕ) → HasMoreColumns b.elements words most → HasMoreColumns b.elements (words_of rows) most
+    more_than most all = (all.0, same_columns b.elements words (words_of rows) all.0 same all.1, all.2)
+
+  -- where they alone are too many
+  pub rows_more_than : (leads : List Lead) → IsIndex leads → IsIndexOf b.elements leads → (most : ℕ) → HasMore most (Contains (words_of rows)) →
+      HasMoreColumns b.elements (words_of rows) most
+  rows_more_than leads index indexed most more = given_many b kept forms d leads index indexed (words_of rows) row_word most more

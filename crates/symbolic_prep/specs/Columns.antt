@@ -7,6 +7,7 @@ use Rattle.free_poly.specs.declared.term.Term.{Term}
 use Rattle.ideal_laws.specs.Quantities.{contested_words, reducers_in, terms_in}
 use Rattle.symbolic_prep.specs.Closed.{IsClosed, MayReduceOver}
 use Rattle.symbolic_prep.specs.Numbers.{IsSpanOf, IsSpanWithin, reducer_on}
+use Rattle.symbolic_prep.specs.declared.by_number.ListedClosure.{ListedClosure}
 use Rattle.symbolic_prep.specs.declared.lists.Span.{Span}
 use Rattle.symbolic_prep.specs.declared.columns.ColumnWords.{ColumnWords}
 use Rattle.symbolic_prep.specs.declared.columns.ColumnWords.TheVariants.{Packed, Plain}
@@ -34,6 +35,11 @@ pub record IsListedClosure (G : List (List Term)) (words : List (List ℕ)) (fro
   pub closed : IsClosed G words (record { columns = columns; reducers = reducers })
   pub count : entries ≡ min (from + terms_in (reducers_in reducers)) (limit + 1)
   pub listed : entries ≤ limit → AllZip (IsSpanOf columns numbers residues) spans reducers
+
+-- the same of what is held
+abbrev pub IsListed : List (List Term) → List (List ℕ) → ℕ → ℕ → ListedClosure → Type 0
+IsListed G words from limit c = IsListedClosure G words from limit (words_in c.columns) c.lists.spans.items
+    c.lists.numbers.items c.lists.residues c.entries
 
 -- the words of a reducer, if there is one, are columns
 abbrev pub IsOnColumns : List (List ℕ) → Option (List Term) → Type 0

@@ -54,15 +54,19 @@ pub record AreListed (words : List (List ℕ)) (numbers more : List ℕ) (terms 
   pub numbers_are : more ≡ numbers ++ ns
   pub are_terms : AreTerms words ns (residues_of terms) terms
 
+-- a part of a list, from one place to another
+pub record IsPart {X : Type 0} (xs part : List X) (start end : ℕ) : Type 0 where
+  pub before : List X
+  pub behind : List X
+  pub joined : xs ≡ before ++ part ++ behind
+  pub starts : length before ≡ start
+  pub ends : start + length part ≡ end
+
 -- the words of a reducer stand from one place to another, and its coefficients are those of an element
 pub record StandsAt (words : List (List ℕ)) (numbers : List ℕ) (residues : List (List ℕ)) (span : Span)
     (terms : List Term) : Type 0 where
-  pub before : List ℕ
   pub ns : List ℕ
-  pub behind : List ℕ
-  pub numbers_are : numbers ≡ before ++ ns ++ behind
-  pub starts : length before ≡ span.start
-  pub ends : span.start + length ns ≡ span.end
+  pub place : IsPart numbers ns span.start span.end
   pub residues_are : slice_get residues span.element ≡ Some (residues_of terms)
   pub are_terms : AreTerms words ns (residues_of terms) terms
 

@@ -1,11 +1,12 @@
 -- Words by number in another order.
-use Rattle.std.specs.Prelude.{ℕ, ◌≡◌, ◌+◌, ◌<◌, ◌≤◌, ◌^◌, ◌++◌, List, All, AllPairs, Option, None, Some, map, length}
+use Rattle.std.specs.Prelude.{ℕ, ◌≡◌, ◌<◌, ◌≤◌, ◌^◌, List, All, AllPairs, Option, None, Some, map, length}
 use Rattle.std.specs.Prelude.{slice_get, slice_index, slice_range}
 use Rattle.std.specs.List.{range_with_len}
 use Rattle.std.specs.List.Sorted.{IsPermutation}
 use Rattle.words.specs.Order.{IsLetterwiseGreater}
 use Rattle.words.specs.Words.{AreWeights, degree_of}
 use Rattle.symbolic_prep.specs.declared.lists.Span.{Span}
+use Rattle.symbolic_prep.specs.Numbers.{IsPart}
 use Rattle.symbolic_prep.specs.Packing.{IsTable, unpacked}
 
 -- the keys rise, and beside each is its number
@@ -44,11 +45,7 @@ columns_at columns numbers = map (λ n. slice_index columns n) numbers
 
 -- the columns of the numbers of one span stand where another is, with the same element
 pub record IsMovedTo (columns numbers moved : List ℕ) (from to : Span) : Type 0 where
-  pub before : List ℕ
-  pub behind : List ℕ
-  pub moved_are : moved ≡ before ++ columns_at columns (slice_range numbers from.start from.end) ++ behind
-  pub starts : length before ≡ to.start
-  pub ends : to.start + length (slice_range numbers from.start from.end) ≡ to.end
+  pub place : IsPart moved (columns_at columns (slice_range numbers from.start from.end)) to.start to.end
   pub element : to.element ≡ from.element
 
 -- a span has moved, or there is none

@@ -15,6 +15,11 @@ pub record IsPackedWord (bits room : ℕ) (p : PackedWord) : Type 0 where
   pub key : p.key ≡ packed (2 ^ bits) room (letters_in bits room p)
   pub len : p.len ≡ length (letters_in bits room p)
 
+-- a word, packed
+pub record IsPackedAs (bits room : ℕ) (word : List ℕ) (p : PackedWord) : Type 0 where
+  pub is : IsPackedWord bits room p
+  pub letters : letters_in bits room p ≡ word
+
 -- the words of some terms
 pub record ArePacked (bits room : ℕ) (f : List Term) (ps : List PackedWord) : Type 0 where
   pub each : All (IsPackedWord bits room) ps

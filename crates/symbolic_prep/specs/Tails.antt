@@ -1,5 +1,5 @@
 -- The reducers of words in a row, before their own words have numbers.
-use Rattle.std.specs.Prelude.{ℕ, ◌≡◌, ◌+◌, ◌<◌, ◌≤◌, ◌++◌, List, [], All, Option, Some, None, map, length, slice_get}
+use Rattle.std.specs.Prelude.{ℕ, ◌≡◌, ◌+◌, ◌<◌, ◌≤◌, List, [], All, Option, Some, None, map, length, slice_get}
 use Rattle.std.specs.Prelude.{slice_index_or}
 use Rattle.free_poly.specs.declared.term.Term.{Term}
 use Rattle.free_poly.specs.Poly.{lead_of}
@@ -7,7 +7,7 @@ use Rattle.ideal_laws.specs.Basis.{below_lead}
 use Rattle.ideal_laws.specs.Closure.{HasReducer}
 use Rattle.symbolic_prep.specs.declared.lists.Span.{Span}
 use Rattle.symbolic_prep.specs.declared.packing.PackedWord.{PackedWord}
-use Rattle.symbolic_prep.specs.Numbers.{residues_of}
+use Rattle.symbolic_prep.specs.Numbers.{IsPart, residues_of}
 use Rattle.symbolic_prep.specs.PackedWords.{IsPackedWord, letters_in}
 
 -- the words of a reducer but for the leading one stand from one place to another, and its coefficients are those of an
@@ -15,12 +15,8 @@ use Rattle.symbolic_prep.specs.PackedWords.{IsPackedWord, letters_in}
 pub record IsTailAt (G : List (List Term)) (bits room : ℕ) (tails : List PackedWord) (word : List ℕ) (span : Span)
     (reducer : List Term) : Type 0 where
   pub lead : lead_of reducer ≡ Some word
-  pub before : List PackedWord
   pub own : List PackedWord
-  pub behind : List PackedWord
-  pub tails_are : tails ≡ before ++ own ++ behind
-  pub starts : length before ≡ span.start
-  pub ends : span.start + length own ≡ span.end
+  pub place : IsPart tails own span.start span.end
   pub words : map (letters_in bits room) own ≡ map (λ t. t.word) (below_lead reducer)
   pub residues_are : slice_get (map residues_of G) span.element ≡ Some (residues_of reducer)
 

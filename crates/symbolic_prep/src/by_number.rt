@@ -5,14 +5,13 @@ ghost use Rattle.words.specs.Words.{IsOver, degree_of};
 ghost use Rattle.free_poly.specs.declared.term.Term.{Term};
 ghost use Rattle.free_poly.specs.Poly.{IsPolynomial};
 ghost use Rattle.free_poly.specs.Terms.{HasDegree, UsesLetters};
-ghost use Rattle.ideal_laws.specs.Closure.{AreColumns};
 ghost use Rattle.ideal_laws.specs.Quantities.{words_of};
 ghost use Rattle.lead_index.specs.Leads.{IsIndexOf};
-ghost use Rattle.symbolic_prep.specs.Columns.{IsListedClosure, words_in};
+ghost use Rattle.symbolic_prep.specs.Columns.{IsListed, words_in};
 ghost use Rattle.symbolic_prep.specs.Numbers.{IsNumberWalk, residues_of};
 ghost use Rattle.symbolic_prep.specs.Orders.{HaveOneDegree, IsMoved, IsSpanIn};
 ghost use Rattle.symbolic_prep.specs.Packing.{HasDigits, IsPacking, IsPackingFor};
-ghost use Rattle.symbolic_prep.specs.Walk.{HasMore};
+ghost use Rattle.symbolic_prep.specs.Walk.{HasMore, HasMoreColumns};
 
 use crate::closing::keeps;
 use crate::columns::ColumnWords;
@@ -60,13 +59,9 @@ pub(crate) fn closure_by_number(
     requires most { most < 4294967296 }
     requires entries { entries ≤ limit + 1 }
 
-    ensures listed { IfOk result (λ c. IsListedClosure basis.now.elements (words_of rows.now) entries limit
-        (words_in c.columns) c.lists.spans.items c.lists.numbers.items c.lists.residues
-        c.entries) }
+    ensures listed { IfOk result (IsListed basis.now.elements (words_of rows.now) entries limit) }
     ensures within { IfOk result (λ c. length (words_in c.columns) ≤ most) }
-    ensures many { IsErrOf result ColumnFault.TooMany →
-        (columns : List (List ℕ)) × AreColumns basis.now.elements (words_of rows.now) columns
-        × (most < length columns) }
+    ensures many { IsErrOf result ColumnFault.TooMany → HasMoreColumns basis.now.elements (words_of rows.now) most }
 {
     let _done = basis.done();
     keeps(index);
@@ -117,8 +112,7 @@ fn in_order(
     ensures listed { IfOk result (λ c. (G : List (List Term)) (given : List (List ℕ)) (from : ℕ)
         → IsNumberWalk G given numbered.table.words (length numbered.table.words) from limit numbered.spans.items
         numbered.numbers.items numbered.entries → residues ≡ map residues_of G
-        → IsListedClosure G given from limit (words_in c.columns) c.lists.spans.items c.lists.numbers.items
-        c.lists.residues c.entries) }
+        → IsListed G given from limit c) }
     ensures within { IfOk result (λ c. length (words_in c.columns) ≡ length numbered.table.words) }
 {
     let (words, order) = numbered.table.in_order(alloc)?;

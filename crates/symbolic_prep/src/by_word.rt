@@ -5,10 +5,10 @@ ghost use Rattle.words.specs.Order.{IsLetterwiseGreater};
 ghost use Rattle.free_poly.specs.declared.term.Term.{Term};
 ghost use Rattle.free_poly.specs.Poly.{IsPolynomial};
 ghost use Rattle.free_poly.specs.Terms.{HasDegree, UsesLetters};
-ghost use Rattle.ideal_laws.specs.Closure.{AreColumns};
 ghost use Rattle.ideal_laws.specs.Quantities.{words_of};
 ghost use Rattle.lead_index.specs.Leads.{IsIndexOf};
-ghost use Rattle.symbolic_prep.specs.Columns.{IsOnColumns, IsListedClosure, words_in};
+ghost use Rattle.symbolic_prep.specs.Columns.{IsListed, IsOnColumns, words_in};
+ghost use Rattle.symbolic_prep.specs.Walk.{HasMoreColumns};
 ghost use Rattle.symbolic_prep.specs.Numbers.{AreListed, IsLonger, IsSpanOf};
 
 use crate::by_number::ListedClosure;
@@ -43,13 +43,9 @@ pub(crate) fn closure_by_word(
     requires most { most < 4294967296 }
     requires entries { entries ≤ limit + 1 }
 
-    ensures listed { IfOk result (λ c. IsListedClosure basis.now.elements (words_of rows.now) entries limit
-        (words_in c.columns) c.lists.spans.items c.lists.numbers.items c.lists.residues
-        c.entries) }
+    ensures listed { IfOk result (IsListed basis.now.elements (words_of rows.now) entries limit) }
     ensures within { IfOk result (λ c. length (words_in c.columns) ≤ most) }
-    ensures many { IsErrOf result ColumnFault.TooMany →
-        (columns : List (List ℕ)) × AreColumns basis.now.elements (words_of rows.now) columns
-        × (most < length columns) }
+    ensures many { IsErrOf result ColumnFault.TooMany → HasMoreColumns basis.now.elements (words_of rows.now) most }
 {
     let _done = basis.done();
     keeps(index);

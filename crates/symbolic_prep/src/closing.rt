@@ -4,9 +4,8 @@ ghost use Rattle.free_poly.specs.Terms.{HasDegree, UsesLetters};
 ghost use Rattle.ideal_laws.specs.declared.limits.LimitKind.{LimitKind};
 ghost use Rattle.ideal_laws.specs.Quantities.{IsFirstPassing, NonePasses, terms_in, words_of};
 ghost use Rattle.lead_index.specs.Leads.{IsIndex, IsIndexOf};
-ghost use Rattle.symbolic_prep.specs.Walk.{IsPassed};
-ghost use Rattle.ideal_laws.specs.Closure.{AreColumns};
-ghost use Rattle.symbolic_prep.specs.Columns.{IsListedClosure, words_in};
+ghost use Rattle.symbolic_prep.specs.Walk.{HasMoreColumns, IsPassed};
+ghost use Rattle.symbolic_prep.specs.Columns.{IsListed, words_in};
 ghost use Rattle.symbolic_prep.specs.Closed.{IsClosed, IsClosedQuantity, closing_limits};
 
 use crate::by_number::{ListedClosure, closure_by_number};
@@ -79,14 +78,11 @@ fn closure_of(
     requires letters { All (UsesLetters (length basis.now.weights)) rows.now }
     requires entries { entries ≤ limits.now.entries + 1 }
 
-    ensures listed { IfOk result (λ c. IsListedClosure basis.now.elements (words_of rows.now) entries
-        limits.now.entries (words_in c.columns) c.lists.spans.items c.lists.numbers.items c.lists.residues
-        c.entries) }
+    ensures listed { IfOk result (IsListed basis.now.elements (words_of rows.now) entries limits.now.entries) }
     ensures within { IfOk result (λ c. length (words_in c.columns) ≤ limits.now.columns) }
     ensures few { IfOk result (λ c. length (words_in c.columns) < 4294967296) }
     ensures many { IsErrOf result ColumnFault.TooMany →
-        (columns : List (List ℕ)) × AreColumns basis.now.elements (words_of rows.now) columns
-        × (limits.now.columns < length columns) }
+        HasMoreColumns basis.now.elements (words_of rows.now) limits.now.columns }
 {
     let most = limits.columns as usize;
     let limit = limits.entries;

@@ -2,7 +2,8 @@ ghost use Rattle.std.specs.Prelude.{◌≡◌, ◌+◌, ◌^◌, ◌<◌, ◌≤
 ghost use Rattle.std.specs.Prelude.{[], slice_index_or};
 ghost use Rattle.std.specs.List.{AllZip};
 ghost use Rattle.symbolic_prep.specs.Packing.{HasDigits, IsPacking};
-ghost use Rattle.symbolic_prep.specs.PackedWords.{ArePackedWithin, HasMultiple, IsPackedWord, first_len, letters_in};
+ghost use Rattle.symbolic_prep.specs.PackedWords.{ArePackedWithin, HasMultiple, IsPackedAs};
+ghost use Rattle.symbolic_prep.specs.PackedWords.{IsPackedWord, first_len, letters_in};
 
 use crate::packing::{PackedWord, Packing, joined, pack};
 use free_poly::Term;
@@ -55,8 +56,7 @@ fn packed_word(packing: Packing, letters: &[u8]) -> PackedWord
     requires packing { IsPacking packing.bits packing.room }
     requires over { HasDigits packing.bits letters.now }
     requires fits { length letters.now ≤ packing.room }
-    ensures is { IsPackedWord packing.bits packing.room result }
-    ensures letters { letters_in packing.bits packing.room result ≡ letters.now }
+    ensures { IsPackedAs packing.bits packing.room letters.now result }
 {
     PackedWord {
         key: pack(packing, letters),

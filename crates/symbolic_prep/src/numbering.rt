@@ -3,12 +3,12 @@ ghost use Rattle.std.specs.Prelude.{slice_index_or};
 ghost use Rattle.words.specs.Words.{IsOver, degree_of};
 ghost use Rattle.free_poly.specs.declared.term.Term.{Term};
 ghost use Rattle.free_poly.specs.Poly.{IsPolynomial};
-ghost use Rattle.ideal_laws.specs.Closure.{AreColumns, IsInClosure};
+ghost use Rattle.ideal_laws.specs.Closure.{IsInClosure};
 ghost use Rattle.lead_index.specs.Leads.{IsIndex, IsIndexOf};
 ghost use Rattle.symbolic_prep.specs.Numbers.{IsNumberWalk, IsReducedTo};
 ghost use Rattle.symbolic_prep.specs.PackedWords.{IsPackedWord};
 ghost use Rattle.symbolic_prep.specs.Tails.{HasTail};
-ghost use Rattle.symbolic_prep.specs.Walk.{HasMore};
+ghost use Rattle.symbolic_prep.specs.Walk.{HasMore, HasMoreColumns};
 
 use crate::closing::keeps;
 use crate::lists::{Span, add_words, place_behind, push_number};
@@ -16,7 +16,7 @@ use crate::multiples::packed_basis;
 use crate::packing::PackedWord;
 use crate::pending::ColumnFault;
 use crate::table::WordTable;
-use crate::tails::tails_of;
+use crate::tails::put_together;
 use crate::walk::counted;
 use ideal_laws::Basis;
 use lead_index::LeadIndex;
@@ -57,8 +57,7 @@ pub(crate) fn walk_by_number(
     ensures within { IfOk result (λ n. length n.table.words ≤ most) }
     ensures bits { IfOk result (λ n. n.table.bits ≡ table.bits) }
     ensures room { IfOk result (λ n. n.table.room ≡ table.room) }
-    ensures many { IsErrOf result ColumnFault.TooMany →
-        (columns : List (List ℕ)) × AreColumns basis.now.elements table.words columns × (most < length columns) }
+    ensures many { IsErrOf result ColumnFault.TooMany → HasMoreColumns basis.now.elements table.words most }
 {
     let _done = basis.done();
     let _len = table.len();
@@ -68,14 +67,27 @@ pub(crate) fn walk_by_number(
     let mut spans = Vec::new(alloc);
     let mut numbers = Vec::new(alloc);
     let elements = packed_basis(alloc, basis, table.packing())?;
+    let mut letters = Vec::new(alloc);
+    let mut tails = Vec::new(alloc);
+    let mut words = Vec::new(alloc);
     let mut next = 0;
     while next < table.len() {
-        let tails = tails_of(alloc, basis, index, elements.as_slice(), &table, next, d)?;
-        for span in &tails.spans {
+        put_together(
+            basis,
+            index,
+            elements.as_slice(),
+            &table,
+            next,
+            d,
+            &mut letters,
+            &mut tails,
+            &mut words,
+        )?;
+        for span in &tails {
             let (span, more) = push_reducer(
                 basis,
                 *span,
-                tails.words.as_slice(),
+                words.as_slice(),
                 next as u32,
                 most,
                 entries,

@@ -1,6 +1,6 @@
 ghost use Rattle.std.specs.Prelude.{◌≡◌, ◌+◌, ◌*◌, ◌^◌, ◌/◌, ◌%◌, ◌<◌, ◌≤◌, ◌++◌, IfSome, OnOk, drop, length, take};
 ghost use Rattle.symbolic_prep.specs.Packing.{HasDigits, IsPacking, IsPackingFor, packed, unpacked};
-ghost use Rattle.symbolic_prep.specs.PackedWords.{IsPackedWord, letters_in};
+ghost use Rattle.symbolic_prep.specs.PackedWords.{IsPackedAs, IsPackedWord, letters_in};
 
 use words::NoMemory;
 
@@ -52,9 +52,7 @@ pub(crate) fn front(packing: Packing, word: PackedWord, at: u32) -> PackedWord
     requires packing { IsPacking packing.bits packing.room }
     requires word { IsPackedWord packing.bits packing.room word }
     requires within { at ≤ word.len }
-    ensures is { IsPackedWord packing.bits packing.room result }
-    ensures letters { letters_in packing.bits packing.room result ≡
-        take at (letters_in packing.bits packing.room word) }
+    ensures { IsPackedAs packing.bits packing.room (take at (letters_in packing.bits packing.room word)) result }
 {
     let rest = last_bits(word.key, packing.bits * (packing.room - at));
     PackedWord {
@@ -68,9 +66,7 @@ pub(crate) fn back(packing: Packing, word: PackedWord, at: u32) -> PackedWord
     requires packing { IsPacking packing.bits packing.room }
     requires word { IsPackedWord packing.bits packing.room word }
     requires within { at ≤ word.len }
-    ensures is { IsPackedWord packing.bits packing.room result }
-    ensures letters { letters_in packing.bits packing.room result ≡
-        drop at (letters_in packing.bits packing.room word) }
+    ensures { IsPackedAs packing.bits packing.room (drop at (letters_in packing.bits packing.room word)) result }
 {
     PackedWord {
         key: last_letters(packing, word, at),
@@ -113,9 +109,8 @@ pub(crate) fn joined(
     requires middle { IsPackedWord packing.bits packing.room middle }
     requires rest { IsPackedWord packing.bits packing.room rest }
     requires fits { before.len + middle.len + rest.len ≤ packing.room }
-    ensures is { IsPackedWord packing.bits packing.room result }
-    ensures letters { letters_in packing.bits packing.room result ≡ letters_in packing.bits packing.room before ++
-        letters_in packing.bits packing.room middle ++ letters_in packing.bits packing.room rest }
+    ensures { IsPackedAs packing.bits packing.room (letters_in packing.bits packing.room before ++
+        letters_in packing.bits packing.room middle ++ letters_in packing.bits packing.room rest) result }
 {
     let behind = before.len + middle.len;
     let second = shifted(middle.key, packing.bits * before.len);

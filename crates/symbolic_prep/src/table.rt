@@ -1,7 +1,7 @@
 ghost use Rattle.std.specs.Prelude.{◌≡◌, ◌≢◌, ◌+◌, ◌<◌, ◌≤◌, ◌∷◌, [], AllPairs, IfOk, OnOk, Some};
 ghost use Rattle.std.specs.Prelude.{length, slice_get, slice_index_or};
 ghost use Rattle.symbolic_prep.specs.Packing.{IsPacking};
-ghost use Rattle.symbolic_prep.specs.PackedWords.{IsPackedWord, letters_in};
+ghost use Rattle.symbolic_prep.specs.PackedWords.{IsPackedAs, IsPackedWord, letters_in};
 ghost use Rattle.symbolic_prep.specs.Numbers.{IsGrown};
 ghost use Rattle.symbolic_prep.specs.Orders.{HaveOneDegree, IsOrder};
 ghost use Rattle.words.specs.Order.{IsLetterwiseGreater};
@@ -67,8 +67,7 @@ impl WordTable {
     pub(crate) fn read(&self, number: usize, letters: &mut Vec<u8>) -> Result<PackedWord, NoMemory>
         requires { number < length self.now.words }
         ensures word { OnOk result (letters.new.items ≡ slice_index_or self.now.words number []) }
-        ensures packed { IfOk result (IsPackedWord self.now.bits self.now.room) }
-        ensures letters { IfOk result (λ p. letters_in self.now.bits self.now.room p ≡ letters.new.items) }
+        ensures packed { IfOk result (IsPackedAs self.now.bits self.now.room letters.new.items) }
     {
         let key = self.keys.as_slice()[number];
         unpack(self.packing, key, letters)?;

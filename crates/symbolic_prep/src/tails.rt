@@ -5,7 +5,7 @@ ghost use Rattle.free_poly.specs.Poly.{IsPolynomial};
 ghost use Rattle.lead_index.specs.Leads.{IsIndexOf};
 ghost use Rattle.symbolic_prep.specs.Numbers.{IsLonger};
 ghost use Rattle.symbolic_prep.specs.Packing.{IsPacking};
-ghost use Rattle.symbolic_prep.specs.PackedWords.{ArePackedWithin, IsPackedWord, letters_in};
+ghost use Rattle.symbolic_prep.specs.PackedWords.{ArePackedWithin, IsPackedAs, IsPackedWord};
 ghost use Rattle.symbolic_prep.specs.Tails.{AreTails, HasTail};
 
 use crate::lists::{Span, place_behind};
@@ -14,29 +14,24 @@ use crate::packing::{PackedWord, Packing, back, front};
 use crate::table::WordTable;
 use ideal_laws::Basis;
 use lead_index::LeadIndex;
-use std::alloc::Global;
 use words::NoMemory;
 
 /// So many reducers are put together before their words are looked up, so that the look-ups wait for memory together.
 const AT_ONCE: usize = 32;
 
-/// The reducers of words in a row: where the words of each but for the leading one stand, if there is one.
-#[derive(Drop)]
-pub(crate) struct Tails {
-    pub(crate) spans: Vec<Option<Span>>,
-    pub(crate) words: Vec<PackedWord>,
-}
-
-/// The reducers of the words of a table from a number on, as many as are put together at once.
-pub(crate) fn tails_of(
-    alloc: Global,
+/// Puts together the reducers of the words of a table from a number on, as many as are at once: the words of each but for
+/// the leading one, and where these stand, if there is one. The letters are a buffer.
+pub(crate) fn put_together(
     basis: &Basis,
     index: &LeadIndex,
     elements: &[Vec<PackedWord>],
     table: &WordTable,
     from: usize,
     d: u32,
-) -> Result<Tails, NoMemory>
+    letters: &mut Vec<u8>,
+    tails: &mut Vec<Option<Span>>,
+    words: &mut Vec<PackedWord>,
+) -> Result<(), NoMemory>
     requires form { All IsPolynomial basis.now.elements }
     requires index { IsIndexOf basis.now.elements index.now }
     requires elements { AllZip (ArePackedWithin table.now.bits table.now.room) basis.now.elements
@@ -46,23 +41,22 @@ pub(crate) fn tails_of(
         table.now.words }
     requires room { d ≤ table.now.room }
     requires within { from < length table.now.words }
-    ensures some { IfOk result (λ tails. 0 < length tails.spans.items) }
-    ensures tails { IfOk result (λ tails. AreTails basis.now.elements table.now.bits table.now.room table.now.words
-        from tails.spans.items tails.words.items) }
+    ensures some { OnOk result (0 < length tails.new.items) }
+    ensures tails { OnOk result (AreTails basis.now.elements table.now.bits table.now.room table.now.words
+        from tails.new.items words.new.items) }
 {
     let _done = basis.done();
     let count = (table.len() - from).min(AT_ONCE);
     let packing = table.packing();
-    let mut letters = Vec::new(alloc);
-    let mut spans = Vec::with_capacity(alloc, count)?;
-    let mut words = Vec::new(alloc);
+    tails.clear();
+    words.clear();
     for next in 0..count {
-        let packed = table.read(from + next, &mut letters)?;
+        let packed = table.read(from + next, letters)?;
         let word = letters.as_slice();
-        let span = push_tail(basis, index, elements, packing, word, packed, &mut words)?;
-        spans.push(span)?;
+        let span = push_tail(basis, index, elements, packing, word, packed, words)?;
+        tails.push(span)?;
     }
-    Ok(Tails { spans, words })
+    Ok(())
 }
 
 /// Adds the words of the reducer of a packed word but for the leading one, if it has one.
@@ -83,8 +77,7 @@ fn push_tail(
     requires small { length word.now ≤ 64 }
     requires letters { IsOver (length basis.now.weights) word.now }
     requires room { degree_of basis.now.weights word.now ≤ packing.room }
-    requires packed { IsPackedWord packing.bits packing.room packed }
-    requires same { letters_in packing.bits packing.room packed ≡ word.now }
+    requires packed { IsPackedAs packing.bits packing.room word.now packed }
     requires words { All (IsPackedWord packing.bits packing.room) words.old.items }
     ensures words { OnOk result (All (IsPackedWord packing.bits packing.room) words.new.items) }
     ensures longer { OnOk result (IsLonger words.old.items words.new.items) }

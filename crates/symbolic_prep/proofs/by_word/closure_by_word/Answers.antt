@@ -1,41 +1,35 @@
-use Rattle.std.proofs.Common.{◌≡◌, ◌≤◌, ℕ, List, All, Err, arith, ap, le-leb, leb-true, length, subst, sym, ◌∙◌}
+use Rattle.std.proofs.Common.{◌≤◌, ℕ, List, All, Err, arith, ap, le-leb, leb-true, length, subst, sym, ◌∙◌}
 use Rattle.std.specs.BTreeSet.{keys}
 use Rattle.std.specs.List.{AllZip}
 use Rattle.std.proofs.lemmas.Result.{err_from_is_err_and}
-use Rattle.words.specs.Words.{IsOver, degree_of}
-use Rattle.words.proofs.Members.{All-from_members}
 use Rattle.ideal_laws.specs.Closure.{HasReducer}
 use Rattle.ideal_laws.specs.Quantities.{words_of}
 use Rattle.symbolic_prep.specs.Columns.{IsOnColumns}
 use Rattle.symbolic_prep.specs.Numbers.{IsSpanOf}
 use Rattle.symbolic_prep.proofs.ByWord.{closure_on_columns}
-use Rattle.symbolic_prep.proofs.Ending.{AllZip-length, words_in_degree}
+use Rattle.symbolic_prep.proofs.Ending.{AllZip-length}
 use Rattle.symbolic_prep.proofs.ListedClosures.{listed-same, walked_listed}
 use Rattle.symbolic_prep.proofs.Sets.{one_fault}
-use Rattle.symbolic_prep.proofs.Walks.{given_many, same_columns}
+use Rattle.symbolic_prep.proofs.RowWords.{given_words, more_than, rows_more_than}
 use Rattle.symbolic_prep.proofs.by_word.closure_by_word.Goals as goal
 
 pub returns-in_err-pending-clause-many : goal.returns-in_err-pending-clause-many
 returns-in_err-pending-clause-many c = λ e.
-    let b = c.args.basis.now in
     let p = err_from_is_err_and c.from_residual.result c.from_residual.ensures.1 in
-    let more = c.in_err-pending.ensures.many (ap Err (sym p.2 ∙ one_fault c.from_residual.result _ _ p.1 e)) in
-    given_many b c.done-done.ensures.kept c.requires.form c.args.d c.args.index.now c.keeps.ensures c.requires.index (words_of c.args.rows.now)
-    (words_in_degree (length b.weights) b.weights c.args.d c.args.rows.now c.requires.letters c.requires.degree) c.args.most more
+    rows_more_than c.args.basis.now c.done-done.ensures.kept c.requires.form c.args.d c.args.rows.now c.requires.letters c.requires.degree
+    c.args.index.now c.keeps.ensures c.requires.index c.args.most
+    (c.in_err-pending.ensures.many (ap Err (sym p.2 ∙ one_fault c.from_residual.result _ _ p.1 e)))
 
 pub walk-requires-clause-words : goal.walk-requires-clause-words
-walk-requires-clause-words c =
-    let b = c.args.basis.now in
-    All-from_members (λ w. IsOver (length b.weights) w × (degree_of b.weights w ≡ c.args.d)) (keys c.in_ok-pending.pending)
-    (λ w m. words_in_degree (length b.weights) b.weights c.args.d c.args.rows.now c.requires.letters c.requires.degree w
-    ((c.in_ok-pending.ensures.words w).0 m))
+walk-requires-clause-words c = given_words c.args.basis.now c.done-done.ensures.kept c.requires.form c.args.d c.args.rows.now
+    c.requires.letters c.requires.degree (keys c.in_ok-pending.pending) c.in_ok-pending.ensures.words
 
 pub returns-in_err-walked-clause-many : goal.returns-in_err-walked-clause-many
 returns-in_err-walked-clause-many c = λ e.
-    let b = c.args.basis.now in
     let p = err_from_is_err_and c.from_residual-in_err-walked.result c.from_residual-in_err-walked.ensures.1 in
-    let all = c.in_err-walked.ensures.many (ap Err (sym p.2 ∙ one_fault c.from_residual-in_err-walked.result _ _ p.1 e)) in
-    (all.0, same_columns b.elements (keys c.in_ok-pending.pending) (words_of c.args.rows.now) all.0 c.in_ok-pending.ensures.words all.1, all.2)
+    more_than c.args.basis.now c.done-done.ensures.kept c.requires.form c.args.d c.args.rows.now c.requires.letters c.requires.degree
+    (keys c.in_ok-pending.pending) c.in_ok-pending.ensures.words c.args.most
+    (c.in_err-walked.ensures.many (ap Err (sym p.2 ∙ one_fault c.from_residual-in_err-walked.result _ _ p.1 e)))
 
 pub listed_if-requires-clause-size : goal.listed_if-requires-clause-size
 listed_if-requires-clause-size c =

@@ -2,9 +2,5 @@ use Rattle.std.proofs.Common.{refl}
 use Rattle.symbolic_prep.proofs.PackedWords.{packed_as}
 use Rattle.symbolic_prep.proofs.multiples.packed_word.Goals as goal
 
-pub returns-clause-is : goal.returns-clause-is
-returns-clause-is c = (packed_as c.args.packing.bits c.args.packing.room c.args.letters.now _ c.requires.over c.requires.fits c.pack.ensures refl).is
-
-pub returns-clause-letters : goal.returns-clause-letters
-returns-clause-letters c =
-    (packed_as c.args.packing.bits c.args.packing.room c.args.letters.now _ c.requires.over c.requires.fits c.pack.ensures refl).letters
+pub returns : goal.returns
+returns c = packed_as c.args.packing.bits c.args.packing.room c.args.letters.now _ c.requires.over c.requires.fits c.pack.ensures refl

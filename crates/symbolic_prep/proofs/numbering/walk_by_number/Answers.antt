@@ -21,8 +21,8 @@ loop-next-init c = record {
   room = refl;
 }
 
-pub tails_of-requires-clause-words : goal.tails_of-requires-clause-words
-tails_of-requires-clause-words c =
+pub put_together-requires-clause-words : goal.put_together-requires-clause-words
+put_together-requires-clause-words c =
     let b = c.args.basis.now in
     All-from_members (λ w. IsOver (length b.weights) w × (degree_of b.weights w ≡ c.args.d)) c.loop-next.table.words
     (λ w m. stays b c.done-done.ensures.kept c.requires.form c.args.d c.args.table.words
@@ -47,7 +47,7 @@ loop-span-preserved c =
     let lt : walk.next < length words = omega (
       arith,
       walk.invariant.place,
-      c.in_ok-tails.ensures.tails.within,
+      c.in_ok-put_together.ensures.tails.within,
       ap length walk.invariant.longer.joined,
       length-append c.loop-next.table.words walk.invariant.longer.more,
     ) in

@@ -10,12 +10,13 @@ invariant_of-result c =
     let columns = words_in c.args.columns in
     let numbers = c.args.lists.numbers.items in
     let residues = c.args.lists.residues in
+    let h = c.requires in
     record {
-      few = c.requires.few;
-      falling = c.requires.falling;
-      size = c.requires.size;
-      within = c.requires.within;
-      reducers = c.requires.reducers;
+      few = h.few;
+      falling = h.falling;
+      size = h.size;
+      within = h.within;
+      reducers = h.reducers;
       contested_is = c.in_ok-contested.ensures columns numbers residues
           ∙ ap (λ (ss : List (Option Span)). contested_words columns (map (reducer_on columns numbers residues) ss))
           c.as_slice.ensures.value;

@@ -2,7 +2,7 @@ use Rattle.std.proofs.Common.{◌≡◌, ◌+◌, ◌∷◌, [], ℕ, List, All,
 use Rattle.symbolic_prep.specs.PackedWords.{IsPackedWord}
 use Rattle.symbolic_prep.specs.Tails.{HasTail}
 use Rattle.symbolic_prep.proofs.ReducerTails.{same_packing, tails_more}
-use Rattle.symbolic_prep.proofs.tails.tails_of.Goals as goal
+use Rattle.symbolic_prep.proofs.tails.put_together.Goals as goal
 
 pub loop-next-preserved : goal.loop-next-preserved
 loop-next-preserved c =
@@ -10,7 +10,7 @@ loop-next-preserved c =
     let t = c.args.table.now in
     let w : List ℕ = c.as_slice-word.result.now in
     let p = c.packing-packing in
-    let spans = c.loop-next.spans.items in
+    let spans = c.loop-next.tails.items in
     let pushed = c.in_ok-push.ensures.items in
     let here : w ≡ get_or t.words (c.args.from + length spans) [] = c.as_slice-word.ensures.value ∙ c.in_ok-packed.ensures.word
     ∙ ap (λ (n : ℕ). get_or t.words (c.args.from + n) []) (sym c.loop-next.invariant.size) in
