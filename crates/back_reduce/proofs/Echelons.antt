@@ -5,6 +5,7 @@ use Rattle.std.specs.Result.{IfOk}
 use Rattle.std.specs.List.{AllZip, Contains, range_with_len}
 use Rattle.std.proofs.lemmas.List.{length-map}
 use Rattle.std.proofs.lemmas.List.Elements.{All-contains, All-head, All-map, All-tail, Contains-get_or}
+use Rattle.words.proofs.Members.{Contains-cases, Contains-first, Contains-more}
 use Rattle.field_table.specs.Residues.{IsFieldModulus}
 use Rattle.linear_algebra.specs.Echelon.{IsOneOf}
 use Rattle.linear_algebra.specs.Fields.{Field}
@@ -20,7 +21,7 @@ use Rattle.back_reduce.specs.Rref.{IsRref}
 use Rattle.back_reduce.specs.Table.{IsLeader}
 use Rattle.back_reduce.proofs.Coordinates.{basis_from}
 use Rattle.back_reduce.proofs.Forms.{led, reduced_from, rows_of_led, IsFormFrom}
-use Rattle.back_reduce.proofs.Members.{beside_left, beside_right, Contains-cases, Contains-first, Contains-more}
+use Rattle.back_reduce.proofs.Beside.{beside_left, beside_right}
 use Rattle.back_reduce.proofs.RowLists.{OneOf}
 use Rattle.back_reduce.proofs.Sums.{plus_back, plus_inside}
 use Rattle.back_reduce.proofs.Vectors.{leader_within, K, V, vec}

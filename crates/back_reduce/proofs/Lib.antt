@@ -8,7 +8,7 @@ pub mod RowLists
 pub mod Eliminated
 pub mod Coordinates
 pub mod Forms
-pub mod Members
+pub mod Beside
 pub mod Echelons
 pub mod HeldLeaders
 pub mod Gathered

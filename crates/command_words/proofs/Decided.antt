@@ -16,7 +16,7 @@ use Rattle.command_words.specs.Keys.{command_name, name_of}
 use Rattle.command_words.specs.Values.{IsAnswer, IsEngine, IsModulus, IsNumberFrom, IsShow, IsValue}
 use Rattle.command_words.specs.Refusals.{HasKey, Says}
 use Rattle.command_words.proofs.Digits.{listed_says, number_or_not, one_number, says_listed}
-use Rattle.command_words.proofs.Members.{Contains-cases, Contains-more}
+use Rattle.words.proofs.Members.{Contains-cases, Contains-more}
 use Rattle.command_words.proofs.OneKey.{one_text}
 use Rattle.command_words.proofs.Parts.{Decided}
 use Rattle.command_words.proofs.Values.{no_answer, no_command, no_engine, no_show}

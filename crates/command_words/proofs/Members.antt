@@ -1,8 +1,9 @@
 -- Splits of lists, and members of a row of keys.
-use Rattle.std.proofs.Common.{◌≡◌, ◌≢◌, ◌⊎◌, ◌<◌, ℕ, zero, suc, List, [], ◌∷◌, ◌++◌, length, get_or, refl, sym, ap, inl, inr, arith, ◌==◌}
+use Rattle.std.proofs.Common.{◌≡◌, ◌≢◌, ◌⊎◌, List, [], ◌∷◌, ◌++◌, refl, sym, ap, inl, inr, arith, ◌==◌}
 use Rattle.std.specs.Prelude.{Contains}
 use Rattle.std.proofs.lemmas.Bool.{cases_Bool, eqb-false, eqb-true}
 use Rattle.std.proofs.lemmas.List.Elements.{Contains-append_right}
+use Rattle.words.proofs.Members.{Contains-cases, Contains-more}
 use Rattle.command_words.specs.declared.job.Key.{Key}
 use Rattle.command_words.specs.Draft.{place_of}
 use Rattle.command_words.proofs.OneKey.{one_place}
@@ -27,16 +28,6 @@ module _ {X : Type 0} where
 
   pub middle : (b : List X) (w : X) (a : List X) → Contains (b ++ w ∷ a) w
   middle b w a = Contains-append_right b (w ∷ a) w (0, omega arith, refl)
-
-  pub Contains-more : (y : X) (xs : List X) (x : X) → Contains xs x → Contains (y ∷ xs) x
-  Contains-more y xs x m = (suc m.0, omega (arith, m.1), m.2)
-
-  at_front : (y : X) (xs : List X) (x : X) (k : ℕ) → k < length (y ∷ xs) → get_or (y ∷ xs) k x ≡ x → (y ≡ x) ⊎ Contains xs x
-  at_front y xs x zero lt e = inl e
-  at_front y xs x (suc k) lt e = inr (k, omega (arith, lt), e)
-
-  pub Contains-cases : (y : X) (xs : List X) (x : X) → Contains (y ∷ xs) x → (y ≡ x) ⊎ Contains xs x
-  Contains-cases y xs x h = at_front y xs x h.0 h.1 h.2
 
 -- keys are one or two, and in a row or not
 pub same_or_not : (a b : Key) → (a ≡ b) ⊎ (a ≢ b)

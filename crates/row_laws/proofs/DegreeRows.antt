@@ -30,7 +30,7 @@ use Rattle.ideal_laws.proofs.Neighbours.{neighbour_inside}
 use Rattle.ideal_laws.proofs.Represented.{IsLower}
 use Rattle.ideal_laws.proofs.Vectors.{same_vectors, span_from_ideal}
 use Rattle.ideal_laws.proofs.Vectors as vectors
-use Rattle.row_laws.proofs.Beside.{beside_left, beside_right}
+use Rattle.back_reduce.proofs.Beside.{beside_left, beside_right}
 
 of_degree-has : (weights : List ℕ) (d : ℕ) (fs : List (List Term)) (g : List Term) → Contains fs g → g ≢ [] → HasDegree weights d g →
     Contains (of_degree weights d fs) g

@@ -5,7 +5,6 @@ pub mod Spread
 pub mod Places
 pub mod Reducers
 pub mod Triangle
-pub mod Beside
 pub mod DegreeRows
 pub mod ClosedColumns
 pub mod Parts

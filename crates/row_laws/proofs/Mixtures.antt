@@ -21,7 +21,7 @@ use Rattle.ideal_laws.proofs.Vectors.{IsProductVector, same_vectors, span_from_i
 use Rattle.ideal_laws.proofs.Vectors as vectors
 use Rattle.back_reduce.specs.Rows.{IsInRowSpan, vector}
 use Rattle.row_laws.specs.Contested.{AreContestedRows, IsContestedRow}
-use Rattle.row_laws.proofs.Beside.{beside_left, beside_right}
+use Rattle.back_reduce.proofs.Beside.{beside_left, beside_right}
 use Rattle.row_laws.proofs.ClosedColumns.{in_degree}
 use Rattle.row_laws.proofs.ContestedRows.{back_less, left, left_spanned, row_sum}
 use Rattle.row_laws.proofs.DegreeRows.{IsMember, obstruction_has, relation_row, row_member}
