@@ -1,6 +1,7 @@
 -- Whether a tip of a list stands in a word.
 use Rattle.std.proofs.Common.{◌≡◌, ℕ, Bool, true, false, cond, List, [], ◌∷◌, ◌++◌, length, take, drop, refl, sym, ap, ◌∙◌, inl, inr, bytes_eq}
 use Rattle.std.specs.List.{Contains}
+use Rattle.std.proofs.Math.Seq.{take-append_seam}
 use Rattle.std.proofs.lemmas.List.{take-append-drop}
 use Rattle.std.proofs.lemmas.Slice.Eq.{bytes_eq-Decides}
 use Rattle.words.proofs.Members.{Contains-cases, Contains-first, Contains-more, Contains-none}
@@ -8,10 +9,6 @@ use Rattle.free_poly.proofs.Totals.{here}
 use Rattle.anick_chains.specs.Chains.{HasTip}
 use Rattle.anick_chains.specs.Walk.{begins, stands}
 use Rattle.anick_chains.proofs.Tips.{HasTip-end}
-
-before_suffix : (x v : List ℕ) → take (length x) (x ++ v) ≡ x
-before_suffix [] v = refl
-before_suffix (a ∷ x) v = ap (λ (r : List ℕ). a ∷ r) (before_suffix x v)
 
 module _ (tips : List (List ℕ)) where
   begins-is : (t v : List ℕ) → Contains tips t → begins tips (t ++ v) ≡ true
@@ -21,7 +18,7 @@ module _ (tips : List (List ℕ)) where
       at [] m = absurd (Contains-none t m)
       at (s ∷ ts) m = elim (Contains-cases s ts t m) [
         | inl e ↦ ap (λ (b : Bool). cond b true (begins ts (t ++ v)))
-            (here (take (length s) (t ++ v)) s (ap (λ (x : List ℕ). take (length x) (t ++ v)) e ∙ before_suffix t v ∙ sym e))
+            (here (take (length s) (t ++ v)) s (ap (λ (x : List ℕ). take (length x) (t ++ v)) e ∙ take-append_seam t v ∙ sym e))
         | inr n ↦ by_test (bytes_eq (take (length s) (t ++ v)) s) (at ts n)
       ]
         where

@@ -1,6 +1,7 @@
 -- Products of sums of terms by words on both sides.
 use Rattle.std.proofs.Common.{ap₂, ◌≡◌, ◌≢◌, ◌⊎◌, ◌+◌, ◌-◌, ◌%◌, ◌<◌, ℕ, Bool, true, false, cond, List, [], ◌∷◌, ◌++◌, length, take, drop, refl, sym}
 use Rattle.std.proofs.Common.{ap, ◌∙◌, inl, inr, arith, bytes_eq, zero-add, length-append, append-nil}
+use Rattle.std.proofs.Math.Seq.{drop-append_seam, take-append_seam}
 use Rattle.std.proofs.lemmas.Bool.{cases_Bool}
 use Rattle.std.proofs.lemmas.List.{append_assoc, append_cancel_left, append_cancel_right}
 use Rattle.std.proofs.lemmas.List.Elements.{All-append, All-map}
@@ -64,14 +65,6 @@ pub data IsRound (u v w : List ℕ) : Type 0 where
   inside : (x : List ℕ) → u ++ x ++ v ≡ w → IsRound u v w
   outside : ((x : List ℕ) → u ++ x ++ v ≢ w) → IsRound u v w
 
-after_prefix : (u r : List ℕ) → drop (length u) (u ++ r) ≡ r
-after_prefix [] r = refl
-after_prefix (a ∷ u) r = after_prefix u r
-
-before_suffix : (x v : List ℕ) → take (length x) (x ++ v) ≡ x
-before_suffix [] v = refl
-before_suffix (a ∷ x) v = ap (λ (r : List ℕ). a ∷ r) (before_suffix x v)
-
 pub round : (u v w : List ℕ) → IsRound u v w
 round u v w =
     let x = take (length w - (length u + length v)) (drop (length u) w) in
@@ -83,8 +76,8 @@ round u v w =
     refused : (y : List ℕ) → u ++ y ++ v ≡ w → bytes_eq (u ++ take (length w - (length u + length v)) (drop (length u) w) ++ v) w ≡ false → ⊥
     refused y e f =
         let size : length w - (length u + length v) ≡ length y = omega (arith, ap length e, length-append (u ++ y) v, length-append u y) in
-        let tail : drop (length u) w ≡ y ++ v = ap (drop (length u)) (sym e ∙ append_assoc u y v) ∙ after_prefix u (y ++ v) in
-        let middle : take (length w - (length u + length v)) (drop (length u) w) ≡ y = ap₂ (λ (n : ℕ) (r : List ℕ). take n r) size tail ∙ before_suffix y v in
+        let tail : drop (length u) w ≡ y ++ v = ap (drop (length u)) (sym e ∙ append_assoc u y v) ∙ drop-append_seam u (y ++ v) in
+        let middle : take (length w - (length u + length v)) (drop (length u) w) ≡ y = ap₂ (λ (n : ℕ) (r : List ℕ). take n r) size tail ∙ take-append_seam y v in
         let t : bytes_eq (u ++ take (length w - (length u + length v)) (drop (length u) w) ++ v) w ≡ true =
         here _ w (ap (λ (r : List ℕ). u ++ r ++ v) middle ∙ e) in
         cc

@@ -140,29 +140,29 @@ module _ (ideal : Ideal) (st : IsSetting ideal) where
     abbrev Below : Vd → Type 0
     Below v = IsInSpan Kd (List ℕ) (IsBelow d w) v
 
+    -- a multiple of one that is smaller before a sum of these
+    scaled_more : (a : ℕ) (f rest : List Term) → IsBelow d w (vec f) → Below (vec rest) → Below (vec (scaled a f ++ rest))
+    scaled_more a f rest one more =
+        same_span Kd (List ℕ) _ (λ y. Kd.add (Kd.mul (vectors.of ideal.modulus st.modulus a) (vec f y)) (vec rest y)) _
+        (λ y. sym (vector_of-append ideal.modulus st.modulus (scaled a f) rest y
+        ∙ ap (λ (n : Residue ideal.modulus). Kd.add n (vec rest y)) (vector_of-scaled ideal.modulus st.modulus a f y)))
+        (IsInSpan-add Kd (List ℕ) _ _ _ (IsInSpan-scaled Kd (List ℕ) _ (vectors.of ideal.modulus st.modulus a) (vec f)
+        (IsInSpan-one Kd (List ℕ) _ (vec f) one)) more)
+
+    none_below : Below (vec [])
+    none_below = same_span Kd (List ℕ) _ (λ y. Kd.zero) _ (λ y. same_residue ideal.modulus _ _ refl) (IsInSpan-zero Kd (List ℕ) _)
+
     second_below : (u c v : List ℕ) (g : List Term) (h : List Term) →
         ((t : Term) → Contains h t → IsBelow d w (vec (product u g (c ++ t.word ++ v)))) → Below (vec (by_second u c v g h))
-    second_below u c v g [] all = same_span Kd (List ℕ) _ (λ y. Kd.zero) _ (λ y. same_residue ideal.modulus _ _ refl) (IsInSpan-zero Kd (List ℕ) _)
-    second_below u c v g (t ∷ h) all =
-        let f = product u g (c ++ t.word ++ v) in
-        same_span Kd (List ℕ) _ (λ y. Kd.add (Kd.mul (vectors.of ideal.modulus st.modulus t.coefficient) (vec f y)) (vec (by_second u c v g h) y)) _
-        (λ y. sym (vector_of-append ideal.modulus st.modulus (scaled t.coefficient f) (by_second u c v g h) y
-        ∙ ap (λ (n : Residue ideal.modulus). Kd.add n (vec (by_second u c v g h) y)) (vector_of-scaled ideal.modulus st.modulus t.coefficient f y)))
-        (IsInSpan-add Kd (List ℕ) _ _ _ (IsInSpan-scaled Kd (List ℕ) _ (vectors.of ideal.modulus st.modulus t.coefficient) (vec f)
-        (IsInSpan-one Kd (List ℕ) _ (vec f) (all t (Contains-first t h))))
-        (second_below u c v g h (λ s m. all s (Contains-more t h s m))))
+    second_below u c v g [] all = none_below
+    second_below u c v g (t ∷ h) all = scaled_more t.coefficient (product u g (c ++ t.word ++ v)) (by_second u c v g h) (all t (Contains-first t h))
+        (second_below u c v g h (λ s m. all s (Contains-more t h s m)))
 
     first_below : (u c v : List ℕ) (g : List Term) (h : List Term) →
         ((s : Term) → Contains g s → IsBelow d w (vec (product (u ++ s.word ++ c) h v))) → Below (vec (by_first u c v g h))
-    first_below u c v [] h all = same_span Kd (List ℕ) _ (λ y. Kd.zero) _ (λ y. same_residue ideal.modulus _ _ refl) (IsInSpan-zero Kd (List ℕ) _)
-    first_below u c v (s ∷ g) h all =
-        let f = product (u ++ s.word ++ c) h v in
-        same_span Kd (List ℕ) _ (λ y. Kd.add (Kd.mul (vectors.of ideal.modulus st.modulus s.coefficient) (vec f y)) (vec (by_first u c v g h) y)) _
-        (λ y. sym (vector_of-append ideal.modulus st.modulus (scaled s.coefficient f) (by_first u c v g h) y
-        ∙ ap (λ (n : Residue ideal.modulus). Kd.add n (vec (by_first u c v g h) y)) (vector_of-scaled ideal.modulus st.modulus s.coefficient f y)))
-        (IsInSpan-add Kd (List ℕ) _ _ _ (IsInSpan-scaled Kd (List ℕ) _ (vectors.of ideal.modulus st.modulus s.coefficient) (vec f)
-        (IsInSpan-one Kd (List ℕ) _ (vec f) (all s (Contains-first s g))))
-        (first_below u c v g h (λ r m. all r (Contains-more s g r m))))
+    first_below u c v [] h all = none_below
+    first_below u c v (s ∷ g) h all = scaled_more s.coefficient (product (u ++ s.word ++ c) h v) (by_first u c v g h) (all s (Contains-first s g))
+        (first_below u c v g h (λ r m. all r (Contains-more s g r m)))
 
     -- a + x and b + y are one, so a - b is y - x
     moved : (a b x y : Residue ideal.modulus) → Kd.add a x ≡ Kd.add b y → Kd.add y (Kd.mul (Kd.neg Kd.one) x) ≡ Kd.add a (Kd.mul (Kd.neg Kd.one) b)

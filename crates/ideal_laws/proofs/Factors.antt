@@ -2,6 +2,7 @@
 use Rattle.std.proofs.Common.{ap₂, ◌≡◌, ◌≢◌, ◌⊎◌, ◌<◌, ◌≤◌, ℕ, zero, suc, true, false, List, [], ◌∷◌, ◌++◌, map, length, take, drop, refl, sym, ap}
 use Rattle.std.proofs.Common.{◌∙◌, inl, inr, arith, All, subst, bytes_eq, length-append, append-nil, Some}
 use Rattle.std.specs.List.{Contains, flat_map, range_with_len}
+use Rattle.std.proofs.Math.Seq.{drop-append_seam, take-append_seam}
 use Rattle.std.proofs.lemmas.Bool.{cases_Bool, cases_lt}
 use Rattle.std.proofs.lemmas.List.{append_assoc, nil_from_length, take-append-drop}
 use Rattle.std.proofs.lemmas.List.Elements.{All-cons, All-head, All-nil, All-tail}
@@ -37,20 +38,12 @@ factors_from w i = map (λ n. take n (drop i w)) (range_with_len 0 (suc (length 
 abbrev pub factors : List ℕ → List (List ℕ)
 factors w = flat_map (factors_from w) (range_with_len 0 (suc (length w)))
 
-after_prefix : (u r : List ℕ) → drop (length u) (u ++ r) ≡ r
-after_prefix [] r = refl
-after_prefix (a ∷ u) r = after_prefix u r
-
-before_suffix : (x v : List ℕ) → take (length x) (x ++ v) ≡ x
-before_suffix [] v = refl
-before_suffix (a ∷ x) v = ap (λ (r : List ℕ). a ∷ r) (before_suffix x v)
-
 pub factor_listed : (v w : List ℕ) → IsFactor v w → Contains (factors w) v
 factor_listed v w i =
     let sizes = ap length i.joined ∙ length-append (i.before ++ v) i.after in
     let is : take (length v) (drop (length i.before) w) ≡ v =
     ap (λ (r : List ℕ). take (length v) (drop (length i.before) r)) (i.joined ∙ append_assoc i.before v i.after)
-    ∙ ap (take (length v)) (after_prefix i.before (v ++ i.after)) ∙ before_suffix v i.after in
+    ∙ ap (take (length v)) (drop-append_seam i.before (v ++ i.after)) ∙ take-append_seam v i.after in
     Contains-flat_map (factors_from w) (range_with_len 0 (suc (length w))) (length i.before) v
     (Contains-range 0 (suc (length w)) (length i.before) (omega arith) (omega (arith, sizes, length-append i.before v)))
     (subst (Contains (factors_from w (length i.before))) is

@@ -4,7 +4,7 @@ use Rattle.std.proofs.Common.{◌≡◌, ◌≢◌, ◌+◌, ◌%◌, ◌==◌, 
 use Rattle.std.proofs.Common.{inl, inr, arith, eq-eqb, All, subst, Some, bytes_eq}
 use Rattle.std.specs.List.{Contains, flat_map, slice_get}
 use Rattle.std.proofs.Math.Nat.{mod-eq_of_lt, zero-mod}
-use Rattle.std.proofs.lemmas.Bool.{cases_Bool, cases_lt}
+use Rattle.std.proofs.lemmas.Bool.{cases_Bool, cases_lt, eqb-true}
 use Rattle.std.proofs.lemmas.List.Elements.{All-contains, All-head}
 use Rattle.std.proofs.lemmas.Option.{get_or_from_slice_get, slice_get_within}
 use Rattle.std.proofs.lemmas.Slice.Eq.{bytes_eq-Decides}
@@ -25,37 +25,39 @@ use Rattle.ideal_laws.specs.Laws.{IsRelation, IsSetting}
 use Rattle.ideal_laws.specs.Overlaps.{AreLower, ListsFactorFree, ListsLower}
 use Rattle.ideal_laws.proofs.OneBasis.{monic-led, monic_total, some_same}
 
-of_degree-has : (weights : List ℕ) (d : ℕ) (fs : List (List Term)) (g : List Term) → Contains fs g → IsMonic g → lead_degree weights g ≡ d →
+-- a polynomial other than 0 is listed in the degree of its leading word, and one that is listed has this degree
+pub of_degree-has : (weights : List ℕ) (d : ℕ) (fs : List (List Term)) (g : List Term) → Contains fs g → g ≢ [] → lead_degree weights g ≡ d →
     Contains (of_degree weights d fs) g
-of_degree-has weights d [] g m monic e = absurd (Contains-none g m)
-of_degree-has weights d ([] ∷ fs) g m monic e = elim (Contains-cases [] fs g m) [
-  | inl is ↦ absurd (subst IsMonic (sym is) monic)
-  | inr n ↦ of_degree-has weights d fs g n monic e
+of_degree-has weights d [] g m other e = absurd (Contains-none g m)
+of_degree-has weights d ([] ∷ fs) g m other e = elim (Contains-cases [] fs g m) [
+  | inl is ↦ absurd (other (sym is))
+  | inr n ↦ of_degree-has weights d fs g n other e
 ]
-of_degree-has weights d ((t ∷ f) ∷ fs) g m monic e = elim (Contains-cases (t ∷ f) fs g m) [
+of_degree-has weights d ((t ∷ f) ∷ fs) g m other e = elim (Contains-cases (t ∷ f) fs g m) [
   | inl is ↦
       let here : (degree_of weights t.word == d) ≡ true = eq-eqb (degree_of weights t.word) d (ap (lead_degree weights) is ∙ e) in
       subst (λ (b : Bool). Contains (cond b ((t ∷ f) ∷ of_degree weights d fs) (of_degree weights d fs)) g) (sym here)
       (subst (Contains ((t ∷ f) ∷ of_degree weights d fs)) is (Contains-first (t ∷ f) (of_degree weights d fs)))
-  | inr n ↦ by_test (degree_of weights t.word == d) (of_degree-has weights d fs g n monic e)
+  | inr n ↦ by_test (degree_of weights t.word == d) (of_degree-has weights d fs g n other e)
 ]
   where
     by_test : (b : Bool) → Contains (of_degree weights d fs) g → Contains (cond b ((t ∷ f) ∷ of_degree weights d fs) (of_degree weights d fs)) g
     by_test true n = Contains-more (t ∷ f) (of_degree weights d fs) g n
     by_test false n = n
 
-of_degree-says : (weights : List ℕ) (d : ℕ) (fs : List (List Term)) (g : List Term) → Contains (of_degree weights d fs) g → Contains fs g
+pub of_degree-says : (weights : List ℕ) (d : ℕ) (fs : List (List Term)) (g : List Term) → Contains (of_degree weights d fs) g →
+    Contains fs g × (lead_degree weights g ≡ d)
 of_degree-says weights d [] g m = absurd (Contains-none g m)
-of_degree-says weights d ([] ∷ fs) g m = Contains-more [] fs g (of_degree-says weights d fs g m)
-of_degree-says weights d ((t ∷ f) ∷ fs) g m = by_test (degree_of weights t.word == d) m (λ n. of_degree-says weights d fs g n)
+of_degree-says weights d ([] ∷ fs) g m = let r = of_degree-says weights d fs g m in (Contains-more [] fs g r.0, r.1)
+of_degree-says weights d ((t ∷ f) ∷ fs) g m = by_test (degree_of weights t.word == d) refl m (λ n. of_degree-says weights d fs g n)
   where
-    by_test : (b : Bool) → Contains (cond b ((t ∷ f) ∷ of_degree weights d fs) (of_degree weights d fs)) g →
-        (Contains (of_degree weights d fs) g → Contains fs g) → Contains ((t ∷ f) ∷ fs) g
-    by_test true n rest = elim (Contains-cases (t ∷ f) (of_degree weights d fs) g n) [
-      | inl is ↦ subst (Contains ((t ∷ f) ∷ fs)) is (Contains-first (t ∷ f) fs)
-      | inr k ↦ Contains-more (t ∷ f) fs g (rest k)
+    by_test : (b : Bool) → (degree_of weights t.word == d) ≡ b → Contains (cond b ((t ∷ f) ∷ of_degree weights d fs) (of_degree weights d fs)) g →
+        (Contains (of_degree weights d fs) g → Contains fs g × (lead_degree weights g ≡ d)) → Contains ((t ∷ f) ∷ fs) g × (lead_degree weights g ≡ d)
+    by_test true e n rest = elim (Contains-cases (t ∷ f) (of_degree weights d fs) g n) [
+      | inl is ↦ (subst (Contains ((t ∷ f) ∷ fs)) is (Contains-first (t ∷ f) fs), ap (lead_degree weights) (sym is) ∙ eqb-true (degree_of weights t.word) d e)
+      | inr k ↦ let r = rest k in (Contains-more (t ∷ f) fs g r.0, r.1)
     ]
-    by_test false n rest = Contains-more (t ∷ f) fs g (rest n)
+    by_test false e n rest = let r = rest n in (Contains-more (t ∷ f) fs g r.0, r.1)
 
 -- a product of a relation has a degree of 1 or more
 pub positive_product : (weights : List ℕ) → AreWeights weights → (u : List ℕ) (r : List Term) (v : List ℕ) → r ≢ [] →
@@ -109,11 +111,11 @@ module _ (p : ℕ) (relations : List (List Term)) (below : Elements) (st : IsSet
   listed g m =
       let k = All-contains (IsKeptElement below.weights below.done) below.elements g kept.each m in
       let d = lead_degree below.weights g in
-      (d, omega (arith, k.upto), ((upto d k.from k.upto).exactly g).0 (of_degree-has below.weights d below.elements g m k.monic refl))
+      (d, omega (arith, k.upto), ((upto d k.from k.upto).exactly g).0 (of_degree-has below.weights d below.elements g m (λ none. subst IsMonic none k.monic) refl))
 
   has : (g : List Term) (e : ℕ) → e < below.done + 1 → IsReduced (ideal_over p below.weights relations) e g → Contains below.elements g
   has g zero lt h = absurd (no_reduced_0 (ideal_over p below.weights relations) st g h)
-  has g (suc e) lt h = of_degree-says below.weights (suc e) below.elements g (((upto (suc e) (omega arith) (omega (arith, lt))).exactly g).1 h)
+  has g (suc e) lt h = (of_degree-says below.weights (suc e) below.elements g (((upto (suc e) (omega arith) (omega (arith, lt))).exactly g).1 h)).0
 
   lower : AreLower (ideal_over p below.weights relations) (below.done + 1) below.elements
   lower g = (listed g, λ h. has g h.0 h.1 h.2)

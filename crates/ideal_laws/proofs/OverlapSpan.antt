@@ -3,6 +3,7 @@ use Rattle.std.proofs.Common.{ap₂, ◌≡◌, ◌+◌, ◌<◌, ℕ, zero, suc
 use Rattle.std.proofs.Common.{Some, length-append}
 use Rattle.std.specs.List.{Contains, flat_map, slice_get}
 use Rattle.std.proofs.Math.Nat.{mod-eq_of_lt, suc-add}
+use Rattle.std.proofs.Math.Seq.{drop-append_seam, take-append_seam}
 use Rattle.std.proofs.lemmas.List.{append_assoc, length-take-le, take-append-drop}
 use Rattle.std.proofs.lemmas.List.Elements.{All-cons, All-drop, All-head, All-map, All-nil, All-tail, All-take}
 use Rattle.std.proofs.lemmas.Option.{get_or_from_slice_get, slice_get-get_or, slice_get_within}
@@ -37,14 +38,6 @@ drop_twice : (k n : ℕ) (w : List ℕ) → drop n (drop k w) ≡ drop (k + n) w
 drop_twice zero n w = ap (λ (i : ℕ). drop i w) (omega arith)
 drop_twice (suc k) n [] = drop-none n ∙ sym (drop-none (suc k + n))
 drop_twice (suc k) n (x ∷ w) = drop_twice k n w ∙ ap (λ (i : ℕ). drop i (x ∷ w)) (sym (suc-add k n))
-
-after_prefix : (u r : List ℕ) → drop (length u) (u ++ r) ≡ r
-after_prefix [] r = refl
-after_prefix (a ∷ u) r = after_prefix u r
-
-before_suffix : (x v : List ℕ) → take (length x) (x ++ v) ≡ x
-before_suffix [] v = refl
-before_suffix (a ∷ x) v = ap (λ (r : List ℕ). a ∷ r) (before_suffix x v)
 
 module _ (ideal : Ideal) (st : IsSetting ideal) (d : ℕ) (G : List (List Term)) (lower : AreLower ideal d G) where
   abbrev K : Field
@@ -115,12 +108,12 @@ module _ (ideal : Ideal) (st : IsSetting ideal) (d : ℕ) (G : List (List Term))
   generator_listed v (vectors_of.reducer w h least) =
       let whole : w ≡ h.left ++ (h.lead ++ h.right) = h.word ∙ append_assoc h.left h.lead h.right in
       let sizes = ap length h.word ∙ length-append (h.left ++ h.lead) h.right in
-      let front : take (length h.left) w ≡ h.left = ap (take (length h.left)) whole ∙ before_suffix h.left (h.lead ++ h.right) in
+      let front : take (length h.left) w ≡ h.left = ap (take (length h.left)) whole ∙ take-append_seam h.left (h.lead ++ h.right) in
       let back : drop (length h.left + length h.lead) w ≡ h.right =
-      ap₂ (λ (n : ℕ) (r : List ℕ). drop n r) (sym (length-append h.left h.lead)) h.word ∙ after_prefix (h.left ++ h.lead) h.right in
+      ap₂ (λ (n : ℕ) (r : List ℕ). drop n r) (sym (length-append h.left h.lead)) h.word ∙ drop-append_seam (h.left ++ h.lead) h.right in
       let here : take (length h.lead) (drop (length h.left) w) ≡ h.lead =
       ap (λ (r : List ℕ). take (length h.lead) (drop (length h.left) r)) whole
-      ∙ ap (take (length h.lead)) (after_prefix h.left (h.lead ++ h.right)) ∙ before_suffix h.lead h.right in
+      ∙ ap (take (length h.lead)) (drop-append_seam h.left (h.lead ++ h.right)) ∙ take-append_seam h.lead h.right in
       let over = lower_over ideal st d w v h in
       let deg = lower_word ideal st d d w v h in
       record {

@@ -2,6 +2,7 @@
 use Rattle.std.proofs.Common.{◌≡◌, ◌⊎◌, ◌↔◌, ◌+◌, ◌-◌, ◌<◌, ◌≤◌, ℕ, zero, suc, List, [], ◌∷◌, ◌++◌, map, length, take, drop, refl, sym, ap, ◌∙◌, inl}
 use Rattle.std.proofs.Common.{inr, arith, AllPairs, subst, length-append}
 use Rattle.std.specs.List.{Contains, flat_map, range_with_len}
+use Rattle.std.proofs.Math.Seq.{drop-append_seam, take-append_seam}
 use Rattle.std.proofs.lemmas.Bool.{cases_lt}
 use Rattle.std.proofs.lemmas.List.{append_assoc, take-append-drop}
 use Rattle.std.proofs.lemmas.List.Elements.{All-append, All-cons, All-drop, All-map, All-nil, All-take, Contains-append_cases}
@@ -91,14 +92,6 @@ module _ (ideal : Ideal) (st : IsSetting ideal) (d : ℕ) where
       (Contains-range 0 (suc size) i (omega arith) (omega (arith, li)))
       (Contains-map (λ n. (i, n)) (range_with_len 0 (suc size)) n (Contains-range 0 (suc size) n (omega arith) (omega (arith, ln))))
 
-  after_prefix : (u r : List ℕ) → drop (length u) (u ++ r) ≡ r
-  after_prefix [] r = refl
-  after_prefix (a ∷ u) r = after_prefix u r
-
-  before_suffix : (x v : List ℕ) → take (length x) (x ++ v) ≡ x
-  before_suffix [] v = refl
-  before_suffix (a ∷ x) v = ap (λ (r : List ℕ). a ∷ r) (before_suffix x v)
-
   record HasLeast (w : List ℕ) : Type 0 where
     pub vector : V
     pub product_of : Lower w vector
@@ -108,7 +101,7 @@ module _ (ideal : Ideal) (st : IsSetting ideal) (d : ℕ) where
   stands w below u k lt =
       let here : take (length k.lead) (drop (length k.left) w) ≡ k.lead =
       ap (λ (r : List ℕ). take (length k.lead) (drop (length k.left) r)) (k.word ∙ append_assoc k.left k.lead k.right)
-      ∙ ap (take (length k.lead)) (after_prefix k.left (k.lead ++ k.right)) ∙ before_suffix k.lead k.right in
+      ∙ ap (take (length k.lead)) (drop-append_seam k.left (k.lead ++ k.right)) ∙ take-append_seam k.lead k.right in
       record {
         earlier = lt;
         minimal = subst (IsMinimal ideal) (sym here) (k.lower.reduced.minimal k.lead k.is_lead);

@@ -1,14 +1,13 @@
 -- The rows of a degree are polynomials of the ideal with residues, and they have all generators but the reducers.
-use Rattle.std.proofs.Common.{◌≡◌, ◌≢◌, ◌%◌, ◌<◌, ◌==◌, ℕ, Bool, true, false, cond, List, [], ◌∷◌, sym, ap, ap₂, ◌∙◌, inl, inr, eq-eqb, All, subst}
+use Rattle.std.proofs.Common.{◌≡◌, ◌≢◌, ◌%◌, ◌<◌, ℕ, List, [], ◌∷◌, refl, sym, ap, ap₂, ◌∙◌, inl, inr, subst}
 use Rattle.std.proofs.Common.{Option, Some}
 use Rattle.std.specs.List.{Contains, slice_get}
 use Rattle.std.proofs.Math.Nat.{mod-eq_of_lt, zero-mod}
-use Rattle.std.proofs.lemmas.Bool.{cases_Bool, eqb-true}
-use Rattle.std.proofs.lemmas.List.Elements.{All-cons, All-contains, All-head, All-tail, All-weaker, Contains-append_cases, Contains-append_left}
+use Rattle.std.proofs.lemmas.List.Elements.{All-cons, All-contains, All-head, All-weaker, Contains-append_cases, Contains-append_left}
 use Rattle.std.proofs.lemmas.List.Elements.{Contains-append_right}
 use Rattle.std.proofs.lemmas.Option.{get_or_from_slice_get, slice_get_within}
 use Rattle.words.specs.Words.{words_of_degree}
-use Rattle.words.proofs.Members.{AllPairs-first, Contains-cases, Contains-first, Contains-more, Contains-none}
+use Rattle.words.proofs.Members.{AllPairs-first}
 use Rattle.field_table.specs.Residues.{IsFieldModulus}
 use Rattle.free_poly.specs.declared.term.Term.{Term}
 use Rattle.free_poly.specs.Terms.{HasDegree, HasOneDegree, HasResidues, total_at}
@@ -21,59 +20,30 @@ use Rattle.words.specs.Words.{degree_of}
 use Rattle.ideal_laws.specs.Closure.{IsObstruction, Overlap, obstruction_row}
 use Rattle.ideal_laws.specs.Engine.{of_degree}
 use Rattle.ideal_laws.specs.Ideal.{Ideal}
+use Rattle.ideal_laws.specs.Kept.{lead_degree}
 use Rattle.ideal_laws.specs.Laws.{IsRelation, IsSetting, relation}
 use Rattle.ideal_laws.specs.Overlaps.{AreLower}
 use Rattle.ideal_laws.specs.Quantities.{AreRows, IsRowOf}
 use Rattle.ideal_laws.proofs.Differ.{obstruction_member}
 use Rattle.ideal_laws.proofs.Leads.{IsMemberVector, member_off}
+use Rattle.ideal_laws.proofs.Lower.{of_degree-has, of_degree-says}
 use Rattle.ideal_laws.proofs.Neighbours.{neighbour_inside}
 use Rattle.ideal_laws.proofs.Represented.{IsLower}
 use Rattle.ideal_laws.proofs.Vectors.{same_vectors, span_from_ideal}
 use Rattle.ideal_laws.proofs.Vectors as vectors
 use Rattle.back_reduce.proofs.Beside.{beside_left, beside_right}
 
-of_degree-has : (weights : List ℕ) (d : ℕ) (fs : List (List Term)) (g : List Term) → Contains fs g → g ≢ [] → HasDegree weights d g →
-    Contains (of_degree weights d fs) g
-of_degree-has weights d [] g m other e = absurd (Contains-none g m)
-of_degree-has weights d ([] ∷ fs) g m other e = elim (Contains-cases [] fs g m) [
-  | inl is ↦ absurd (other (sym is))
-  | inr n ↦ of_degree-has weights d fs g n other e
-]
-of_degree-has weights d ((t ∷ f) ∷ fs) g m other e = elim (Contains-cases (t ∷ f) fs g m) [
-  | inl is ↦
-      let here : (degree_of weights t.word == d) ≡ true = eq-eqb (degree_of weights t.word) d
-      (All-head (λ s. degree_of weights s.word ≡ d) t f (subst (HasDegree weights d) (sym is) e)) in
-      subst (λ (b : Bool). Contains (cond b ((t ∷ f) ∷ of_degree weights d fs) (of_degree weights d fs)) g) (sym here)
-      (subst (Contains ((t ∷ f) ∷ of_degree weights d fs)) is (Contains-first (t ∷ f) (of_degree weights d fs)))
-  | inr n ↦ by_test (degree_of weights t.word == d) (of_degree-has weights d fs g n other e)
-]
-  where
-    by_test : (b : Bool) → Contains (of_degree weights d fs) g → Contains (cond b ((t ∷ f) ∷ of_degree weights d fs) (of_degree weights d fs)) g
-    by_test true n = Contains-more (t ∷ f) (of_degree weights d fs) g n
-    by_test false n = n
+-- a polynomial of one degree has that of its leading word
+whole_degree : (weights : List ℕ) (d : ℕ) (g : List Term) → HasOneDegree weights g → g ≢ [] → lead_degree weights g ≡ d → HasDegree weights d g
+whole_degree weights d [] one other e = absurd (other refl)
+whole_degree weights d (t ∷ f) one other e = All-cons (λ s. degree_of weights s.word ≡ d) t f e
+    (All-weaker (λ s. degree_of weights t.word ≡ degree_of weights s.word) (λ s. degree_of weights s.word ≡ d) (λ s q. sym q ∙ e) f
+    (AllPairs-first (λ s t. degree_of weights s.word ≡ degree_of weights t.word) t f one))
 
--- a relation of the list whose leading word has degree d has this degree
-of_degree-says : (weights : List ℕ) (d : ℕ) (fs : List (List Term)) (g : List Term) → All (HasOneDegree weights) fs →
-    Contains (of_degree weights d fs) g → Contains fs g × HasDegree weights d g
-of_degree-says weights d [] g one m = absurd (Contains-none g m)
-of_degree-says weights d ([] ∷ fs) g one m = let r = of_degree-says weights d fs g (All-tail (HasOneDegree weights) [] fs one) m in
-    (Contains-more [] fs g r.0, r.1)
-of_degree-says weights d ((t ∷ f) ∷ fs) g one m = elim (cases_Bool (degree_of weights t.word == d)) [
-  | inl is ↦ elim (Contains-cases (t ∷ f) (of_degree weights d fs) g
-      (subst (λ (b : Bool). Contains (cond b ((t ∷ f) ∷ of_degree weights d fs) (of_degree weights d fs)) g) is m)) [
-        | inl same ↦
-            let own = All-head (HasOneDegree weights) (t ∷ f) fs one in
-            let first : degree_of weights t.word ≡ d = eqb-true (degree_of weights t.word) d is in
-            let whole : HasDegree weights d (t ∷ f) = All-cons (λ s. degree_of weights s.word ≡ d) t f first
-            (All-weaker (λ s. degree_of weights t.word ≡ degree_of weights s.word) (λ s. degree_of weights s.word ≡ d) (λ s e. sym e ∙ first) f
-            (AllPairs-first (λ s t. degree_of weights s.word ≡ degree_of weights t.word) t f own)) in
-            (subst (Contains ((t ∷ f) ∷ fs)) same (Contains-first (t ∷ f) fs), subst (HasDegree weights d) same whole)
-        | inr n ↦ let r = of_degree-says weights d fs g (All-tail (HasOneDegree weights) (t ∷ f) fs one) n in (Contains-more (t ∷ f) fs g r.0, r.1)
-      ]
-  | inr other ↦ let r = of_degree-says weights d fs g (All-tail (HasOneDegree weights) (t ∷ f) fs one)
-      (subst (λ (b : Bool). Contains (cond b ((t ∷ f) ∷ of_degree weights d fs) (of_degree weights d fs)) g) other m) in
-      (Contains-more (t ∷ f) fs g r.0, r.1)
-]
+-- and its leading word has the degree of all of them
+first_degree : (weights : List ℕ) (d : ℕ) (g : List Term) → g ≢ [] → HasDegree weights d g → lead_degree weights g ≡ d
+first_degree weights d [] other e = absurd (other refl)
+first_degree weights d (t ∷ f) other e = All-head (λ s. degree_of weights s.word ≡ d) t f e
 
 -- at the word of a term a polynomial with residues is not 0
 pub term_there : (p : ℕ) (fm : IsFieldModulus p) (f : List Term) → IsPolynomial f → HasResidues p f → (t : Term) → Contains f t →
@@ -113,20 +83,17 @@ module _ (ideal : Ideal) (st : IsSetting ideal) (d : ℕ) where
     some_one o a b e f = cc
 
     module _ (rows : List (List Term)) (are : AreRows ideal G d rows) where
-      one_degrees : All (HasOneDegree ideal.weights) ideal.relations
-      one_degrees = All-weaker (IsRelation ideal.modulus ideal.weights) (HasOneDegree ideal.weights) (λ r h. h.one_degree) ideal.relations st.are_relations
-
       pub row_member : (f : List Term) → Contains rows f → IsMemberRow f
       row_member f m = elim (Contains-append_cases (of_degree ideal.weights d ideal.relations) are.overlap_rows f
           (subst (λ (fs : List (List Term)). Contains fs f) are.joined m)) [
             | inl n ↦
-                let r = of_degree-says ideal.weights d ideal.relations f one_degrees n in
+                let r = of_degree-says ideal.weights d ideal.relations f n in
                 let h = All-contains (IsRelation ideal.modulus ideal.weights) ideal.relations f st.are_relations r.0 in
                 record {
                   form = h.form;
                   residues = h.residues;
                   member = span_from_ideal ideal st.modulus d f
-                      (neighbour_inside ideal st d f (relation f r.0 r.1));
+                      (neighbour_inside ideal st d f (relation f r.0 (whole_degree ideal.weights d f h.one_degree h.other r.1)));
                 }
             | inr n ↦
                 let b = beside_right (IsRowOf ideal.modulus ideal.weights G d) are.overlaps are.overlap_rows f are.each n in
@@ -151,7 +118,8 @@ module _ (ideal : Ideal) (st : IsSetting ideal) (d : ℕ) where
       relation_row r m h =
           let other = (All-contains (IsRelation ideal.modulus ideal.weights) ideal.relations r st.are_relations m).other in
           subst (λ (fs : List (List Term)). Contains fs r) (sym are.joined)
-          (Contains-append_left (of_degree ideal.weights d ideal.relations) are.overlap_rows r (of_degree-has ideal.weights d ideal.relations r m other h))
+          (Contains-append_left (of_degree ideal.weights d ideal.relations) are.overlap_rows r (of_degree-has ideal.weights d ideal.relations r m other
+          (first_degree ideal.weights d r other h)))
 
       -- an obstruction has a row, which is its polynomial
       pub obstruction_has : (left right : ℕ) (a c b : List ℕ) (o : IsObstruction ideal.weights G d left right a c b)
