@@ -7,7 +7,7 @@ mod races;
 mod refusals;
 
 use crate::run::bergman;
-use bg_io::{MemorySink, MemorySource, PlannedGate};
+use bg_io::{MemorySink, MemorySource, PlannedGate, Sink, Source};
 use job_steps::Status;
 use std::alloc::Global;
 use std::process::Abort;
@@ -44,12 +44,26 @@ pub const NONE: Failing = Failing {
     told: 0,
 };
 
-pub fn words_of(alloc: Global, line: &str) -> Result<Vec<String>, Fail> {
+fn words_of(alloc: Global, line: &str) -> Result<Vec<String>, Fail> {
     let mut words = Vec::new(alloc);
     for word in line.split_whitespace() {
         words.push(String::from_str(alloc, word)?)?;
     }
     Ok(words)
+}
+
+/// Runs the words of the line on this source and these sinks.
+pub fn run_line<R: Threads + Sync + AllocGlobal, S: Source, K: Sink, T: Sink>(
+    rt: &R,
+    line: &str,
+    source: &mut S,
+    out: &mut K,
+    err: &mut T,
+    gate: &PlannedGate,
+) -> Result<Status, Fail> {
+    let alloc = rt.alloc();
+    let words = words_of(alloc, line)?;
+    Ok(bergman(rt, alloc, words.as_slice(), source, out, err, gate))
 }
 
 /// Runs the words on the text, which comes in pieces of 4 bytes, and asks for this status, output, which is written in
@@ -64,7 +78,6 @@ pub fn expect_run<R: Threads + Sync + Abort + AllocGlobal>(
     told: &str,
 ) -> Result<(), Fail> {
     let alloc = rt.alloc();
-    let words = words_of(alloc, line)?;
     let mut source = MemorySource::new(
         Vec::from_slice(alloc, text)?,
         4,
@@ -72,15 +85,8 @@ pub fn expect_run<R: Threads + Sync + Abort + AllocGlobal>(
     );
     let mut out = MemorySink::new(alloc, 3, Vec::from_slice(alloc, &[failing.write])?);
     let mut err = MemorySink::new(alloc, 3, Vec::from_slice(alloc, &[failing.told])?);
-    let answer = bergman(
-        rt,
-        alloc,
-        words.as_slice(),
-        &mut source,
-        &mut out,
-        &mut err,
-        &PlannedGate::open(alloc),
-    );
+    let gate = PlannedGate::open(alloc);
+    let answer = run_line(rt, line, &mut source, &mut out, &mut err, &gate)?;
     assert_eq!(rt; answer, status, "{line}");
     assert_eq!(rt; out.held(), output.as_bytes(), "{line}");
     assert_eq!(rt; err.held(), told.as_bytes(), "{line}");

@@ -1,5 +1,5 @@
 -- From what is kept to the job, or to the key that is missing.
-use Rattle.std.proofs.Common.{◌≡◌, ℕ, List, ◌∷◌, Bool, sym, ap, ◌∙◌, inl, inr, Option, Some, None, subst, false, unwrap_or}
+use Rattle.std.proofs.Common.{◌≡◌, ℕ, List, ◌∷◌, Bool, refl, sym, ap, ◌∙◌, inl, inr, Option, Some, None, subst, false, unwrap_or}
 use Rattle.std.specs.Prelude.{All, IfSome, IsSome, MatchOption}
 use Rattle.std.proofs.lemmas.List.Elements.{All-weaker}
 use Rattle.command_words.specs.declared.job.Command.{Command}
@@ -31,30 +31,25 @@ has_text words key (Some v) h = (h.says.text, h.says.is_value)
 pub are_values : (command : Command) (words : List (List ℕ)) (values : List (Option Value)) → IsDraft command words values → AreValues values
 are_values command words values draft key = has_text words key (kept values key) (draft.told key)
 
--- each kind of value, or its default
+-- what is read of a value of its kind, or the default
+value_is : {A : Type 0} (make : A → Value) (read : Option Value → A → A) → ((a d : A) → read (Some (make a)) d ≡ a) → ((d : A) → read None d ≡ d) →
+    (o : Option Value) (d a : A) → a ≡ read o d → IfSome o (λ v. (b : A) × (v ≡ make b)) → make a ≡ unwrap_or o (make d)
+value_is make read of none None d a e h = ap make (e ∙ none d)
+value_is make read of none (Some v) d a e h =
+    let own = e ∙ ap (λ (w : Value). read (Some w) d) h.1 ∙ of h.0 d in
+    ap make own ∙ sym h.1
+
 count_is : (o : Option Value) (d n : ℕ) → n ≡ count_in o d → IfSome o (λ v. (m : ℕ) × (v ≡ Count m)) → Count n ≡ unwrap_or o (Count d)
-count_is None d n e h = ap Count e
-count_is (Some v) d n e h =
-    let m : n ≡ h.0 = e ∙ ap (λ (w : Value). count_in (Some w) d) h.1 in
-    ap Count m ∙ sym h.1
+count_is = value_is Count count_in (λ a d. refl) (λ d. refl)
 
 answer_is : (o : Option Value) (d b : Bool) → b ≡ answer_in o d → IfSome o (λ v. (c : Bool) × (v ≡ Answer c)) → Answer b ≡ unwrap_or o (Answer d)
-answer_is None d b e h = ap Answer e
-answer_is (Some v) d b e h =
-    let m : b ≡ h.0 = e ∙ ap (λ (w : Value). answer_in (Some w) d) h.1 in
-    ap Answer m ∙ sym h.1
+answer_is = value_is Answer answer_in (λ a d. refl) (λ d. refl)
 
 show_is : (o : Option Value) (d b : Show) → b ≡ show_in o d → IfSome o (λ v. (c : Show) × (v ≡ Shown c)) → Shown b ≡ unwrap_or o (Shown d)
-show_is None d b e h = ap Shown e
-show_is (Some v) d b e h =
-    let m : b ≡ h.0 = e ∙ ap (λ (w : Value). show_in (Some w) d) h.1 in
-    ap Shown m ∙ sym h.1
+show_is = value_is Shown show_in (λ a d. refl) (λ d. refl)
 
 engine_is : (o : Option Value) (d b : EngineKind) → b ≡ engine_in o d → IfSome o (λ v. (c : EngineKind) × (v ≡ Kind c)) → Kind b ≡ unwrap_or o (Kind d)
-engine_is None d b e h = ap Kind e
-engine_is (Some v) d b e h =
-    let m : b ≡ h.0 = e ∙ ap (λ (w : Value). engine_in (Some w) d) h.1 in
-    ap Kind m ∙ sym h.1
+engine_is = value_is Kind engine_in (λ a d. refl) (λ d. refl)
 
 is_count : (low high : ℕ) (o : Option Value) → IfSome o (λ v. (text : List ℕ) × IsNumberFrom low high text v) → IfSome o (λ v. (m : ℕ) × (v ≡ Count m))
 is_count low high None h = tt

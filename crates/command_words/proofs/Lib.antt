@@ -1,5 +1,6 @@
 pub mod Digits
 pub mod Parts
+pub mod ReadBack
 pub mod OneKey
 pub mod Values
 pub mod Drafts

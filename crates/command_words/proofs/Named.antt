@@ -13,6 +13,7 @@ use Rattle.command_words.specs.declared.value.Value.TheVariants.{Count, Shown, A
 use Rattle.command_words.specs.Keys.{command_name}
 use Rattle.command_words.specs.Values.{IsAnswer, IsEngine, IsModulus, IsNumberFrom, IsShow, IsValue, answer_name, engine_name, show_name}
 use Rattle.command_words.proofs.Digits.{one_number}
+use Rattle.command_words.proofs.ReadBack.{one_by}
 
 second_command : List ℕ → Command
 second_command [] = commands.Make
@@ -31,7 +32,7 @@ command_of-name commands.Chains = refl
 command_of-name commands.Normal = refl
 
 pub one_command : (a b : Command) → command_name a ≡ command_name b → a ≡ b
-one_command a b e = sym (command_of-name a) ∙ ap command_of e ∙ command_of-name b
+one_command = one_by command_name command_of command_of-name
 
 second_show : List ℕ → Show
 second_show [] = shows.Basis
@@ -73,14 +74,19 @@ same_number low high text v w p q = p.value_is ∙ ap Count (one_number text p.n
 same_modulus : (text : List ℕ) (v w : Value) → IsModulus text v → IsModulus text w → v ≡ w
 same_modulus text v w p q = p.value_is ∙ ap Count (one_number text p.number q.number p.is_number q.is_number) ∙ sym q.value_is
 
+-- a text is the name of one value of its kind
+same_named : {A : Type 0} (name : A → List ℕ) (read : List ℕ → A) → ((a : A) → read (name a) ≡ a) → (make : A → Value) (text : List ℕ) (v w : Value) →
+    (a : A) × (text ≡ name a) × (v ≡ make a) → (a : A) × (text ≡ name a) × (w ≡ make a) → v ≡ w
+same_named name read back make text v w p q = p.2 ∙ ap make (one_by name read back p.0 q.0 (sym p.1 ∙ q.1)) ∙ sym q.2
+
 same_show : (text : List ℕ) (v w : Value) → IsShow text v → IsShow text w → v ≡ w
-same_show text v w p q = p.2 ∙ ap Shown (sym (show_of-name p.0) ∙ ap show_of (sym p.1 ∙ q.1) ∙ show_of-name q.0) ∙ sym q.2
+same_show = same_named show_name show_of show_of-name Shown
 
 same_answer : (text : List ℕ) (v w : Value) → IsAnswer text v → IsAnswer text w → v ≡ w
-same_answer text v w p q = p.2 ∙ ap Answer (sym (answer_of-name p.0) ∙ ap answer_of (sym p.1 ∙ q.1) ∙ answer_of-name q.0) ∙ sym q.2
+same_answer = same_named answer_name answer_of answer_of-name Answer
 
 same_engine : (text : List ℕ) (v w : Value) → IsEngine text v → IsEngine text w → v ≡ w
-same_engine text v w p q = p.2 ∙ ap Kind (sym (engine_of-name p.0) ∙ ap engine_of (sym p.1 ∙ q.1) ∙ engine_of-name q.0) ∙ sym q.2
+same_engine = same_named engine_name engine_of engine_of-name Kind
 
 pub one_value : (key : Key) (text : List ℕ) (v w : Value) → IsValue key text v → IsValue key text w → v ≡ w
 one_value keys.Mod text v w p q = same_modulus text v w p q

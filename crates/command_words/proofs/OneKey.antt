@@ -8,6 +8,7 @@ use Rattle.command_words.specs.declared.value.Value.{Value}
 use Rattle.command_words.specs.Keys.{name_of}
 use Rattle.command_words.specs.Refusals.{HasKey, IsWordOf, Says}
 use Rattle.command_words.specs.Draft.{place_of}
+use Rattle.command_words.proofs.ReadBack.{one_by}
 
 -- the key by its first two letters
 second_of : List ℕ → Key
@@ -83,7 +84,7 @@ key_at-place keys.List = refl
 key_at-place keys.Ask = refl
 
 pub one_place : (a b : Key) → place_of a ≡ place_of b → a ≡ b
-one_place a b e = sym (key_at-place a) ∙ ap key_at e ∙ key_at-place b
+one_place = one_by place_of key_at key_at-place
 
 pub place_below : (key : Key) → place_of key < 12
 place_below keys.Mod = lit< tt

@@ -80,6 +80,20 @@ module _ (law : CountsCoefficients) (p : ℕ) (letters : Letters) (relations : L
             (subst (λ (n : ℕ). AreCounts basis.weights basis.elements limit n below) back h.before);
       }
 
+  -- what is told of all numbers, by a limit that is this one
+  pub whole_told : (own : ℕ) → own ≡ limit → (bound : ℕ) (numbers told : List ℕ) → bound ≡ basis.done → told ≡ numbers →
+      AreCounts basis.weights basis.elements own (bound + 1) numbers → IsWholeSeries p letters relations limit basis.done (series_text told)
+  whole_told own is bound numbers told at same c =
+      subst (λ (ns : List ℕ). IsWholeSeries p letters relations limit basis.done (series_text ns)) (sym same)
+      (whole_from_counts bound numbers at (subst (λ (l : ℕ). AreCounts basis.weights basis.elements l (bound + 1) numbers) is c))
+
+  -- and of those below a large one
+  pub cut_told : (own : ℕ) → own ≡ limit → 0 < limit → (bound d value : ℕ) (below told : List ℕ) → bound ≡ basis.done → told ≡ below →
+      IsFirstLarge basis.weights basis.elements own bound d value below → IsCutSeries p letters relations limit basis.done d value (series_text told)
+  cut_told own is some bound d value below told at same h =
+      subst (λ (ns : List ℕ). IsCutSeries p letters relations limit basis.done d value (series_text ns)) (sym same)
+      (cut_from_large some bound d value below at (subst (λ (l : ℕ). IsFirstLarge basis.weights basis.elements l bound d value below) is h))
+
   -- a series that was not written
   pub undone_from_unwritten : (a b : SinkState) (text : List ℕ) (fault : PrintFault) → IsSeriesDue p letters relations limit basis.done text →
       IsUnwritten a b text fault → IsSeriesUndone p letters relations limit basis.done a b fault

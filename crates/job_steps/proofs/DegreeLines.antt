@@ -23,7 +23,7 @@ use Rattle.job_steps.specs.Gains.{GainsAll, GainsPart, GainsSome, IsUnwritten}
 use Rattle.job_steps.specs.Printing.{IsNext, IsNextUndone, OfNext, lines_of}
 use Rattle.job_steps.specs.Progress.{IsBeginning, Task, ideal_of_task}
 use Rattle.job_steps.specs.States.{SinkState}
-use Rattle.job_steps.proofs.Gaining.{all_behind, unwritten_before, unwritten_behind}
+use Rattle.job_steps.proofs.Gaining.{all_behind, beginning_front, unwritten_before, unwritten_behind}
 
 -- what a fault that is passed on says
 pub if_err : {T E : Type 0} (r : Result T E) (a x : E) (P : E → Type 0) → r ≡ Err a → a ≡ x → P x → IfErr r P
@@ -102,12 +102,37 @@ degree_text-some names p d [] other = absurd (other refl)
 degree_text-some names p d (f ∷ fs) other = refl
 
 -- the text of a degree that has elements, from the place of the first to past the last
-pub degree_lines : (names : List (List ℕ)) (p : ℕ) (weights : List ℕ) (d done : ℕ) (xs : List (List Term)) (a b : ℕ) → d ≡ done →
-    slice_range xs a b ≡ of_degree weights d xs → (a ≡ b → ⊥) → a ≤ b → b ≤ length xs
-    → degree_text names p done (of_degree weights done xs) ≡ head_line d ++ flat_map (element_line names p) (slice_range xs a b)
-degree_lines names p weights d done xs a b is same other low within =
-    ap (λ (n : ℕ). degree_text names p n (of_degree weights n xs)) (sym is) ∙ ap (degree_text names p d) (sym same)
-    ∙ degree_text-some names p d (slice_range xs a b) (slice_some names p xs a b other low within)
+module _ (names : List (List ℕ)) (p : ℕ) (weights : List ℕ) (d done : ℕ) (xs : List (List Term)) (a b : ℕ) (is : d ≡ done)
+    (same : slice_range xs a b ≡ of_degree weights d xs) (other : a ≡ b → ⊥) (low : a ≤ b) (within : b ≤ length xs) where
+  abbrev text : List ℕ
+  text = degree_text names p done (of_degree weights done xs)
+
+  abbrev element_lines : List ℕ
+  element_lines = flat_map (element_line names p) (slice_range xs a b)
+
+  degree_lines : text ≡ head_line d ++ element_lines
+  degree_lines =
+      ap (λ (n : ℕ). degree_text names p n (of_degree weights n xs)) (sym is) ∙ ap (degree_text names p d) (sym same)
+      ∙ degree_text-some names p d (slice_range xs a b) (slice_some names p xs a b other low within)
+
+  module _ (h k : SinkState) (head : List ℕ) (is_head : head ≡ head_line d) where
+    -- not even its head was written
+    pub head_unwritten : (fault : PrintFault) → IsUnwritten h k head fault → IsUnwritten h k text fault
+    head_unwritten fault u = subst (λ (t : List ℕ). IsUnwritten h k t fault) (sym degree_lines)
+        (unwritten_before h k (head_line d) (head_line d ++ element_lines) fault (beginning_front (head_line d) element_lines)
+        (subst (λ (t : List ℕ). IsUnwritten h k t fault) is_head u))
+
+    module _ (m : SinkState) (written : GainsAll h k head) where
+      own_head : GainsAll h k (head_line d)
+      own_head = subst (GainsAll h k) is_head written
+
+      -- its lines were written behind its head, or not
+      pub degree_written : GainsAll k m element_lines → GainsAll h m text
+      degree_written v = subst (GainsAll h m) (sym degree_lines) (all_behind h k m (head_line d) element_lines own_head v)
+
+      pub degree_unwritten : (fault : PrintFault) → IsUnwritten k m element_lines fault → IsUnwritten h m text fault
+      degree_unwritten fault u = subst (λ (t : List ℕ). IsUnwritten h m t fault) (sym degree_lines)
+          (unwritten_behind h k m (head_line d) element_lines fault own_head u)
 
 -- a basis that has grown by a degree of a task
 module _ (t : Task) (old new : Elements) (same : old.weights ≡ t.letters.weights) (kept_weights : new.weights ≡ old.weights)

@@ -4,7 +4,7 @@ use Rattle.ideal_laws.specs.declared.limits.LimitKind.TheVariants.{NormalWords}
 use Rattle.job_steps.specs.declared.status.Status.{Status}
 use Rattle.job_steps.specs.declared.status.Status.TheVariants.{Done, Usage, Input, Limit, Chains, Products, ReadFault, WriteFault, NoMemory}
 use Rattle.job_steps.specs.Gains.{HasPrintedPart, HasPrintedSome}
-use Rattle.job_steps.specs.Progress.{IsReach, IsTaskText, IsText, Reach, Task, crowded, ideal_of_task, refused, whole}
+use Rattle.job_steps.specs.Progress.{IsBeginning, IsReach, IsTaskText, IsText, Reach, Task, crowded, ideal_of_task, refused, whole}
 use Rattle.job_steps.specs.Reaches.{HasOneOutcome, HasOneReach, HasOneText, IsPosed}
 use Rattle.job_steps.specs.States.{SinkState}
 use Rattle.job_steps.specs.Statuses.{HasGainedPart, HasGainedSome, IsTaskOutcome}
@@ -48,36 +48,27 @@ module _ (t : Task) where
   outcome_text NoMemory text h = absurd h
 
   module _ (posed : IsPosed t) where
-    -- what was gained of the text that was due is a beginning of the text of an outcome
-    pub outcome_part : (before after : SinkState) → HasPrintedPart t before after → HasGainedPart before after (IsTaskOutcome t)
-    outcome_part before after h =
+    -- what was due begins the text of an outcome
+    begun : (due : List ℕ) → ((text : List ℕ) → IsTaskText t text → IsBeginning due text) →
+        (status : Status) × (text : List ℕ) × IsTaskOutcome t status text × IsBeginning due text
+    begun due begins =
         let one = has_one_text t posed in
         let o = outcome_of one.value one.holds in
-        let begins = h.begins one.value one.holds in (
-          o.0,
-          one.value,
-          o.1,
-          record {
-            gained = h.part.gained;
-            appended = h.part.appended;
-            cut_short = cut_of_beginning h.part.gained h.due one.value h.part.cut_short begins;
-            no_room = no_room_for before.room h.due one.value begins h.part.no_room;
-          },
-        )
+        (o.0, one.value, o.1, begins one.value one.holds)
+
+    -- and what was gained of it is a beginning of this
+    pub outcome_part : (before after : SinkState) → HasPrintedPart t before after → HasGainedPart before after (IsTaskOutcome t)
+    outcome_part before after h =
+        let o = begun h.due h.begins in
+        let cut = cut_of_beginning h.part.gained h.due o.1 h.part.cut_short o.3 in
+        let none = no_room_for before.room h.due o.1 o.3 h.part.no_room in
+        (o.0, o.1, o.2, record { gained = h.part.gained; appended = h.part.appended; cut_short = cut; no_room = none })
 
     pub outcome_some : (before after : SinkState) → HasPrintedSome t before after → HasGainedSome before after (IsTaskOutcome t)
     outcome_some before after h =
-        let one = has_one_text t posed in
-        let o = outcome_of one.value one.holds in (
-          o.0,
-          one.value,
-          o.1,
-          record {
-            gained = h.part.gained;
-            appended = h.part.appended;
-            beginning = beginning_trans h.part.gained h.due one.value h.part.beginning (h.begins one.value one.holds);
-          },
-        )
+        let o = begun h.due h.begins in
+        let own = beginning_trans h.part.gained h.due o.1 h.part.beginning o.3 in
+        (o.0, o.1, o.2, record { gained = h.part.gained; appended = h.part.appended; beginning = own })
 
 pub has_one_outcome : HasOneOutcome
 has_one_outcome t posed =

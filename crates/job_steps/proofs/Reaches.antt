@@ -23,8 +23,8 @@ use Rattle.job_steps.specs.declared.print.PrintFault.TheVariants.{Limit, WriteFa
 use Rattle.job_steps.specs.Gains.{GainsPart, GainsSome, HasPrintedPart, HasPrintedSome, IsUndone}
 use Rattle.job_steps.specs.Printing.{IsBasisUndone}
 use Rattle.job_steps.specs.States.{SinkState}
-use Rattle.job_steps.specs.Progress.{HasLinesBelow, IsBasisPart, IsBasisSoFar, IsBeginning, IsDue, IsFirstLargeCoefficient, IsOutput, IsPart, IsReach, ideal_of_task}
-use Rattle.job_steps.specs.Progress.{IsStoppedBy, IsTaskText, IsText, AreSmallBelow, PassesNone, Reach, Task, whole, refused, crowded}
+use Rattle.job_steps.specs.Progress.{HasLinesBelow, IsBasisPart, IsBasisSoFar, IsBeginning, IsDue, IsFirstLargeCoefficient, IsOutput, IsPart, IsReach}
+use Rattle.job_steps.specs.Progress.{IsStoppedBy, IsTaskText, IsText, AreSmallBelow, PassesNone, Reach, Task, whole, refused, crowded, ideal_of_task}
 use Rattle.job_steps.proofs.Gaining.{beginning_self, beginning_trans}
 use Rattle.job_steps.proofs.Printed.{degree_texts-append}
 

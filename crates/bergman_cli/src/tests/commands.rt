@@ -62,11 +62,7 @@ fn right_modules_print_their_bases_and_series(rt: HostRuntime) -> Result<(), Fai
 #[test]
 fn a_generated_ideal_is_summed_up(rt: HostRuntime) -> Result<(), Fail> {
     // The first read fails, and none is made.
-    let failing = Failing {
-        read: 1,
-        write: 0,
-        told: 0,
-    };
+    let failing = Failing { read: 1, ..NONE };
     for (line, output) in [
         (
             "make mod=101 deg=4 number=0 vars=3 engine=seq",
@@ -93,29 +89,12 @@ fn a_generated_ideal_is_summed_up(rt: HostRuntime) -> Result<(), Fail> {
     expect_run(&rt, line, b"", failing, limit, "", told)?;
     let missing = Status::Usage(UsageFault::MissingKey { key: Key::Vars });
     let line = "make mod=101 deg=4 number=0";
-    expect_run(
-        &rt,
-        line,
-        b"",
-        failing,
-        missing,
-        "",
-        "bergman: usage: missing vars\n",
-    )?;
-    let failing = Failing {
-        read: 0,
-        write: 3,
-        told: 0,
-    };
-    expect_run(
-        &rt,
-        "make mod=101 deg=4 number=0 vars=3",
-        b"",
-        failing,
-        Status::WriteFault,
-        "% make",
-        "bergman: write fault\n",
-    )
+    let told = "bergman: usage: missing vars\n";
+    expect_run(&rt, line, b"", failing, missing, "", told)?;
+    let failing = Failing { write: 3, ..NONE };
+    let line = "make mod=101 deg=4 number=0 vars=3";
+    let (output, told) = ("% make", "bergman: write fault\n");
+    expect_run(&rt, line, b"", failing, Status::WriteFault, output, told)
 }
 
 /// The chains over x*y, over x^2 and x*y*x, and over x.
@@ -159,11 +138,7 @@ fn chains_stand_by_degree_and_length(rt: HostRuntime) -> Result<(), Fail> {
 /// The first write of the second answer fails; a question of degree 13 has 12 * 2^11 triples.
 #[test]
 fn an_answer_stands_before_the_next_question_is_looked_at(rt: HostRuntime) -> Result<(), Fail> {
-    let failing = Failing {
-        read: 0,
-        write: 19,
-        told: 0,
-    };
+    let failing = Failing { write: 19, ..NONE };
     let many = Status::Products {
         degree: 13,
         value: 16_385,

@@ -1,8 +1,7 @@
 //! Runs in which two workers are at work at once, held and slowed by their gates.
 
-use crate::run::bergman;
 use crate::tests::bases::long_answer;
-use crate::tests::{COMMUTING_ANSWER, SQUARE, SQUARE_ANSWER, words_of};
+use crate::tests::{COMMUTING_ANSWER, SQUARE, SQUARE_ANSWER, run_line};
 use bg_io::{MemorySink, MemorySource, Plan, PlannedGate, Spot};
 use job_steps::Status;
 use std::alloc::Global;
@@ -22,20 +21,11 @@ fn raced<R: Threads + Sync + Abort + AllocGlobal>(
     output: &str,
 ) -> Result<MemorySink, Fail> {
     let alloc = rt.alloc();
-    let words = words_of(alloc, line)?;
     let text = Vec::from_slice(alloc, text.as_bytes())?;
     let mut source = MemorySource::new(text, 4, Vec::new(alloc));
     let mut out = MemorySink::new(alloc, 3, Vec::from_slice(alloc, &[failing])?);
     let mut err = MemorySink::new(alloc, 3, Vec::new(alloc));
-    let answer = bergman(
-        rt,
-        alloc,
-        words.as_slice(),
-        &mut source,
-        &mut out,
-        &mut err,
-        gate,
-    );
+    let answer = run_line(rt, line, &mut source, &mut out, &mut err, gate)?;
     assert_eq!(rt; answer, status, "{line}");
     assert_eq!(rt; out.held(), output.as_bytes(), "{line}");
     Ok(err)
