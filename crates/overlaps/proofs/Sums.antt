@@ -12,9 +12,6 @@ use Rattle.overlaps.specs.declared.obstruction.Obstruction.{Obstruction}
 use Rattle.overlaps.specs.Listed.{obstruction_of}
 use Rattle.overlaps.specs.Walk.{block, blocks, lead_word}
 
-pub one_fault : {T E : Type 0} (r : Result T E) (a b : E) → r ≡ Err a → r ≡ Err b → a ≡ b
-one_fault r a b h k = cc
-
 map-same : {X : Type 0} (xs : List X) → map (λ x. x) xs ≡ xs
 map-same [] = refl
 map-same (x ∷ xs) = ap (λ r. x ∷ r) (map-same xs)

@@ -3,3 +3,4 @@ pub mod Weights
 pub mod OrderFacts
 pub mod Degrees
 pub mod NameLists
+pub mod Faults
