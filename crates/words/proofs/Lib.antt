@@ -4,3 +4,4 @@ pub mod OrderFacts
 pub mod Degrees
 pub mod NameLists
 pub mod Faults
+pub mod Factors

@@ -1,4 +1,4 @@
-use Rattle.std.proofs.Common.{◌≡◌, ◌+◌, ◌-◌, ℕ, Err, [], List, length, arith, subst, sym, ap, ◌∙◌}
+use Rattle.std.proofs.Common.{◌≡◌, ◌+◌, ◌-◌, ℕ, Err, [], List, length, arith, subst, sym, ap}
 use Rattle.std.specs.List.{Contains}
 use Rattle.words.proofs.Faults.{same_fault}
 use Rattle.anick_chains.specs.declared.tally.ChainCount.{ChainCount}

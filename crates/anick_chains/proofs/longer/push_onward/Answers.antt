@@ -1,4 +1,4 @@
-use Rattle.std.proofs.Common.{◌++◌, ℕ, Err, List, sym, ap, ◌∙◌}
+use Rattle.std.proofs.Common.{◌++◌, ℕ, Err, List, ap, ◌∙◌}
 use Rattle.words.proofs.Faults.{same_fault}
 use Rattle.anick_chains.specs.Listed.{with_degree}
 use Rattle.anick_chains.proofs.Onward.{listed_letters, onward_all, onward_many}

@@ -1,4 +1,4 @@
-use Rattle.std.proofs.Common.{Err, arith, sym, ap, ◌∙◌}
+use Rattle.std.proofs.Common.{Err, arith, ap}
 use Rattle.std.specs.List.{sum_by}
 use Rattle.std.proofs.lemmas.List.{take_all}
 use Rattle.std.proofs.lemmas.List.Sums.{sum_by_more_le}
