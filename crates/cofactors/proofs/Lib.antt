@@ -10,7 +10,6 @@ pub mod LeadingRows
 pub mod Negatives
 pub mod Certificates
 pub mod ProductLists
-pub mod FreeWords
 pub mod Echelon
 pub mod Residues
 pub mod Examples

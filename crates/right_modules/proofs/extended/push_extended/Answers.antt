@@ -1,4 +1,4 @@
-use Rattle.std.proofs.Common.{◌++◌, ◌∷◌, ◌∙◌, [], ℕ, List, Err, ap, arith, sym}
+use Rattle.std.proofs.Common.{◌++◌, ◌∷◌, ◌∙◌, [], ℕ, List, Err, ap, arith}
 use Rattle.words.proofs.Faults.{same_fault}
 use Rattle.right_modules.proofs.Standing.{extended-longer}
 use Rattle.right_modules.proofs.extended.push_extended.Goals as goal
