@@ -1,34 +1,22 @@
 -- What an index of the leading words of a basis answers on the tips that stand in a word.
-use Rattle.std.proofs.Common.{◌≡◌, ◌++◌, ℕ, true, false, List, [], length, take, drop, get_or, sym, ap, ◌∙◌, subst, Some}
-use Rattle.std.proofs.Common.{append_assoc}
+use Rattle.std.proofs.Common.{◌≡◌, ℕ, true, false, List, [], length, get_or, ap, ◌∙◌, subst, Some}
 use Rattle.std.specs.List.{Contains}
-use Rattle.std.proofs.lemmas.List.{take-append-drop}
 use Rattle.std.proofs.lemmas.List.Elements.{All-contains}
 use Rattle.std.proofs.lemmas.Option.{get_or_from_slice_get, slice_get-get_or, slice_get_within}
-use Rattle.words.specs.Words.{IsFactor, OccursAt}
+use Rattle.words.specs.Words.{OccursAt}
+use Rattle.words.proofs.Factors.{factor_occurs, occurs_factor}
 use Rattle.free_poly.specs.Poly.{lead_or_none}
 use Rattle.ideal_laws.specs.Engine.{Elements}
 use Rattle.ideal_laws.specs.Kept.{IsKept}
 use Rattle.lead_index.specs.declared.lead.Lead.{Lead}
 use Rattle.lead_index.specs.Leads.{IsFree, IsIndexOf, Starts}
 use Rattle.overlaps.specs.Walk.{lead_word}
-use Rattle.overlaps.proofs.Fronts.{occurs_inside}
 use Rattle.overlaps.proofs.Places.{element_kept, lead-is, monic-lead}
 use Rattle.anick_chains.specs.BasisTips.{leads_of}
 use Rattle.anick_chains.specs.Chains.{HasTip}
 use Rattle.anick_chains.specs.Walk.{stands}
 use Rattle.anick_chains.proofs.Nexts.{lead_listed, listed_lead}
 use Rattle.anick_chains.proofs.Stands.{stands-has, stands-not}
-
--- what stands in a word at a place is a factor
-occurs_factor : (v w : List ℕ) (k : ℕ) → OccursAt v w k → IsFactor v w
-occurs_factor v w k o = record {
-  before = take k w;
-  after = drop (length v) (drop k w);
-  joined =
-      sym (append_assoc (take k w) v (drop (length v) (drop k w)) ∙ ap (λ (x : List ℕ). take k w ++ (x ++ drop (length v) (drop k w))) (sym o.same)
-      ∙ ap (λ (r : List ℕ). take k w ++ r) (take-append-drop (length v) (drop k w)) ∙ take-append-drop k w);
-}
 
 module _ (b : Elements) (kept : IsKept b) (leads : List Lead) (index : IsIndexOf b.elements leads) (w : List ℕ) where
   -- where no word of the index stands no tip does
@@ -38,7 +26,7 @@ module _ (b : Elements) (kept : IsKept b) (leads : List Lead) (index : IsIndexOf
       let lead = monic-lead (get_or b.elements k.0 []) (element_kept b kept k.0 k.1).monic ∙ ap Some k.2 in
       let l : Lead = record { word = h.tip; element = k.0 } in
       All-contains (λ l. OccursAt l.word w (length h.inside.before) → ⊥) leads l (free (length h.inside.before))
-      ((index l).1 (get_or b.elements k.0 [], slice_get-get_or b.elements k.0 [] k.1, lead)) (occurs_inside h.tip w h.inside)
+      ((index l).1 (get_or b.elements k.0 [], slice_get-get_or b.elements k.0 [] k.1, lead)) (factor_occurs h.tip w h.inside)
 
   -- where one stands it is a tip
   pub starts_says : (at element : ℕ) → Starts leads w at element → HasTip (Contains (leads_of b.elements)) w

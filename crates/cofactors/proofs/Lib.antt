@@ -10,6 +10,5 @@ pub mod LeadingRows
 pub mod Negatives
 pub mod Certificates
 pub mod ProductLists
-pub mod FreeWords
 pub mod Echelon
 pub mod Examples

@@ -15,7 +15,7 @@ use Rattle.ideal_laws.specs.Overlaps.{AreLower}
 use Rattle.ideal_laws.proofs.Dimensions.{has_one_dimension}
 use Rattle.ideal_laws.proofs.Lower.{lists_lower}
 use Rattle.hilbert.specs.Series.{CountsCoefficients, IsCount}
-use Rattle.hilbert.proofs.NormalLeads.{normal_from, normal_no_lead}
+use Rattle.ideal_laws.proofs.NormalLeads.{normal_from, normal_no_lead}
 
 -- a list that has x, in the parts before and after it
 record IsHad {X : Type 0} (x : X) (xs : List X) : Type 0 where

@@ -1,4 +1,3 @@
 pub mod Indexed
-pub mod NormalLeads
 pub mod Coefficients
 pub mod Steps

@@ -18,3 +18,4 @@ pub mod Grown
 pub mod Refused
 pub mod Lower
 pub mod OneQuantity
+pub mod NormalLeads

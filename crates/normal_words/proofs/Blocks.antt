@@ -18,9 +18,6 @@ use Rattle.lead_index.specs.declared.lead.Lead.{Lead}
 use Rattle.lead_index.specs.Leads.{IsFree, IsFreeAt, Starts}
 use Rattle.normal_words.specs.Block.{begins, block, unless_begins}
 
-pub one_fault : {T E : Type 0} (r : Result T E) (a b : E) → r ≡ Err a → r ≡ Err b → a ≡ b
-one_fault r a b h k = cc
-
 -- equal first letters stand at the front
 occurs_at_front : (u w : List ℕ) → take (length u) w ≡ u → OccursAt u w 0
 occurs_at_front u w e = elim (cases_lt (length w) (length u)) [

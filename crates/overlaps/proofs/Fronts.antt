@@ -1,6 +1,6 @@
 -- The first letters of words that fall.
 use Rattle.std.proofs.Common.{ap₂, ◌≡◌, ◌⊎◌, ◌-◌, ◌<◌, ℕ, zero, suc, List, [], ◌∷◌, ◌++◌, length, take, drop, refl, sym, ap, ◌∙◌, inl, inr, arith}
-use Rattle.std.proofs.Common.{subst, append_assoc, length-append}
+use Rattle.std.proofs.Common.{subst}
 use Rattle.std.proofs.Common.{length-drop}
 use Rattle.std.proofs.lemmas.Bool.{cases_lt}
 use Rattle.std.proofs.lemmas.Cmp.{by_ranked, ranked}
@@ -8,7 +8,7 @@ use Rattle.std.proofs.lemmas.List.{take_all}
 use Rattle.std.specs.Ordering.{nat_cmp}
 use Rattle.std.specs.declared.cmp.Ordering.TheVariants.{Less, Greater}
 use Rattle.words.specs.Order.{IsLetterwiseGreater, letterwise_cmp}
-use Rattle.words.specs.Words.{IsFactor, OccursAt}
+use Rattle.words.specs.Words.{OccursAt}
 use Rattle.free_poly.proofs.NormalForms.{letterwise-trans}
 use Rattle.overlaps.specs.Walk.{IsAbove}
 
@@ -66,13 +66,3 @@ behind_front (a ∷ u) r = behind_front u r
 pub front_of : (u r : List ℕ) → take (length u) (u ++ r) ≡ u
 front_of [] r = refl
 front_of (a ∷ u) r = ap (λ (s : List ℕ). a ∷ s) (front_of u r)
-
--- a factor stands in a word behind what is before it
-pub occurs_inside : (u w : List ℕ) (f : IsFactor u w) → OccursAt u w (length f.before)
-occurs_inside u w f =
-    let rest : drop (length f.before) w ≡ u ++ f.after = ap (drop (length f.before)) (f.joined ∙ append_assoc f.before u f.after)
-    ∙ behind_front f.before (u ++ f.after) in
-    record {
-      within = omega (arith, ap length f.joined, length-append (f.before ++ u) f.after, length-append f.before u);
-      same = ap (take (length u)) rest ∙ front_of u f.after;
-    }

@@ -29,17 +29,44 @@ pub fn next_place(place: Place, mark: Mark, bytes: &[u8]) -> Option<Place>
 {
     match place {
         Place::Beginning => of_vars(mark, bytes),
-        Place::AfterVars | Place::AfterListComma => of_declared(mark),
-        Place::AfterDeclared => after_declared(mark),
-        Place::AfterListColon => of_weight(mark),
-        Place::AfterWeight => after_weight(mark),
-        Place::AfterList => after_list(mark),
+        Place::AfterVars | Place::AfterListComma => match mark {
+            Mark::Name => Some(Place::AfterDeclared),
+            _ => None,
+        },
+        Place::AfterDeclared => match mark {
+            Mark::Comma => Some(Place::AfterListComma),
+            Mark::Semicolon => Some(Place::AfterList),
+            Mark::Colon => Some(Place::AfterListColon),
+            _ => None,
+        },
+        Place::AfterListColon => match mark {
+            Mark::Number { value: _ } => Some(Place::AfterWeight),
+            _ => None,
+        },
+        Place::AfterWeight => match mark {
+            Mark::Comma => Some(Place::AfterListComma),
+            Mark::Semicolon => Some(Place::AfterList),
+            _ => None,
+        },
+        Place::AfterList => match mark {
+            Mark::Semicolon => Some(Place::AfterLast),
+            _ => of_term(mark),
+        },
         Place::AfterComma => of_term(mark),
         Place::AfterOperator => of_factor(mark),
-        Place::AfterName => after_name(mark),
-        Place::AfterCaret => of_exponent(mark),
+        Place::AfterName => match mark {
+            Mark::Caret => Some(Place::AfterCaret),
+            _ => in_relation(mark),
+        },
+        Place::AfterCaret => match mark {
+            Mark::Number { value: _ } => Some(Place::AfterNumber),
+            _ => None,
+        },
         Place::AfterNumber => in_relation(mark),
-        Place::AfterLast => after_last(mark),
+        Place::AfterLast => match mark {
+            Mark::End => Some(Place::AfterEnd),
+            _ => None,
+        },
         Place::AfterEnd => None,
     }
 }
@@ -56,54 +83,6 @@ fn of_vars(mark: Mark, bytes: &[u8]) -> Option<Place>
             }
         }
         _ => None,
-    }
-}
-
-fn of_declared(mark: Mark) -> Option<Place>
-    ensures { (bytes : List ℕ) → result ≡ next_place Place.AfterVars (lexeme_of mark bytes) }
-{
-    match mark {
-        Mark::Name => Some(Place::AfterDeclared),
-        _ => None,
-    }
-}
-
-fn after_declared(mark: Mark) -> Option<Place>
-    ensures { (bytes : List ℕ) → result ≡ next_place Place.AfterDeclared (lexeme_of mark bytes) }
-{
-    match mark {
-        Mark::Comma => Some(Place::AfterListComma),
-        Mark::Semicolon => Some(Place::AfterList),
-        Mark::Colon => Some(Place::AfterListColon),
-        _ => None,
-    }
-}
-
-fn of_weight(mark: Mark) -> Option<Place>
-    ensures { (bytes : List ℕ) → result ≡ next_place Place.AfterListColon (lexeme_of mark bytes) }
-{
-    match mark {
-        Mark::Number { value: _ } => Some(Place::AfterWeight),
-        _ => None,
-    }
-}
-
-fn after_weight(mark: Mark) -> Option<Place>
-    ensures { (bytes : List ℕ) → result ≡ next_place Place.AfterWeight (lexeme_of mark bytes) }
-{
-    match mark {
-        Mark::Comma => Some(Place::AfterListComma),
-        Mark::Semicolon => Some(Place::AfterList),
-        _ => None,
-    }
-}
-
-fn after_list(mark: Mark) -> Option<Place>
-    ensures { (bytes : List ℕ) → result ≡ next_place Place.AfterList (lexeme_of mark bytes) }
-{
-    match mark {
-        Mark::Semicolon => Some(Place::AfterLast),
-        _ => of_term(mark),
     }
 }
 
@@ -126,24 +105,6 @@ fn of_factor(mark: Mark) -> Option<Place>
     }
 }
 
-fn after_name(mark: Mark) -> Option<Place>
-    ensures { (bytes : List ℕ) → result ≡ next_place Place.AfterName (lexeme_of mark bytes) }
-{
-    match mark {
-        Mark::Caret => Some(Place::AfterCaret),
-        _ => in_relation(mark),
-    }
-}
-
-fn of_exponent(mark: Mark) -> Option<Place>
-    ensures { (bytes : List ℕ) → result ≡ next_place Place.AfterCaret (lexeme_of mark bytes) }
-{
-    match mark {
-        Mark::Number { value: _ } => Some(Place::AfterNumber),
-        _ => None,
-    }
-}
-
 fn in_relation(mark: Mark) -> Option<Place>
     ensures { (bytes : List ℕ) → result ≡ in_relation (lexeme_of mark bytes) }
 {
@@ -155,15 +116,6 @@ fn in_relation(mark: Mark) -> Option<Place>
     }
 }
 
-fn after_last(mark: Mark) -> Option<Place>
-    ensures { (bytes : List ℕ) → result ≡ next_place Place.AfterLast (lexeme_of mark bytes) }
-{
-    match mark {
-        Mark::End => Some(Place::AfterEnd),
-        _ => None,
-    }
-}
-
 /// The fault of a token that may not come at a place.
 pub fn refusal(place: Place, mark: Mark, at: u32) -> InputFault
     ensures { (bytes : List ℕ) → result ≡ refusal place (lexeme_of mark bytes) at }
@@ -171,38 +123,14 @@ pub fn refusal(place: Place, mark: Mark, at: u32) -> InputFault
     match place {
         Place::AfterVars => no_name(mark, at),
         Place::AfterLast | Place::AfterEnd => InputFault::AfterEnd { at },
-        Place::Beginning => InputFault::Expected {
-            at,
-            what: Want::Vars,
-        },
-        Place::AfterListComma => InputFault::Expected {
-            at,
-            what: Want::Name,
-        },
-        Place::AfterDeclared | Place::AfterWeight => InputFault::Expected {
-            at,
-            what: Want::ListMark,
-        },
-        Place::AfterListColon => InputFault::Expected {
-            at,
-            what: Want::Weight,
-        },
-        Place::AfterList | Place::AfterComma => InputFault::Expected {
-            at,
-            what: Want::Term,
-        },
-        Place::AfterOperator => InputFault::Expected {
-            at,
-            what: Want::Factor,
-        },
-        Place::AfterName | Place::AfterNumber => InputFault::Expected {
-            at,
-            what: Want::Operator,
-        },
-        Place::AfterCaret => InputFault::Expected {
-            at,
-            what: Want::Exponent,
-        },
+        Place::Beginning => expected(Want::Vars, at),
+        Place::AfterListComma => expected(Want::Name, at),
+        Place::AfterDeclared | Place::AfterWeight => expected(Want::ListMark, at),
+        Place::AfterListColon => expected(Want::Weight, at),
+        Place::AfterList | Place::AfterComma => expected(Want::Term, at),
+        Place::AfterOperator => expected(Want::Factor, at),
+        Place::AfterName | Place::AfterNumber => expected(Want::Operator, at),
+        Place::AfterCaret => expected(Want::Exponent, at),
     }
 }
 
@@ -211,9 +139,12 @@ fn no_name(mark: Mark, at: u32) -> InputFault
 {
     match mark {
         Mark::Semicolon => InputFault::NoVariable { at },
-        _ => InputFault::Expected {
-            at,
-            what: Want::Name,
-        },
+        _ => expected(Want::Name, at),
     }
+}
+
+fn expected(what: Want, at: u32) -> InputFault
+    ensures { result ≡ InputFault.Expected at what }
+{
+    InputFault::Expected { at, what }
 }

@@ -3,3 +3,5 @@ pub mod Weights
 pub mod OrderFacts
 pub mod Degrees
 pub mod NameLists
+pub mod Faults
+pub mod Factors

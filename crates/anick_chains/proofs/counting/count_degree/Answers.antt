@@ -1,6 +1,5 @@
 use Rattle.std.proofs.Common.{◌≡◌, ◌+◌, ◌-◌, ◌++◌, All, Err, List, arith, rules, subst, sym, ap, ◌∙◌}
-use Rattle.std.proofs.lemmas.Result.{err_from_is_err_and}
-use Rattle.overlaps.proofs.Sums.{one_fault}
+use Rattle.words.proofs.Faults.{same_fault}
 use Rattle.anick_chains.specs.declared.tally.ChainCount.{ChainCount}
 use Rattle.anick_chains.specs.declared.tally.Tally.{Tally}
 use Rattle.anick_chains.specs.Tallies.{AreTalliedOf, IsTallyBelow, TellsSame, counts_at, tallies_at, tally_total}
@@ -21,8 +20,7 @@ pub returns-in_err-block-clause-many : goal.returns-in_err-block-clause-many
 returns-in_err-block-clause-many c = λ d e.
     let b = c.args.tips.now.basis.now in
     let next : c.args.degree ≡ (c.args.degree - 1) + 1 = omega (arith, c.requires.some) in
-    let p = err_from_is_err_and c.from_residual.result c.from_residual.ensures.1 in
-    let m = c.in_err-block.ensures.many d (ap Err (sym p.2 ∙ one_fault c.from_residual.result _ _ p.1 e)) in (
+    let m = c.in_err-block.ensures.many d (ap Err (same_fault c.from_residual.result _ _ c.from_residual.ensures.1 e)) in (
       m.0,
       c.args.total.now + tally_total (tallies_at b.weights b.elements c.args.degree c.args.tallies.now.items),
       more_number b c.requires.tips.kept c.requires.tips.factor_free (c.args.degree - 1) c.args.total.now c.args.tallies.now.items c.args.counts.now.items

@@ -1,7 +1,6 @@
-use Rattle.std.proofs.Common.{◌≡◌, ◌+◌, ◌-◌, ℕ, All, Err, [], length, arith, subst, sym, ap, ◌∙◌}
+use Rattle.std.proofs.Common.{◌≡◌, ◌+◌, ◌-◌, ℕ, All, Err, [], length, arith, subst, sym, ap}
 use Rattle.std.specs.List.{Contains}
-use Rattle.std.proofs.lemmas.Result.{err_from_is_err_and}
-use Rattle.overlaps.proofs.Sums.{one_fault}
+use Rattle.words.proofs.Faults.{same_fault}
 use Rattle.anick_chains.specs.BasisTips.{leads_of}
 use Rattle.anick_chains.specs.Listed.{AreListedOf}
 use Rattle.words.specs.Words.{IsOver}
@@ -40,8 +39,7 @@ loop-degree-preserved c =
 
 pub returns-in_err-push_degree-clause-many : goal.returns-in_err-push_degree-clause-many
 returns-in_err-push_degree-clause-many c = λ degree e.
-    let p = err_from_is_err_and c.from_residual-in_err-push_degree.result c.from_residual-in_err-push_degree.ensures.1 in
-    let m = c.in_err-push_degree.ensures.many degree (ap Err (sym p.2 ∙ one_fault c.from_residual-in_err-push_degree.result _ _ p.1 e)) in
+    let m = c.in_err-push_degree.ensures.many degree (ap Err (same_fault c.from_residual-in_err-push_degree.result _ _ c.from_residual-in_err-push_degree.ensures.1 e)) in
     let b = c.args.basis.now in
     first_many (Contains (leads_of b.elements)) (length b.weights) b.weights c.args.most c.args.bound c.loop-degree.degree degree
     c.loop-degree.invariant.before (omega (arith, c.loop-degree-test.true)) m.0 m.1 m.2 m.3

@@ -1,10 +1,9 @@
 use Rattle.std.proofs.Common.{◌≡◌, ◌+◌, ◌-◌, ◌++◌, ◌∷◌, [], List, ℕ, Err, length, arith, rules, subst, sym, ap, ◌∙◌, length-append}
 use Rattle.std.proofs.lemmas.List.{length-map, map-append}
 use Rattle.std.proofs.lemmas.List.Sorted.{length_permutation}
-use Rattle.std.proofs.lemmas.Result.{err_from_is_err_and}
 use Rattle.std.specs.List.{flat_map}
 use Rattle.std.specs.List.Sorted.{IsSorted}
-use Rattle.overlaps.proofs.Sums.{one_fault}
+use Rattle.words.proofs.Faults.{same_fault}
 use Rattle.anick_chains.specs.declared.chain.Chain.{Chain}
 use Rattle.anick_chains.specs.Compare.{pieces_cmp}
 use Rattle.anick_chains.specs.Listed.{AreListedOf, pieces_of, with_degree}
@@ -16,8 +15,7 @@ pub returns-in_err-push_continued-clause-many : goal.returns-in_err-push_continu
 returns-in_err-push_continued-clause-many c = λ d e.
     let b = c.args.tips.now.basis.now in
     let next : c.args.degree ≡ (c.args.degree - 1) + 1 = omega (arith, c.requires.some) in
-    let p = err_from_is_err_and c.from_residual-in_err-push_continued.result c.from_residual-in_err-push_continued.ensures.1 in
-    let m = c.in_err-push_continued.ensures.many d (ap Err (sym p.2 ∙ one_fault c.from_residual-in_err-push_continued.result _ _ p.1 e)) in
+    let m = c.in_err-push_continued.ensures.many d (ap Err (same_fault c.from_residual-in_err-push_continued.result _ _ c.from_residual-in_err-push_continued.ensures.1 e)) in
     let kept = c.requires.tips.kept in (
       m.0,
       length c.args.found.now.items + length (chains_at b.weights b.elements c.args.degree (pieces_of c.args.found.now.items)),
@@ -37,8 +35,7 @@ pub returns-in_err-push_onward-clause-many : goal.returns-in_err-push_onward-cla
 returns-in_err-push_onward-clause-many c = λ d e.
     let b = c.args.tips.now.basis.now in
     let next : c.args.degree ≡ (c.args.degree - 1) + 1 = omega (arith, c.requires.some) in
-    let p = err_from_is_err_and c.from_residual-in_err-push_onward.result c.from_residual-in_err-push_onward.ensures.1 in
-    let m = c.in_err-push_onward.ensures.many d (ap Err (sym p.2 ∙ one_fault c.from_residual-in_err-push_onward.result _ _ p.1 e)) in
+    let m = c.in_err-push_onward.ensures.many d (ap Err (same_fault c.from_residual-in_err-push_onward.result _ _ c.from_residual-in_err-push_onward.ensures.1 e)) in
     let kept = c.requires.tips.kept in
     let letters = continued [] c.in_ok-letters.letters.items in (
       m.0,

@@ -1,6 +1,5 @@
-use Rattle.std.proofs.Common.{◌++◌, ℕ, Err, List, sym, ap, ◌∙◌}
-use Rattle.std.proofs.lemmas.Result.{err_from_is_err_and}
-use Rattle.overlaps.proofs.Sums.{one_fault}
+use Rattle.std.proofs.Common.{◌++◌, ℕ, Err, List, ap, ◌∙◌}
+use Rattle.words.proofs.Faults.{same_fault}
 use Rattle.anick_chains.specs.Listed.{with_degree}
 use Rattle.anick_chains.proofs.Onward.{listed_letters, onward_all, onward_many}
 use Rattle.anick_chains.proofs.longer.push_onward.Goals as goal
@@ -13,8 +12,7 @@ push_longer-requires-clause-letters c =
 pub returns-in_err-push_longer-clause-many : goal.returns-in_err-push_longer-clause-many
 returns-in_err-push_longer-clause-many c = λ d e.
     let b = c.args.tips.now.basis.now in
-    let p = err_from_is_err_and c.from_residual.result c.from_residual.ensures.1 in
-    let m = c.in_err-push_longer.ensures.many d (ap Err (sym p.2 ∙ one_fault c.from_residual.result _ _ p.1 e)) in (
+    let m = c.in_err-push_longer.ensures.many d (ap Err (same_fault c.from_residual.result _ _ c.from_residual.ensures.1 e)) in (
       m.0,
       onward_many b.weights b.elements c.args.degree c.args.found.now c.args.block.now.items c.loop-chain.block.items c.args.room
           c.loop-chain.chain-index c.chain-item.result c.loop-chain-test.true c.chain-item.is

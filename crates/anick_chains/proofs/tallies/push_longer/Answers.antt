@@ -1,9 +1,8 @@
-use Rattle.std.proofs.Common.{Err, arith, sym, ap, ◌∙◌}
+use Rattle.std.proofs.Common.{Err, arith, ap}
 use Rattle.std.specs.List.{sum_by}
 use Rattle.std.proofs.lemmas.List.{take_all}
 use Rattle.std.proofs.lemmas.List.Sums.{sum_by_more_le}
-use Rattle.std.proofs.lemmas.Result.{err_from_is_err_and}
-use Rattle.overlaps.proofs.Sums.{one_fault}
+use Rattle.words.proofs.Faults.{same_fault}
 use Rattle.anick_chains.specs.declared.tally.Tally.{Tally}
 use Rattle.anick_chains.specs.Tallies.{longer_tallies, tally_total}
 use Rattle.anick_chains.proofs.Sums.{sum_by-flat_map}
@@ -13,8 +12,7 @@ pub returns-in_err-push_next-clause-many : goal.returns-in_err-push_next-clause-
 returns-in_err-push_next-clause-many c = λ d e.
     let b = c.args.tips.now.basis.now in
     let g = λ (t : Tally). tally_total (longer_tallies b.weights b.elements c.args.degree t) in
-    let p = err_from_is_err_and c.from_residual.result c.from_residual.ensures.1 in
-    let m = c.in_err-push_next.ensures.many d (ap Err (sym p.2 ∙ one_fault c.from_residual.result _ _ p.1 e)) in (
+    let m = c.in_err-push_next.ensures.many d (ap Err (same_fault c.from_residual.result _ _ c.from_residual.ensures.1 e)) in (
       m.0,
       omega (
         arith,

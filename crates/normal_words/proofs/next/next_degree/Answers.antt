@@ -1,8 +1,7 @@
 use Rattle.std.proofs.Common.{◌≡◌, ◌++◌, ◌<◌, ℕ, List, Err, length, subst, sym, ap, ◌∙◌, arith}
-use Rattle.std.proofs.lemmas.Result.{err_from_is_err_and}
+use Rattle.words.proofs.Faults.{same_fault}
 use Rattle.normal_words.specs.Normal.{AreNormal, next_of}
 use Rattle.normal_words.specs.Block.{block_at}
-use Rattle.normal_words.proofs.Blocks.{one_fault}
 use Rattle.normal_words.proofs.Grown.{grown, grown-longer, grown-more, grown_normal, words_short}
 use Rattle.normal_words.proofs.next.next_degree.Goals as goal
 
@@ -17,8 +16,7 @@ returns-in_err-push_letter-clause-many c = λ e.
     let before = c.args.before.now in
     let words = c.loop-letter.words.items in
     let letter = c.loop-letter.letter in
-    let p = err_from_is_err_and c.from_residual.result c.from_residual.ensures.1 in
-    let more = c.in_err-push_letter.ensures.many (ap Err (sym p.2 ∙ one_fault c.from_residual.result _ _ p.1 e)) in
+    let more = c.in_err-push_letter.ensures.many (ap Err (same_fault c.from_residual.result _ _ c.from_residual.ensures.1 e)) in
     let longer = subst (λ (k : ℕ). c.args.most < length (words ++ block_at leads before letter k)) c.weight-weight.ensures.value more in (
       grown weights leads before (length weights),
       grown_normal weights leads before c.len-letters.ensures.alphabet.weights c.requires.before c.requires.enough,

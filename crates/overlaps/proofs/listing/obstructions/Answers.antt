@@ -1,21 +1,20 @@
-use Rattle.std.proofs.Common.{◌≡◌, ◌+◌, ◌<◌, ◌++◌, [], ℕ, Err, arith, length, map, sym, ap, ◌∙◌}
+use Rattle.std.proofs.Common.{◌≡◌, ◌+◌, ◌<◌, ◌++◌, [], ℕ, Err, arith, length, map, ap, ◌∙◌}
 use Rattle.std.proofs.lemmas.List.{length-map}
 use Rattle.std.proofs.lemmas.List.Sorted.{length_permutation}
-use Rattle.std.proofs.lemmas.Result.{err_from_is_err_and}
+use Rattle.words.proofs.Faults.{same_fault}
 use Rattle.overlaps.specs.Listed.{obstruction_of}
 use Rattle.overlaps.specs.Walk.{blocks}
 use Rattle.overlaps.proofs.Apart.{are_obstructions, in_order}
 use Rattle.overlaps.proofs.Sorted.{sorted_listed}
-use Rattle.overlaps.proofs.Sums.{all_upto, appended, joined-many, joined-more, one_fault}
+use Rattle.overlaps.proofs.Sums.{all_upto, appended, joined-many, joined-more}
 use Rattle.overlaps.proofs.listing.obstructions.Goals as goal
 
 pub returns-in_err-push_element-clause-many : goal.returns-in_err-push_element-clause-many
 returns-in_err-push_element-clause-many c = λ e.
     let b = c.args.basis.now in
     let kept = c.done-done.ensures.kept in
-    let p = err_from_is_err_and c.from_residual.result c.from_residual.ensures.1 in
     let more : c.args.most < length c.loop-left.found.items + length (blocks b.weights b.elements c.args.d c.loop-left.left) =
-    c.in_err-push_element.ensures.many (ap Err (sym p.2 ∙ one_fault c.from_residual.result _ _ p.1 e)) in
+    c.in_err-push_element.ensures.many (ap Err (same_fault c.from_residual.result _ _ c.from_residual.ensures.1 e)) in
     let size = ap length c.loop-left.invariant.so_far ∙ length-map (all_upto b.weights b.elements c.args.d c.loop-left.left) obstruction_of in
     let all = joined-many (blocks b.weights b.elements c.args.d) 0 c.loop-left.left (length b.elements) c.args.most
     (length c.loop-left.found.items) c.loop-left.left

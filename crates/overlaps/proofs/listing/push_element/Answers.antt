@@ -1,13 +1,13 @@
 use Rattle.std.proofs.Common.{◌≡◌, ◌+◌, ◌-◌, ◌++◌, ◌<◌, ◌≤◌, ℕ, List, Err, arith, length, map, take, get_or, refl, sym, ap, ◌∙◌, length-append}
 use Rattle.std.proofs.lemmas.List.{length-map}
-use Rattle.std.proofs.lemmas.Result.{err_from_is_err_and}
 use Rattle.words.specs.Words.{degree_of, weight_of}
+use Rattle.words.proofs.Faults.{same_fault}
 use Rattle.words.proofs.Weights.{degree_of-more, degree_of-take}
 use Rattle.ideal_laws.specs.Closure.{Overlap}
 use Rattle.overlaps.specs.Listed.{obstruction_of}
 use Rattle.overlaps.specs.Walk.{block, lead_word}
 use Rattle.overlaps.proofs.Places.{lead_word-bounds}
-use Rattle.overlaps.proofs.Sums.{appended, blocks_upto, joined-many, joined-more, one_fault}
+use Rattle.overlaps.proofs.Sums.{appended, blocks_upto, joined-many, joined-more}
 use Rattle.overlaps.proofs.listing.push_element.Goals as goal
 
 -- the degree of one letter more
@@ -35,9 +35,8 @@ returns-in_err-push_block-clause-many c = λ e.
     let b = c.args.basis.now in
     let w = lead_word b.elements c.args.left in
     let at = c.loop-before.before in
-    let p = err_from_is_err_and c.from_residual.result c.from_residual.ensures.1 in
     let more : c.args.most < length c.loop-before.found.items + length (block b.weights b.elements c.args.left at c.saturating_sub-rest.result) =
-    c.in_err-push_block.ensures.many (ap Err (sym p.2 ∙ one_fault c.from_residual.result _ _ p.1 e)) in
+    c.in_err-push_block.ensures.many (ap Err (same_fault c.from_residual.result _ _ c.from_residual.ensures.1 e)) in
     let value = c.weight.ensures.value ∙ ap (λ (v : List ℕ). weight_of b.weights (get_or v (at - 1) 0)) c.lead_at-lead.ensures.lead in
     let degree : c.loop-before.degree + c.from-degree.result ≡ degree_of b.weights (take at w) =
     degree_at b.weights w at _ _ _ c.loop-before.auto.before (omega (arith, c.loop-before-test.true, ap length c.lead_at-lead.ensures.lead))

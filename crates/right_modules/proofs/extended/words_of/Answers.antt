@@ -2,8 +2,7 @@ use Rattle.std.proofs.Common.{◌∙◌, Err, ap, arith, length, subst, sym}
 use Rattle.std.specs.List.{flat_map, range_with_len}
 use Rattle.std.proofs.lemmas.List.{take_all}
 use Rattle.std.proofs.lemmas.List.FromFn.{length-range_with_len}
-use Rattle.std.proofs.lemmas.Result.{err_from_is_err_and}
-use Rattle.normal_words.proofs.Blocks.{one_fault}
+use Rattle.words.proofs.Faults.{same_fault}
 use Rattle.right_modules.specs.Extended.{AreNormal, ending}
 use Rattle.right_modules.proofs.EndingSteps.{endings-longer, endings-step, held_short}
 use Rattle.right_modules.proofs.Endings.{endings, endings_normal}
@@ -18,8 +17,7 @@ pub returns-in_err-push_ending-clause-many : goal.returns-in_err-push_ending-cla
 returns-in_err-push_ending-clause-many c = λ e.
     let a = c.args in
     let aw = c.len-letters.ensures.alphabet.weights in
-    let p = err_from_is_err_and c.from_residual.result c.from_residual.ensures.1 in
-    let more = c.in_err-push_ending.ensures.many (ap Err (sym p.2 ∙ one_fault c.from_residual.result _ _ p.1 e)) in (
+    let more = c.in_err-push_ending.ensures.many (ap Err (same_fault c.from_residual.result _ _ c.from_residual.ensures.1 e)) in (
       endings a.alphabet.now.weights a.free a.index.now a.d a.held.now,
       endings_normal a.alphabet.now.weights aw a.free a.index.now a.d a.held.now c.requires.held,
       endings-longer a.alphabet.now.weights aw a.free a.index.now a.d a.held.now c.requires.held a.most _ c.loop-letter.letter

@@ -1,6 +1,5 @@
-use Rattle.std.proofs.Common.{◌+◌, ◌-◌, ◌∙◌, ℕ, Err, ap, inl, inr, subst, sym}
-use Rattle.std.proofs.lemmas.Result.{err_from_is_err_and}
-use Rattle.normal_words.proofs.Blocks.{one_fault}
+use Rattle.std.proofs.Common.{◌+◌, ◌-◌, ℕ, Err, ap, inl, inr, rules, subst, sym}
+use Rattle.words.proofs.Faults.{same_fault}
 use Rattle.right_modules.specs.Answered.{AreModuleDegrees, AreModuleNumbers, ArePartsUpto}
 use Rattle.right_modules.proofs.ModuleAnswers.{below_after, degrees_are, limit_from_fault, shaped_from, tells_outside}
 use Rattle.right_modules.proofs.module.module_basis.Goals as goal
@@ -10,8 +9,7 @@ pub returns-in_err-basis-clause-limit : goal.returns-in_err-basis-clause-limit
 returns-in_err-basis-clause-limit g c = λ kind degree value e.
     let free = ap (λ (n : ℕ). n - c.args.gens) c.len.ensures.count in
     let shaped = shaped_from c.args.presentation.now c.args.gens _ _ c.as_slice.ensures free c.in-None.ensures in
-    let p = err_from_is_err_and c.from_residual.result c.from_residual.ensures.1 in
-    let is = limit_from_fault _ kind degree value (sym p.2 ∙ one_fault c.from_residual.result _ _ p.1 e) in
+    let is = limit_from_fault _ kind degree value (same_fault c.from_residual.result _ _ c.from_residual.ensures.1 e) in
     (shaped, inl (c.in_err-basis.ensures.limit kind degree value (ap Err is)))
 
 pub index_of-requires : goal.index_of-requires
@@ -29,15 +27,14 @@ returns-in_err-numbers-clause-limit g c = λ kind degree value e.
     let below = below_after p given c.args.bound c.in_ok-basis.basis run.kept run.done run.weights run.reduced in
     let free = ap (λ (n : ℕ). n - c.args.gens) c.len.ensures.count in
     let shaped = shaped_from given c.args.gens _ _ c.as_slice.ensures free c.in-None.ensures in
-    let told = err_from_is_err_and c.from_residual-in_err-numbers.result c.from_residual-in_err-numbers.ensures.1 in
-    let is = sym told.2 ∙ one_fault c.from_residual-in_err-numbers.result _ _ told.1 e in
+    let is = same_fault c.from_residual-in_err-numbers.result _ _ c.from_residual-in_err-numbers.ensures.1 e in
     let large = c.in_err-numbers.ensures.limit kind degree value (ap Err is) in
     let index = c.in_ok-index in
     let tells = tells_outside p given c.args.gens c.args.bound c.in_ok-basis.basis c.setting_law.ensures shaped below index.index index.ensures in
     (shaped, inr (run.within, large.0, large.1 p tells))
 
-pub returns-clause-degrees : goal.returns-clause-degrees
-returns-clause-degrees g c =
+pub returns : goal.returns
+returns g c =
     let p = c.args.field.now in
     let given = c.args.presentation.now in
     let run = c.in_ok-basis.ensures in
@@ -45,22 +42,17 @@ returns-clause-degrees g c =
     let free = ap (λ (n : ℕ). n - c.args.gens) c.len.ensures.count in
     let shaped = shaped_from given c.args.gens _ _ c.as_slice.ensures free c.in-None.ensures in
     let parts = subst (λ (n : ℕ). ArePartsUpto n c.in_ok-basis.basis c.args.bound c.in_ok-degrees.degrees.items) free c.in_ok-degrees.ensures in
-    subst (AreModuleDegrees p given c.args.gens c.args.bound) (sym c.from_vec.ensures)
-    (degrees_are p given c.args.gens c.args.bound c.in_ok-basis.basis c.setting_law.ensures shaped below c.in_ok-degrees.degrees.items parts)
-
-pub returns-clause-numbers : goal.returns-clause-numbers
-returns-clause-numbers g c =
-    let p = c.args.field.now in
-    let given = c.args.presentation.now in
-    let run = c.in_ok-basis.ensures in
-    let below = below_after p given c.args.bound c.in_ok-basis.basis run.kept run.done run.weights run.reduced in
-    let free = ap (λ (n : ℕ). n - c.args.gens) c.len.ensures.count in
-    let shaped = shaped_from given c.args.gens _ _ c.as_slice.ensures free c.in-None.ensures in
     let index = c.in_ok-index in
     let tells = tells_outside p given c.args.gens c.args.bound c.in_ok-basis.basis c.setting_law.ensures shaped below index.index index.ensures in
-    subst (AreModuleNumbers p given c.args.gens c.args.bound) (sym c.from_vec-2.ensures) (c.in_ok-numbers.ensures.numbers p tells)
-
-pub returns-clause-shaped : goal.returns-clause-shaped
-returns-clause-shaped g c =
-    let free = ap (λ (n : ℕ). n - c.args.gens) c.len.ensures.count in
-    shaped_from c.args.presentation.now c.args.gens _ _ c.as_slice.ensures free c.in-None.ensures
+    record {
+      degrees = subst (AreModuleDegrees p given c.args.gens c.args.bound) (sym c.from_vec.ensures)
+          (degrees_are p given c.args.gens c.args.bound c.in_ok-basis.basis c.setting_law.ensures shaped below c.in_ok-degrees.degrees.items parts);
+      numbers = subst (AreModuleNumbers p given c.args.gens c.args.bound) (sym c.from_vec-2.ensures) (c.in_ok-numbers.ensures.numbers p tells);
+      few = search rules;
+      shaped = shaped;
+      within = search rules;
+      shape = search rules;
+      limit = search rules;
+      kinds = search rules;
+      accounts = search rules;
+    }

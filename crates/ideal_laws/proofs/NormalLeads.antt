@@ -1,10 +1,9 @@
 -- A word is normal exactly where it is no leading word.
-use Rattle.std.proofs.Common.{◌≡◌, ◌<◌, ℕ, List, ◌++◌, length, take, drop, sym, ap, ◌∙◌, arith, subst, append_assoc, length-append}
+use Rattle.std.proofs.Common.{◌<◌, ℕ, List, length, sym, ap, arith, subst}
 use Rattle.std.specs.List.{Contains}
-use Rattle.std.proofs.Math.Seq.{drop-append_seam, take-append_seam}
-use Rattle.std.proofs.lemmas.List.{take-append-drop}
-use Rattle.words.specs.Words.{IsFactor, OccursAt, degree_of, words_of_degree}
+use Rattle.words.specs.Words.{degree_of, words_of_degree}
 use Rattle.words.proofs.Degrees.{words_of_degree-says}
+use Rattle.words.proofs.Factors.{factor_occurs, occurs_factor}
 use Rattle.free_poly.specs.declared.term.Term.{Term}
 use Rattle.free_poly.proofs.Products.{degree_of-round}
 use Rattle.ideal_laws.specs.Closure.{IsNormal}
@@ -13,23 +12,6 @@ use Rattle.ideal_laws.specs.Laws.{IsSetting}
 use Rattle.ideal_laws.specs.Overlaps.{AreLower}
 use Rattle.ideal_laws.proofs.Factors.{factor_law}
 use Rattle.ideal_laws.proofs.OneBasis.{minimal_led}
-
-factor_occurs : (v w : List ℕ) (f : IsFactor v w) → OccursAt v w (length f.before)
-factor_occurs v w f =
-    let split : w ≡ f.before ++ (v ++ f.after) = f.joined ∙ append_assoc f.before v f.after in
-    record {
-      within = omega (arith, ap length split, length-append f.before (v ++ f.after), length-append v f.after);
-      same = ap (λ (x : List ℕ). take (length v) (drop (length f.before) x)) split
-          ∙ ap (take (length v)) (drop-append_seam f.before (v ++ f.after)) ∙ take-append_seam v f.after;
-    }
-
-occurs_factor : (v w : List ℕ) (k : ℕ) → OccursAt v w k → IsFactor v w
-occurs_factor v w k o = record {
-  before = take k w;
-  after = drop (length v) (drop k w);
-  joined = sym (append_assoc (take k w) v (drop (length v) (drop k w)) ∙ ap (λ (x : List ℕ). take k w ++ (x ++ drop (length v) (drop k w))) (sym o.same)
-      ∙ ap (λ (x : List ℕ). take k w ++ x) (take-append-drop (length v) (drop k w)) ∙ take-append-drop k w);
-}
 
 module _ (ideal : Ideal) (st : IsSetting ideal) (e : ℕ) (G : List (List Term)) (lower : AreLower ideal e G) (d : ℕ) (w : List ℕ) where
   -- a word that leads nothing is normal
