@@ -1,65 +1,20 @@
 -- A column of eight rows whose sums stand beside each other is cleared.
-use Rattle.std.proofs.Common.{◌≡◌, ◌≢◌, ◌+◌, ◌*◌, ◌/◌, ◌%◌, ◌<◌, ◌≤◌, ℕ, suc, List, [], ◌∷◌, ◌++◌, Option, None, Some, length, get_or, set, sym}
-use Rattle.std.proofs.Common.{ap, ◌∙◌, inl, inr, arith, subst, All, ◌^◌, w64}
-use Rattle.std.specs.Int.{trailing_zeros}
-use Rattle.std.proofs.lemmas.Bool.{cases_eq}
-use Rattle.std.proofs.lemmas.List.{get_or_default, get_or-set_other, get_or-set_same}
-use Rattle.back_reduce.proofs.Tables.{none_is_some}
+use Rattle.std.proofs.Common.{◌≡◌, ◌≢◌, ◌+◌, ◌*◌, ◌/◌, ◌%◌, ◌<◌, ◌≤◌, ℕ, List, [], ◌∷◌, Option, length, get_or, set, sym}
+use Rattle.std.proofs.Common.{ap, ◌∙◌, arith, All}
+use Rattle.std.proofs.lemmas.List.{get_or_default}
 use Rattle.row_store.specs.declared.left.Left.{Left}
-use Rattle.row_store.specs.Blocks.{lane, AreWalked, IsKept}
-use Rattle.row_store.specs.Entries.{reducer_at, Reducer}
+use Rattle.row_store.specs.Blocks.{lane, AreWalked}
+use Rattle.row_store.specs.Entries.{Reducer}
 use Rattle.row_store.specs.Marks.{mark_at}
-use Rattle.back_reduce.specs.Entries as rows
-use Rattle.row_store.specs.Sums.{cells_of, contested_count, place_of, IsLeft, IsWalked}
-use Rattle.row_store.proofs.Held.{cells_of-past, cells_of-push, held_later, held_push, length-cells_of}
+use Rattle.row_store.specs.Sums.{IsLeft}
 use Rattle.row_store.proofs.LaneViews.{get_or-lane, lane-set, length-lane}
-use Rattle.row_store.proofs.Places.{place-later, place-none, place-within}
-use Rattle.row_store.proofs.Walk.{walk_end, walk_first, walk_kept, walk_marks, walk_skip, walk_zeros}
+use Rattle.row_store.proofs.WordWalks.{IsWalk}
+use Rattle.row_store.proofs.Walk.{walk_end, walk_marks, walk_skip, walk_zeros}
 
 -- the first of some
 pub one_of : (left : List Left) → length left ≡ 8 → Left
 one_of [] long = absurd (omega (arith, long))
 one_of (l ∷ left) long = l
-
-module _ (p : ℕ) (rs : List (Option Reducer)) (start : List ℕ) (positive : 0 < p) (at : ℕ) (sums bits : List ℕ) (left : Left)
-    (h : IsWalked p rs start at sums bits left) (after : List ℕ) (next : Left) (size : length rs ≡ length start) (lt : at < length start)
-    (long : length after ≡ length bits) (own : mark_at after at ≡ 0) (others : (k : ℕ) → k ≢ at → mark_at after k ≡ mark_at bits k)
-    (none : reducer_at rs at ≡ None) (x : ℕ) (is_x : x ≡ get_or sums at 0 % p) where
-  abbrev j : ℕ
-  j = place_of rs at
-
-  abbrev m : ℕ
-  m = contested_count rs
-
-  gone : (reducer : Reducer) → reducer_at rs at ≡ Some reducer → get_or sums at 0 % p ≡ 0
-  gone reducer there = absurd (none_is_some reducer (sym none ∙ there))
-
-  stays : x ≡ 0 → next ≡ left → IsWalked p rs start (at + 1) (set sums at 0) after next
-  stays nought same = walk_kept p rs start positive at sums bits left h after next size lt long own others
-      (subst (λ (l : Left). rows.AreEntries (place_of rs (at + 1)) l.places.items l.residues.items) (sym same)
-      (held_later j (place_of rs (at + 1)) left.places.items left.residues.items (place-later rs at (at + 1) (omega arith)) h.held))
-      (λ _. ap (λ (l : Left). get_or (cells_of m l) j 0) same ∙ cells_of-past j left h.held m j (omega arith) ∙ sym nought ∙ is_x)
-      (λ i other. ap (λ (l : Left). get_or (cells_of m l) i 0) same) gone
-
-  grows : x ≢ 0 → next.places.items ≡ left.places.items ++ j ∷ [] → next.residues.items ≡ left.residues.items ++ x ∷ [] →
-      IsWalked p rs start (at + 1) (set sums at 0) after next
-  grows some places residues =
-      let cells = cells_of m left in
-      let low : at < length rs = omega (arith, lt, size) in
-      let step : at + 1 ≡ suc at = omega arith in
-      let written : cells_of m next ≡ set cells j x = cells_of-push j left h.held next x places residues m in
-      let inside : j < length cells = omega (arith, place-within rs at low none, length-cells_of m left) in
-      walk_kept p rs start positive at sums bits left h after next size lt long own others
-      (subst (λ (n : ℕ). rows.AreEntries n next.places.items next.residues.items) (sym (ap (place_of rs) step ∙ place-none rs at low none))
-      (held_push j left h.held next x places residues))
-      (λ _. ap (λ (l : List ℕ). get_or l j 0) written ∙ get_or-set_same cells j x 0 inside ∙ is_x)
-      (λ i other. ap (λ (l : List ℕ). get_or l i 0) written ∙ get_or-set_other cells j i x 0 (other none)) gone
-
-  pub walk_left : (place : ℕ) → place ≡ j → IsKept place x left next → IsWalked p rs start (at + 1) (set sums at 0) after next
-  walk_left place is kept = elim (cases_eq x 0) [
-    | inl nought ↦ stays nought (kept.none nought)
-    | inr some ↦ grows some (kept.places some ∙ ap (λ (i : ℕ). left.places.items ++ i ∷ []) is) (kept.residues some)
-  ]
 
 -- what is left of the sums at a column, and behind it
 module _ (sums first second : List ℕ) (at i a : ℕ) (tail : ℕ → ℕ) (whole : length sums ≡ length sums / 8 * 8) (long : length first ≡ length sums)
@@ -76,26 +31,20 @@ module _ (sums first second : List ℕ) (at i a : ℕ) (tail : ℕ → ℕ) (who
       get_or-lane second i k second_whole ∙ added k ∙ ap (λ (s : ℕ). s + a * tail k) (sym (get_or-lane first i k first_whole))
       ∙ ap (λ (l : List ℕ). get_or l k 0 + a * tail k) lane_taken
 
--- eight rows at once
-module _ (p : ℕ) (rs : List (Option Reducer)) (starts : ℕ → List ℕ) (positive : 0 < p) where
-  pub lanes_skip : (at : ℕ) (sums bits : List ℕ) (left : List Left) → AreWalked p rs starts at sums bits left → (later : ℕ) → at ≤ later →
-      ((k : ℕ) → at ≤ k → k < later → mark_at bits k ≡ 0) → AreWalked p rs starts later sums bits left
-  lanes_skip at sums bits left h later le unset = record {
+-- eight rows walk over the bits
+pub lanes_walk : (p : ℕ) (rs : List (Option Reducer)) → 0 < p → (sums bits : List ℕ) (left : List Left) →
+    IsWalk bits (λ (starts : ℕ → List ℕ) at. AreWalked p rs starts at sums bits left)
+lanes_walk p rs positive sums bits left = record {
+  skips = λ starts at later h le unset. record {
     whole = h.whole;
     count = h.count;
     each = λ i d low. walk_skip p rs (starts i) positive at (lane sums i) bits (get_or left i d) (h.each i d low) later le unset;
-  }
+  };
+  unmarked = λ starts at j h low. (h.each 0 (one_of left h.count) (omega arith)).unmarked j low;
+}
 
-  pub lanes_first : (k at : ℕ) (sums bits : List ℕ) (left : List Left) → get_or bits k 0 ≢ 0 → get_or bits k 0 < 2 ^ 64 → k * 64 ≤ at →
-      at ≤ k * 64 + 64 → AreWalked p rs starts at sums bits left
-      → (at ≤ k * 64 + trailing_zeros w64 (get_or bits k 0)) × AreWalked p rs starts (k * 64 + trailing_zeros w64 (get_or bits k 0)) sums bits left
-  lanes_first k at sums bits left some fits low high h =
-      let first = λ (i : ℕ) (d : Left) (lt : i < 8).
-      walk_first p rs (starts i) positive k at (lane sums i) bits (get_or left i d) some fits low high (h.each i d lt) in (
-        (first 0 (one_of left h.count) (omega arith)).0,
-        record { whole = h.whole; count = h.count; each = λ i d lt. (first i d lt).1 },
-      )
-
+-- eight rows at once
+module _ (p : ℕ) (rs : List (Option Reducer)) (starts : ℕ → List ℕ) (positive : 0 < p) where
   -- all columns are done
   module _ (at : ℕ) (sums bits : List ℕ) (left : List Left) (past : length sums / 8 ≤ at) (h : AreWalked p rs starts at sums bits left) where
     long : (i : ℕ) → i < 8 → length (starts i) ≡ length sums / 8

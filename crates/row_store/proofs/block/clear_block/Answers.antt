@@ -3,6 +3,7 @@ use Rattle.row_store.specs.Blocks.{lane}
 use Rattle.row_store.specs.Entries.{reducers_over}
 use Rattle.row_store.proofs.LaneViews.{length-lane}
 use Rattle.row_store.proofs.LaneWalk.{lanes_end, lanes_marks, lanes_zeros}
+use Rattle.row_store.proofs.WordWalks.{words_past}
 use Rattle.row_store.proofs.Walk.{walk_start}
 use Rattle.row_store.proofs.block.clear_block.Goals as goal
 
@@ -16,17 +17,13 @@ loop-k-init c = record {
       (get_or c.args.left.now i d) (c.requires.rows i low) (c.requires.marks i low) none.0 none.1);
 }
 
--- the words reach past all columns
-past : (n words k : ℕ) → words ≡ n / 64 + 1 → words ≤ k → n ≤ k * 64
-past n words k e le = omega (arith, e, le)
-
 -- all columns are done
 done : (c : goal.After-loop-k) → length c.loop-k.sums / 8 ≤ c.loop-k.k * 64
 done c =
     let size : length c.loop-k.sums / 8 ≡ length c.args.sums.now / 8 = ap (λ (n : ℕ). n / 8) c.loop-k.auto.sums in
     let words : length c.args.bits.now ≡ length c.args.sums.now / 8 / 64 + 1 =
     (c.requires.marks 0 (omega arith)).words ∙ ap (λ (n : ℕ). n / 64 + 1) (length-lane c.args.sums.now 0) in
-    omega (arith, size, past (length c.args.sums.now / 8) (length c.args.bits.now) c.loop-k.k words c.loop-k-test.false)
+    omega (arith, size, words_past (length c.args.sums.now / 8) (length c.args.bits.now) c.loop-k.k words c.loop-k-test.false)
 
 pub returns-clause-left : goal.returns-clause-left
 returns-clause-left c =

@@ -9,7 +9,8 @@ use Rattle.row_store.specs.Marks.{mark_at}
 use Rattle.row_store.specs.Sums.{IsWalked}
 use Rattle.row_store.proofs.ColumnsFound.{absent, found, list_at, over}
 use Rattle.row_store.proofs.LaneViews.{get_or-lane, length-lane}
-use Rattle.row_store.proofs.LaneWalk.{lane_added, lane_taken, one_of, walk_left}
+use Rattle.row_store.proofs.LaneWalk.{lane_added, lane_taken, one_of}
+use Rattle.row_store.proofs.WalkLeft.{walk_left}
 use Rattle.row_store.proofs.Tails.{tail_same, tail_sizes}
 use Rattle.row_store.proofs.Walk.{tail_entries, tail_room, walk_reduced}
 use Rattle.row_store.proofs.block.clear_column.Goals as goal

@@ -13,8 +13,8 @@ returns g c =
     let rows = c.args.rows.now in
     let left : List (List ℕ) = c.in_ok-left.left.items in
     let rest : List (List ℕ) = c.in_ok-others.others.items in
-    let len = c.len.result in
-    let count : len ≡ length left = omega (arith, c.len.ensures, c.in_ok-left.left.ok) in
+    let len = c.len-2.result in
+    let count : len ≡ length left = omega (arith, c.len-2.ensures, c.in_ok-left.left.ok) in
     let short : length (drop len rows) ≡ length rows - len = length-drop len rows in
     let behind : take (length rows - len) (drop len rows) ≡ drop (length left) rows =
     take_all (length rows - len) (drop len rows) (omega (arith, short)) ∙ ap (λ (n : ℕ). drop n rows) count in
