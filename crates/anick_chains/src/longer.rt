@@ -8,10 +8,9 @@ ghost use Rattle.anick_chains.specs.Walk.{continued, free_letter, free_letters, 
 
 use crate::chain::{Chain, ChainFault};
 use crate::next::{next_pieces, push_word};
-use crate::order::word_degree;
 use crate::tip_index::TipIndex;
 use std::alloc::Global;
-use words::{Items, NoMemory, Word};
+use words::{Items, NoMemory, Word, word_degree};
 
 /// The letters of a degree that are no tips, as words.
 pub(crate) fn free_letters(

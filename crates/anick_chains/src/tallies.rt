@@ -7,11 +7,10 @@ ghost use Rattle.anick_chains.specs.Walk.{free_letters};
 use crate::chain::ChainFault;
 use crate::longer::free_letters;
 use crate::next::next_pieces;
-use crate::order::word_degree;
 use crate::tally::Tally;
 use crate::tip_index::TipIndex;
 use std::alloc::Global;
-use words::{NoMemory, Word};
+use words::{NoMemory, Word, word_degree};
 
 /// Appends the letters of a degree that are no tips.
 pub(crate) fn push_letters(

@@ -8,10 +8,10 @@ ghost use Rattle.cofactors.specs.ProductList.{triple_terms};
 ghost use Rattle.cofactors.specs.Rows.{AreLeaders, IsPlusSpan, IsRow, IsTracked, IsZeroAtLeads, lead_word};
 
 use crate::factors::Factor;
-use crate::product::Product;
+use crate::product::{Product, triple_of};
 use crate::row::{Row, cleared, monic};
 use field_table::Field;
-use free_poly::{Poly, element_laws};
+use free_poly::Poly;
 use ideal_laws::Presentation;
 use std::alloc::{AllocError, Global};
 use std::cmp::Ordering;
@@ -33,13 +33,10 @@ pub(crate) fn leaders_of(
     ensures spanned { IfOk result (λ v. All (λ f. IsPlusSpan field.now v.items f [])
         (map (triple_terms presentation.now.relations) triples.now)) }
 {
-    element_laws();
     let _modulus = field.modulus();
-    let _letters = presentation.alphabet.len();
     let mut leaders = Vec::new(alloc);
     for (place, triple) in triples.iter().enumerate() {
-        let relation = &presentation.relations.as_slice()[triple.relation as usize - 1];
-        let element = relation.times(alloc, triple.left.letters(), triple.right.letters())?;
+        let element = triple_of(alloc, presentation, triple)?;
         let row = row_of(alloc, field, element, place as u32)?;
         let left = cleared(alloc, field, leaders.as_slice(), row)?;
         insert(alloc, field, &mut leaders, left)?;

@@ -5,9 +5,9 @@ ghost use Rattle.free_poly.specs.Terms.{HasResidues, IsSame};
 ghost use Rattle.cofactors.specs.ProductList.{IsProduct, product_terms};
 ghost use Rattle.ideal_laws.specs.Ideal.{ideal_of};
 
-use crate::product::Product;
+use crate::product::{Product, triple_of};
 use field_table::Field;
-use free_poly::{Poly, PolyFault, element_laws};
+use free_poly::{Poly, PolyFault};
 use ideal_laws::Presentation;
 use std::alloc::{AllocError, Global};
 use words::{Alphabet, NoMemory};
@@ -27,12 +27,9 @@ pub fn expand(
     ensures form { IfOk result IsPolynomial }
     ensures residues { IfOk result (HasResidues field.now) }
 {
-    element_laws();
-    let _letters = presentation.alphabet.len();
     let mut sum = zero(alloc, &presentation.alphabet, field)?;
     for product in products {
-        let relation = &presentation.relations.as_slice()[product.relation as usize - 1];
-        let middle = relation.times(alloc, product.left.letters(), product.right.letters())?;
+        let middle = triple_of(alloc, presentation, product)?;
         sum = sum.add_scaled(alloc, field, product.coefficient, &middle)?;
     }
     Ok(sum)

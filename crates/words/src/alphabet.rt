@@ -176,9 +176,25 @@ pub fn total_degree(alphabet: &Alphabet, word: &[u8]) -> u128
     requires letters { IsOver (length alphabet.now.weights) word.now }
     ensures { result ≡ degree_of alphabet.now.weights word.now }
 {
+    word_degree(alphabet.weights.as_slice(), word)
+}
+
+/// The degree by the weights alone.
+pub fn word_degree(weights: &[u8], word: &[u8]) -> u128
+    ensures { result ≡ degree_of weights.now word.now }
+{
     let mut total = 0;
     for letter in word {
-        total += u128::from(alphabet.weight(*letter));
+        total += u128::from(weight_at(weights, *letter));
     }
     total
+}
+
+fn weight_at(weights: &[u8], letter: u8) -> u8
+    ensures { result ≡ weight_of weights.now letter }
+{
+    match weights.get(letter as usize) {
+        Some(weight) => *weight,
+        None => 1,
+    }
 }

@@ -11,7 +11,7 @@ mod order;
 mod tests;
 mod word;
 
-pub use alphabet::{Alphabet, AlphabetFault, degree};
+pub use alphabet::{Alphabet, AlphabetFault, degree, word_degree};
 pub use items::Items;
-pub use order::{deglex, degree_laws, letterwise, order_laws};
+pub use order::{compare_words, deglex, degree_laws, letterwise, order_laws};
 pub use word::{NoMemory, Word, occurs_at};

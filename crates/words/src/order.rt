@@ -5,7 +5,7 @@ ghost use Rattle.words.specs.Order.{IsKeptByProducts, ListsByLetters, ListsFalli
 ghost use Rattle.words.specs.Order.{letterwise_cmp, word_cmp};
 ghost use Rattle.words.specs.Words.{IsOver};
 
-use crate::alphabet::{Alphabet, total_degree};
+use crate::alphabet::{Alphabet, total_degree, word_degree};
 use std::cmp::Ordering;
 
 /// Compares two words letter by letter: the smaller letter number is the greater word, and else the longer one.
@@ -25,6 +25,15 @@ pub fn deglex(alphabet: &Alphabet, a: &[u8], b: &[u8]) -> Ordering
     let first = total_degree(alphabet, a);
     let second = total_degree(alphabet, b);
     first.cmp(&second).then(letterwise(a, b))
+}
+
+/// Compares two words by degree, and then letter by letter, by the weights alone.
+pub fn compare_words(weights: &[u8], a: &[u8], b: &[u8]) -> Ordering
+    ensures { result ≡ word_cmp weights.now a.now b.now }
+{
+    word_degree(weights, a)
+        .cmp(&word_degree(weights, b))
+        .then(letterwise(a, b))
 }
 
 /// The laws of the order: it is total, it is the order by degree and first difference, no word of a degree is a

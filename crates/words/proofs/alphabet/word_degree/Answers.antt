@@ -1,6 +1,6 @@
 use Rattle.std.proofs.Common.{arith}
 use Rattle.words.proofs.Weights.{degree_of-more}
-use Rattle.anick_chains.proofs.order.word_degree.Goals as goal
+use Rattle.words.proofs.alphabet.word_degree.Goals as goal
 
 pub overflow_add-total : goal.overflow_add-total
 overflow_add-total c = omega (arith, c.loop-letter.invariant.1, c.from-total.ensures, c.loop-letter-test.true)

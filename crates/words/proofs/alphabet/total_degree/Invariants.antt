@@ -1,6 +1,0 @@
-use Rattle.std.proofs.Common.{◌≡◌, ◌≤◌, ◌*◌, take}
-use Rattle.words.specs.Words.{degree_of}
-use Rattle.words.proofs.alphabet.total_degree.Given as goal
-
-abbrev pub invariant-loop-letter : goal.invariant-loop-letter
-invariant-loop-letter l = (l.total ≡ degree_of l.alphabet.weights (take l.letter-index l.word)) × (l.total ≤ 8 * l.letter-index)
