@@ -3,10 +3,8 @@ ghost use Rattle.std.specs.Prelude.{IsTrue, OnOk, Option, length};
 ghost use Rattle.std.specs.List.{AllZip};
 ghost use Rattle.words.specs.Order.{IsLetterwiseGreater};
 ghost use Rattle.free_poly.specs.declared.term.Term.{Term};
-ghost use Rattle.free_poly.specs.Poly.{IsPolynomial};
-ghost use Rattle.free_poly.specs.Terms.{HasDegree, UsesLetters};
 ghost use Rattle.ideal_laws.specs.Quantities.{words_of};
-ghost use Rattle.lead_index.specs.Leads.{IsIndexOf};
+ghost use Rattle.symbolic_prep.specs.Closed.{AreRowsOf};
 ghost use Rattle.symbolic_prep.specs.Columns.{IsListed, IsOnColumns, words_in};
 ghost use Rattle.symbolic_prep.specs.Walk.{HasMoreColumns};
 ghost use Rattle.symbolic_prep.specs.Numbers.{AreListed, IsLonger, IsSpanOf};
@@ -35,11 +33,7 @@ pub(crate) fn closure_by_word(
     most: usize,
     limit: u32,
 ) -> Result<ListedClosure, ColumnFault>
-    requires form { All IsPolynomial basis.now.elements }
-    requires index { IsIndexOf basis.now.elements index.now }
-    requires small { d ≤ 64 }
-    requires degree { All (HasDegree basis.now.weights d) rows.now }
-    requires letters { All (UsesLetters (length basis.now.weights)) rows.now }
+    requires rows { AreRowsOf basis.now index.now rows.now d }
     requires most { most < 4294967296 }
     requires entries { entries ≤ limit + 1 }
 

@@ -6,7 +6,7 @@ ghost use Rattle.ideal_laws.specs.Quantities.{IsFirstPassing, NonePasses, terms_
 ghost use Rattle.lead_index.specs.Leads.{IsIndex, IsIndexOf};
 ghost use Rattle.symbolic_prep.specs.Walk.{HasMoreColumns, IsPassed};
 ghost use Rattle.symbolic_prep.specs.Columns.{IsListed, words_in};
-ghost use Rattle.symbolic_prep.specs.Closed.{IsClosed, IsClosedQuantity, closing_limits};
+ghost use Rattle.symbolic_prep.specs.Closed.{AreRowsOf, IsClosed, IsClosedQuantity, closing_limits};
 
 use crate::by_number::{ListedClosure, closure_by_number};
 use crate::by_word::closure_by_word;
@@ -71,11 +71,7 @@ fn closure_of(
     d: u32,
     limits: &Limits,
 ) -> Result<ListedClosure, ColumnFault>
-    requires form { All IsPolynomial basis.now.elements }
-    requires index { IsIndexOf basis.now.elements index.now }
-    requires small { d ≤ 64 }
-    requires degree { All (HasDegree basis.now.weights d) rows.now }
-    requires letters { All (UsesLetters (length basis.now.weights)) rows.now }
+    requires rows { AreRowsOf basis.now index.now rows.now d }
     requires entries { entries ≤ limits.now.entries + 1 }
 
     ensures listed { IfOk result (IsListed basis.now.elements (words_of rows.now) entries limits.now.entries) }

@@ -16,18 +16,18 @@ use Rattle.symbolic_prep.proofs.by_word.closure_by_word.Goals as goal
 pub returns-in_err-pending-clause-many : goal.returns-in_err-pending-clause-many
 returns-in_err-pending-clause-many c = λ e.
     let p = err_from_is_err_and c.from_residual.result c.from_residual.ensures.1 in
-    rows_more_than c.args.basis.now c.done-done.ensures.kept c.requires.form c.args.d c.args.rows.now c.requires.letters c.requires.degree
-    c.args.index.now c.keeps.ensures c.requires.index c.args.most
+    rows_more_than c.args.basis.now c.done-done.ensures.kept c.requires.rows.form c.args.d c.args.rows.now c.requires.rows.letters c.requires.rows.degree
+    c.args.index.now c.keeps.ensures c.requires.rows.index c.args.most
     (c.in_err-pending.ensures.many (ap Err (sym p.2 ∙ one_fault c.from_residual.result _ _ p.1 e)))
 
 pub walk-requires-clause-words : goal.walk-requires-clause-words
-walk-requires-clause-words c = given_words c.args.basis.now c.done-done.ensures.kept c.requires.form c.args.d c.args.rows.now
-    c.requires.letters c.requires.degree (keys c.in_ok-pending.pending) c.in_ok-pending.ensures.words
+walk-requires-clause-words c = given_words c.args.basis.now c.done-done.ensures.kept c.requires.rows.form c.args.d c.args.rows.now
+    c.requires.rows.letters c.requires.rows.degree (keys c.in_ok-pending.pending) c.in_ok-pending.ensures.words
 
 pub returns-in_err-walked-clause-many : goal.returns-in_err-walked-clause-many
 returns-in_err-walked-clause-many c = λ e.
     let p = err_from_is_err_and c.from_residual-in_err-walked.result c.from_residual-in_err-walked.ensures.1 in
-    more_than c.args.basis.now c.done-done.ensures.kept c.requires.form c.args.d c.args.rows.now c.requires.letters c.requires.degree
+    more_than c.args.basis.now c.done-done.ensures.kept c.requires.rows.form c.args.d c.args.rows.now c.requires.rows.letters c.requires.rows.degree
     (keys c.in_ok-pending.pending) c.in_ok-pending.ensures.words c.args.most
     (c.in_err-walked.ensures.many (ap Err (sym p.2 ∙ one_fault c.from_residual-in_err-walked.result _ _ p.1 e)))
 

@@ -6,20 +6,12 @@ use Rattle.symbolic_prep.proofs.ListedColumns.{column_here, has_key, number_not_
 use Rattle.symbolic_prep.proofs.packed.PackedWords.column_of.Goals as goal
 
 pub pack-key-requires-clause-over : goal.pack-key-requires-clause-over
-pack-key-requires-clause-over c =
-    let bits = c.self.inside.packing.bits in
-    let room = c.self.inside.packing.room in
-    let keys = c.self.inside.keys.items in
-    (has_key bits room keys c.args.word.now c.self.invariant.table
-    (subst (λ (ws : List (List ℕ)). Contains ws c.args.word.now) (sym c.self.view_is) c.requires)).over
+pack-key-requires-clause-over c = (has_key c.self.inside.packing.bits c.self.inside.packing.room c.self.inside.keys.items c.args.word.now
+    c.self.invariant.table (subst (λ (ws : List (List ℕ)). Contains ws c.args.word.now) (sym c.self.view_is) c.requires)).over
 
 pub pack-key-requires-clause-fits : goal.pack-key-requires-clause-fits
-pack-key-requires-clause-fits c =
-    let bits = c.self.inside.packing.bits in
-    let room = c.self.inside.packing.room in
-    let keys = c.self.inside.keys.items in
-    (has_key bits room keys c.args.word.now c.self.invariant.table
-    (subst (λ (ws : List (List ℕ)). Contains ws c.args.word.now) (sym c.self.view_is) c.requires)).fits
+pack-key-requires-clause-fits c = (has_key c.self.inside.packing.bits c.self.inside.packing.room c.self.inside.keys.items c.args.word.now
+    c.self.invariant.table (subst (λ (ws : List (List ℕ)). Contains ws c.args.word.now) (sym c.self.view_is) c.requires)).fits
 
 pub unreachable-requires : goal.unreachable-requires
 unreachable-requires c =
