@@ -6,6 +6,7 @@ pub mod Ended
 pub mod DegreeLines
 pub mod Counted
 pub mod Statuses
+pub mod Stopped
 pub mod Writes
 pub mod OneReach
 pub mod Reached

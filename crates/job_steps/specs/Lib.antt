@@ -7,4 +7,5 @@ pub mod Inputs
 pub mod Lines
 pub mod Traces
 pub mod Statuses
+pub mod Answers
 pub mod Reaches

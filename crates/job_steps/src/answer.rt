@@ -2,13 +2,14 @@ ghost use Rattle.std.specs.Prelude.{◌≡◌, ◌≢◌, []};
 ghost use Rattle.bg_io.specs.Ends.{CountsGained};
 ghost use Rattle.job_steps.specs.declared.status.Status.TheVariants.{Limit};
 ghost use Rattle.job_steps.specs.States.{state_of};
+ghost use Rattle.job_steps.specs.Answers.{IsStopped};
 ghost use Rattle.job_steps.specs.Statuses.{IsAnswered, IsOwn, IsThis};
 
 use crate::status::Status;
 use bg_io::{Sink, write_all};
-use ideal_laws::LimitKind;
-use std::alloc::Global;
-use words::Items;
+use ideal_laws::{EngineFault, LimitKind};
+use std::alloc::{AllocError, Global};
+use words::{Items, NoMemory};
 
 /// What a command answers that computes all of its text first: the status of its job, and the text.
 #[derive(Drop)]
@@ -29,6 +30,20 @@ impl Answer {
                 value,
             },
             text: Items::from_vec(Vec::new(alloc)),
+        }
+    }
+
+    /// The engine has given up: at a limit, or for want of memory.
+    pub fn stopped(alloc: Global, fault: EngineFault) -> Result<Answer, NoMemory>
+        ensures { IsStopped fault result }
+    {
+        match fault {
+            EngineFault::Limit {
+                kind,
+                degree,
+                value,
+            } => Ok(Answer::limit(alloc, kind, degree, value)),
+            EngineFault::NoMemory => Err(AllocError),
         }
     }
 }
