@@ -1,6 +1,5 @@
-ghost use Rattle.std.specs.Prelude.{◌≡◌, ◌≤◌, List, ℕ, All, Contains, IfOk, IsErrOf, length};
+ghost use Rattle.std.specs.Prelude.{◌≡◌, ◌≤◌, List, ℕ, Contains, IfOk, IsErrOf, length};
 ghost use Rattle.free_poly.specs.declared.term.Term.{Term};
-ghost use Rattle.free_poly.specs.Terms.{HasResidues};
 ghost use Rattle.ideal_laws.specs.Closure.{IsFactorFree};
 ghost use Rattle.ideal_laws.specs.Engine.{IsReducedUpto};
 ghost use Rattle.ideal_laws.specs.Ideal.{IsMinimal, ideal_over};
@@ -8,13 +7,12 @@ ghost use Rattle.ideal_laws.specs.Laws.{IsSetting};
 ghost use Rattle.anick_chains.specs.BasisTips.{leads_of};
 ghost use Rattle.anick_chains.specs.Listing.{IsFirstMany};
 ghost use Rattle.bergman_cli.specs.Chains.{HasChainText, IsChainsOutcome, most_chains};
-ghost use Rattle.bergman_cli.specs.Engines.{limits_of};
-ghost use Rattle.bergman_cli.specs.Jobs.{IsSound};
+ghost use Rattle.bergman_cli.specs.Jobs.{IsAsked};
 
 use anick_chains::{ChainFault, chain_counts, chain_laws, chain_text, chains, count_text};
 use command_words::Job;
 use field_table::Field;
-use ideal_laws::{Basis, DegreeEngine, EngineFault, Presentation, lower_law, run, setting_law};
+use ideal_laws::{Basis, DegreeEngine, Presentation, lower_law, run, setting_law};
 use job_steps::{Answer, Status};
 use std::alloc::{AllocError, Global};
 use std::thread::Threads;
@@ -32,10 +30,7 @@ pub fn chains_answer<R: Threads + Sync, E: DegreeEngine>(
     field: &Field,
     given: &Presentation,
 ) -> Result<Answer, NoMemory>
-    requires limits { E.kinds engine.old ≡ limits_of job.now.engine }
-    requires sound { IsSound job.now }
-    requires modulus { field.now ≡ job.now.modulus }
-    requires residues { All (HasResidues field.now) given.now.relations }
+    requires { IsAsked job.now (E.kinds engine.old) field.now given.now }
     ensures { IfOk result (λ answer. IsChainsOutcome job.now given.now.alphabet given.now.relations answer.status
         answer.text) }
 {
@@ -44,14 +39,7 @@ pub fn chains_answer<R: Threads + Sync, E: DegreeEngine>(
     chain_laws();
     let basis = match run(rt, alloc, engine, field, given, job.bound) {
         Ok(basis) => basis,
-        Err(
-            EngineFault::Limit {
-                kind,
-                degree,
-                value,
-            },
-        ) => return Ok(Answer::limit(alloc, kind, degree, value)),
-        Err(EngineFault::NoMemory) => return Err(AllocError),
+        Err(fault) => return Answer::stopped(alloc, fault),
     };
     match chain_lines(alloc, job, &given.alphabet, &basis) {
         Ok(text) => Ok(Answer {

@@ -1,8 +1,6 @@
-ghost use Rattle.std.specs.Prelude.{◌≡◌, ◌++◌, ◌*◌, ◌^◌, ◌≤◌, ℕ, [], All, IfOk, decimal, length, sum_by};
-ghost use Rattle.free_poly.specs.Terms.{HasResidues};
+ghost use Rattle.std.specs.Prelude.{◌≡◌, ◌++◌, ◌*◌, ◌^◌, ◌≤◌, ℕ, [], IfOk, decimal, length, sum_by};
 ghost use Rattle.ideal_laws.specs.Quantities.{terms_in};
-ghost use Rattle.bergman_cli.specs.Engines.{limits_of};
-ghost use Rattle.bergman_cli.specs.Jobs.{IsSound};
+ghost use Rattle.bergman_cli.specs.Jobs.{IsAsked};
 ghost use Rattle.bergman_cli.specs.Make.{IsMakeOutcome, coefficient_sum, number_line, summary_text};
 
 use command_words::Job;
@@ -10,7 +8,7 @@ use field_table::Field;
 use free_poly::Term;
 use hilbert::{SeriesFault, count_law, series};
 use ideal_laws::{
-    Basis, DegreeEngine, EngineFault, LimitKind, Limits, Presentation, lower_law, run, setting_law,
+    Basis, DegreeEngine, LimitKind, Limits, Presentation, lower_law, run, setting_law,
 };
 use itoa::Buffer;
 use job_steps::{Answer, Status};
@@ -27,10 +25,7 @@ pub fn make_answer<R: Threads + Sync, E: DegreeEngine>(
     field: &Field,
     given: &Presentation,
 ) -> Result<Answer, NoMemory>
-    requires limits { E.kinds engine.old ≡ limits_of job.now.engine }
-    requires sound { IsSound job.now }
-    requires modulus { field.now ≡ job.now.modulus }
-    requires residues { All (HasResidues field.now) given.now.relations }
+    requires { IsAsked job.now (E.kinds engine.old) field.now given.now }
     ensures { IfOk result (λ answer. IsMakeOutcome job.now given.now.alphabet given.now.relations answer.status
         answer.text) }
 {
@@ -39,14 +34,7 @@ pub fn make_answer<R: Threads + Sync, E: DegreeEngine>(
     count_law();
     let basis = match run(rt, alloc, engine, field, given, job.bound) {
         Ok(basis) => basis,
-        Err(
-            EngineFault::Limit {
-                kind,
-                degree,
-                value,
-            },
-        ) => return Ok(Answer::limit(alloc, kind, degree, value)),
-        Err(EngineFault::NoMemory) => return Err(AllocError),
+        Err(fault) => return Answer::stopped(alloc, fault),
     };
     match series(
         alloc,

@@ -1,9 +1,7 @@
-ghost use Rattle.std.specs.Prelude.{◌≡◌, ◌++◌, ◌≤◌, [], All, IfOk, length};
-ghost use Rattle.free_poly.specs.Terms.{HasResidues};
+ghost use Rattle.std.specs.Prelude.{◌≡◌, ◌++◌, ◌≤◌, [], IfOk, length};
 ghost use Rattle.job_steps.specs.declared.status.Status.TheVariants.{Input};
 ghost use Rattle.right_modules.specs.Answered.{AreModuleDegrees, AreModuleNumbers};
-ghost use Rattle.bergman_cli.specs.Engines.{limits_of};
-ghost use Rattle.bergman_cli.specs.Jobs.{IsSound};
+ghost use Rattle.bergman_cli.specs.Jobs.{IsAsked};
 ghost use Rattle.bergman_cli.specs.Module.{IsModuleBasisText, IsModuleOutcome, IsModuleText, free_of};
 ghost use Rattle.bergman_cli.specs.Module.{module_series_text};
 
@@ -28,10 +26,7 @@ pub fn module_answer<R: Threads + Sync, E: DegreeEngine>(
     given: &Presentation,
 ) -> Result<Answer, NoMemory>
     requires command { job.now.command ≡ Command.Module }
-    requires limits { E.kinds engine.old ≡ limits_of job.now.engine }
-    requires sound { IsSound job.now }
-    requires modulus { field.now ≡ job.now.modulus }
-    requires residues { All (HasResidues field.now) given.now.relations }
+    requires asked { IsAsked job.now (E.kinds engine.old) field.now given.now }
     ensures { IfOk result (λ answer. IsModuleOutcome job.now given.now.alphabet given.now.relations answer.status
         answer.text) }
 {

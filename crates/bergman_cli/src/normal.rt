@@ -6,8 +6,7 @@ ghost use Rattle.ideal_laws.specs.Laws.{IsRelation};
 ghost use Rattle.job_steps.specs.States.{state_of};
 ghost use Rattle.job_steps.specs.Status.{PrintsNothing};
 ghost use Rattle.job_steps.specs.Statuses.{IsAnsweredInParts};
-ghost use Rattle.bergman_cli.specs.Engines.{limits_of};
-ghost use Rattle.bergman_cli.specs.Jobs.{IsSound};
+ghost use Rattle.bergman_cli.specs.Jobs.{IsAsked};
 ghost use Rattle.bergman_cli.specs.Normal.{HasNone, IsAbove, IsAnsweredBy, IsFirstPlace, IsNormalOutcome};
 
 use crate::cut::first_relations;
@@ -38,10 +37,7 @@ pub fn run_normal<R: Threads + Sync, E: DegreeEngine, K: Sink>(
     given: &Presentation,
     out: &mut K,
 ) -> Status
-    requires limits { E.kinds engine.old ≡ limits_of job.now.engine }
-    requires sound { IsSound job.now }
-    requires modulus { field.now ≡ job.now.modulus }
-    requires residues { All (HasResidues field.now) given.now.relations }
+    requires { IsAsked job.now (E.kinds engine.old) field.now given.now }
 
     ensures end { IsAnsweredInParts (IsNormalOutcome job.now given.now.alphabet given.now.relations)
         (state_of K.Sink out.old) (state_of K.Sink out.new) result }

@@ -12,8 +12,8 @@ ghost use Rattle.job_steps.specs.States.{source_state, state_of, teller_state};
 ghost use Rattle.job_steps.specs.Status.{IsOfInput, PrintsNothing, ReadsNothing};
 ghost use Rattle.job_steps.specs.Statuses.{HasGained, IsOwn};
 ghost use Rattle.job_steps.specs.Traces.{IsTold, Tells};
-ghost use Rattle.bergman_cli.specs.Engines.{IsEngineOf, limits_of};
-ghost use Rattle.bergman_cli.specs.Jobs.{IsSound, OfJob};
+ghost use Rattle.bergman_cli.specs.Engines.{IsEngineOf};
+ghost use Rattle.bergman_cli.specs.Jobs.{IsAsked, IsSound, OfJob};
 ghost use Rattle.bergman_cli.specs.Outcomes.{HasWrittenPart, HasWrittenSome, IsOutcome, IsWorkEnd, IsWorkTrace};
 ghost use Rattle.bergman_cli.specs.Run.{Completes, IsEnd, IsGivenReading, IsJobEnd, IsMade, IsRunTrace};
 ghost use Rattle.bergman_cli.specs.Run.{IsUngivenTo, OfWork, ReadsSource};
@@ -262,10 +262,7 @@ fn answer_of<R: Threads + Sync, E: DegreeEngine>(
 ) -> Result<Answer, NoMemory>
     requires degrees { job.now.command ≢ Command.Gb }
     requires questions { job.now.command ≢ Command.Normal }
-    requires limits { E.kinds engine.old ≡ limits_of job.now.engine }
-    requires sound { IsSound job.now }
-    requires modulus { field.now ≡ job.now.modulus }
-    requires residues { All (HasResidues field.now) given.now.relations }
+    requires asked { IsAsked job.now (E.kinds engine.old) field.now given.now }
     ensures { IfOk result (λ answer. IsOutcome job.now given.now.alphabet given.now.relations answer.status
         answer.text) }
 {

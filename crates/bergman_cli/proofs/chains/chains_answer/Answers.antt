@@ -1,14 +1,13 @@
 use Rattle.std.proofs.Common.{◌+◌, ℕ, Err, refl, ap, ◌∙◌}
+use Rattle.job_steps.proofs.Stopped.{stopped_is}
 use Rattle.bergman_cli.proofs.Chained.{many_chains, refused_chains, told_chains}
 use Rattle.bergman_cli.proofs.chains.chains_answer.Goals as goal
 use Rattle.ideal_laws.specs.Ideal.{ideal_of}
 
-pub returns-in-Err-Limit : goal.returns-in-Err-Limit
-returns-in-Err-Limit g c =
-    let at = c.in-Err-Limit in
-    refused_chains c.args.job.now c.args.given.now.alphabet c.args.given.now.relations _ c.requires.limits c.args.field.now
-    c.requires.modulus c.limit.result _ _ _ c.limit.ensures
-    (at.ensures.limit at.kind at.degree at.value (ap Err at.field-0-is))
+pub returns-in-Err : goal.returns-in-Err
+returns-in-Err g c = stopped_is _ c.in-Err.fault c.stopped.result c.stopped.ensures
+    (λ kind d value is. refused_chains c.args.job.now c.args.given.now.alphabet c.args.given.now.relations _ c.requires.limits c.args.field.now
+    c.requires.modulus _ kind d value refl (c.in-Err.ensures.limit kind d value (ap Err is)))
 
 pub chain_lines-requires-clause-factor_free : goal.chain_lines-requires-clause-factor_free
 chain_lines-requires-clause-factor_free g c = c.lower_law.ensures.factors (ideal_of c.args.field.now c.args.given.now) c.setting_law.ensures

@@ -11,7 +11,7 @@ returns-in_ok-text-in-Ok g c =
     let found = c.in-Ok.ensures in
     let names : job.gens ≤ length given.alphabet.weights = omega (arith, c.if-names-job.false, c.len-names.ensures.count) in
     let standard = ap (λ (l : Limits). l.normal_words) c.standard-limits.ensures.value in
-    whole_outcome job given _ names found.shaped _ c.requires.limits c.args.field.now c.requires.modulus c.setting_law.ensures _ standard
+    whole_outcome job given _ names found.shaped _ c.requires.asked.limits c.args.field.now c.requires.asked.modulus c.setting_law.ensures _ standard
     c.from_vec.result c.in-Ok.computed.numbers refl found.within found.numbers found.few
     (subst (IsModuleText job given.alphabet given.relations) (sym c.from_vec.ensures) c.in_ok-text-in-Ok.ensures)
 
@@ -23,5 +23,5 @@ returns-in-Err-Limit g c =
     let names : job.gens ≤ length given.alphabet.weights = omega (arith, c.if-names-job.false, c.len-names.ensures.count) in
     let standard = ap (λ (l : Limits). l.normal_words) c.standard-limits.ensures.value in
     let found = at.ensures.limit at.kind at.degree at.value (ap Err at.field-0-is) in
-    limit_outcome job given c.limit.result names found.0 _ c.requires.limits c.args.field.now c.requires.modulus c.setting_law.ensures _
+    limit_outcome job given c.limit.result names found.0 _ c.requires.asked.limits c.args.field.now c.requires.asked.modulus c.setting_law.ensures _
     standard _ _ _ c.limit.ensures found.1
