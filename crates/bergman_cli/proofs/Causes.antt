@@ -1,6 +1,9 @@
 -- What the end of a run says of its status.
 use Rattle.std.proofs.Common.{◌≡◌, ◌≢◌, ◌⊎◌, ◌↔◌, ◌≤◌, ◌∙◌, ℕ, List, [], refl, ap, inl, inr, subst}
 use Rattle.std.specs.Io.KnownBytes.{Appends}
+use Rattle.std.specs.declared.option.Option.{Option}
+use Rattle.words.specs.Names.{Letters}
+use Rattle.free_poly.specs.declared.term.Term.{Term}
 use Rattle.bg_io.specs.Ends.{Rose}
 use Rattle.command_words.specs.declared.job.Command.{Command}
 use Rattle.command_words.specs.declared.job.Job.{Job}
@@ -93,6 +96,20 @@ not_both status none own = reads_nothing_not IsOwn (λ fault h. h) status none o
 not_both_input : (status : Status) → ReadsNothing status → IsOfInput status → ⊥
 not_both_input status none of = reads_nothing_not IsOfInput (λ fault h. h) status none of
 
+-- something else holds of the same reading
+given_so : (job : Job) (left now : Option (List ℕ)) (Holds Other : Letters → List (List Term) → Type 0) → (h : OfGiven job left now Holds) →
+    Other h.letters h.relations → OfGiven job left now Other
+given_so job left now Holds Other h other = record {
+  text = h.text;
+  is_given = h.is_given;
+  letters = h.letters;
+  relations = h.relations;
+  reads = h.reads;
+  alphabet = h.alphabet;
+  setting = h.setting;
+  holds = other;
+}
+
 module _ (job : Job) (unread rest : SourceState) (before after : SinkState) where
   abbrev Ends : Status → Type 0
   Ends = IsJobEnd job unread rest before after
@@ -107,16 +124,7 @@ module _ (job : Job) (unread rest : SourceState) (before after : SinkState) wher
       (λ letters relations. HasGained before after (IsOutcome job letters relations status))
   job_own status (inl h) own = absurd (ungiven_not job.modulus unread rest job.command status h.0 (own_is_not_of_input status own)
       (own_is_not status NoMemory (λ none. none) own))
-  job_own status (inr h) own = record {
-    text = h.text;
-    is_given = h.is_given;
-    letters = h.letters;
-    relations = h.relations;
-    reads = h.reads;
-    alphabet = h.alphabet;
-    setting = h.setting;
-    holds = work_gained job h.letters h.relations before after job.command status h.holds own;
-  }
+  job_own status (inr h) own = given_so job unread.left rest.left _ _ h (work_gained job h.letters h.relations before after job.command status h.holds own)
 
   pub job_input : (status : Status) → Ends status → IsOfInput status → ReadsSource job.command × IsInputEnd job.modulus unread rest status
   job_input status (inl h) of = elim (make_or_reads job.command) [
@@ -133,17 +141,8 @@ module _ (job : Job) (unread rest : SourceState) (before after : SinkState) wher
 
   pub job_part : job.bound ≤ 64 → Ends WriteFault → OfGiven job unread.left rest.left (λ letters relations. HasWrittenPart job letters relations before after)
   job_part few (inl h) = absurd (ungiven_not job.modulus unread rest job.command WriteFault h.0 (λ none. none) (λ is. cc))
-  job_part few (inr h) = record {
-    text = h.text;
-    is_given = h.is_given;
-    letters = h.letters;
-    relations = h.relations;
-    reads = h.reads;
-    alphabet = h.alphabet;
-    setting = h.setting;
-    holds = work_part job h.letters h.relations before after (gb_posed job h.letters h.relations few h.alphabet h.setting)
-        job.command h.holds;
-  }
+  job_part few (inr h) = given_so job unread.left rest.left _ _ h
+      (work_part job h.letters h.relations before after (gb_posed job h.letters h.relations few h.alphabet h.setting) job.command h.holds)
 
   pub job_memory : job.bound ≤ 64 → Ends NoMemory →
       Appends before.held after.held [] ⊎ OfGiven job unread.left rest.left (λ letters relations. HasWrittenSome job letters relations before after)
@@ -151,16 +150,7 @@ module _ (job : Job) (unread rest : SourceState) (before after : SinkState) wher
   job_memory few (inr h) = elim (work_memory job h.letters h.relations before after
       (gb_posed job h.letters h.relations few h.alphabet h.setting) job.command h.holds) [
         | inl none ↦ inl none
-        | inr some ↦ inr (record {
-          text = h.text;
-          is_given = h.is_given;
-          letters = h.letters;
-          relations = h.relations;
-          reads = h.reads;
-          alphabet = h.alphabet;
-          setting = h.setting;
-          holds = some;
-        })
+        | inr some ↦ inr (given_so job unread.left rest.left _ _ h some)
       ]
 
 module _ (words : List (List ℕ)) (unread rest : SourceState) (before after : SinkState) where

@@ -53,18 +53,14 @@ returns-in-Err-TooMany-clause-end g c =
     )
 
 pub returns-in-Err-NoMemory-clause-end : goal.returns-in-Err-NoMemory-clause-end
-returns-in-Err-NoMemory-clause-end g c =
-    let laws = c.normal_form_laws.ensures in
-    inr (some_written c.args.field.now c.args.ideal.now.alphabet c.args.ideal.now.relations c.args.questions.now _ _ c.setting_law.ensures
-    laws.one laws.products c.requires.elements c.loop-place.place (omega (arith, c.loop-place-test.true)) c.loop-place.invariant.none
-    c.loop-place.invariant.written)
+returns-in-Err-NoMemory-clause-end g c = inr (some_written c.args.field.now c.args.ideal.now.alphabet c.args.ideal.now.relations c.args.questions.now _ _
+    c.setting_law.ensures c.normal_form_laws.ensures.one c.normal_form_laws.ensures.products c.requires.elements c.loop-place.place
+    (omega (arith, c.loop-place-test.true)) c.loop-place.invariant.none c.loop-place.invariant.written)
 
 pub returns-in_default-answer_text-clause-end : goal.returns-in_default-answer_text-clause-end
-returns-in_default-answer_text-clause-end g c =
-    let laws = c.normal_form_laws.ensures in
-    inr (some_written c.args.field.now c.args.ideal.now.alphabet c.args.ideal.now.relations c.args.questions.now _ _ c.setting_law.ensures
-    laws.one laws.products c.requires.elements c.loop-place.place (omega (arith, c.loop-place-test.true)) c.loop-place.invariant.none
-    c.loop-place.invariant.written)
+returns-in_default-answer_text-clause-end g c = inr (some_written c.args.field.now c.args.ideal.now.alphabet c.args.ideal.now.relations c.args.questions.now _ _
+    c.setting_law.ensures c.normal_form_laws.ensures.one c.normal_form_laws.ensures.products c.requires.elements c.loop-place.place
+    (omega (arith, c.loop-place-test.true)) c.loop-place.invariant.none c.loop-place.invariant.written)
 
 pub returns-in-Err-clause-end : goal.returns-in-Err-clause-end
 returns-in-Err-clause-end g c =
