@@ -7,5 +7,6 @@ use Rattle.job_steps.specs.declared.status.Status.TheVariants.{Limit}
 
 -- at a limit its status and no text, and none for want of memory
 abbrev pub IsStopped : {E : Type 0} → EngineFault → Result Answer E → Type 0
-IsStopped (engine.Limit kind d value) result = IfOk result (λ answer. answer ≡ record { status = Limit kind d value; text = [] })
+IsStopped (engine.Limit kind d value) result =
+    IfOk result (λ answer. answer ≡ record { status = Limit kind d value; text = [] })
 IsStopped engine.NoMemory result = IsErr result
