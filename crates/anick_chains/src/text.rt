@@ -87,8 +87,8 @@ fn push_block(
     list: bool,
 ) -> Result<(), NoMemory>
     requires letters { All (λ c. All (IsOver (length alphabet.now.weights)) c.pieces) chains.now }
-    ensures { OnOk result (text.new.items ≡ text.old.items
-        ++ block_text alphabet.now.names list (record { degree = degree; size = size; chains = pieces_of chains.now })) }
+    ensures { OnOk result (text.new.items ≡ text.old.items ++ block_text alphabet.now.names list
+        (record { degree = degree; size = size; chains = pieces_of chains.now })) }
 {
     push_count(text, degree, size, chains.len())?;
     if !list {
@@ -130,7 +130,8 @@ fn push_line(text: &mut Vec<u8>, alphabet: &Alphabet, pieces: &[Word]) -> Result
 
 fn push_pieces(text: &mut Vec<u8>, alphabet: &Alphabet, pieces: &[Word]) -> Result<(), NoMemory>
     requires letters { All (IsOver (length alphabet.now.weights)) pieces.now }
-    ensures { OnOk result (text.new.items ≡ text.old.items ++ join_by (word_text alphabet.now.names) (codes "|") pieces.now) }
+    ensures { OnOk result (text.new.items ≡ text.old.items
+        ++ join_by (word_text alphabet.now.names) (codes "|") pieces.now) }
 {
     let Some(first) = pieces.first() else {
         return Ok(());

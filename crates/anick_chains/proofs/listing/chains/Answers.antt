@@ -39,7 +39,8 @@ loop-degree-preserved c =
 
 pub returns-in_err-push_degree-clause-many : goal.returns-in_err-push_degree-clause-many
 returns-in_err-push_degree-clause-many c = λ degree e.
-    let m = c.in_err-push_degree.ensures.many degree (ap Err (same_fault c.from_residual-in_err-push_degree.result _ _ c.from_residual-in_err-push_degree.ensures.1 e)) in
+    let m = c.in_err-push_degree.ensures.many degree
+    (ap Err (same_fault c.from_residual-in_err-push_degree.result _ _ c.from_residual-in_err-push_degree.ensures.1 e)) in
     let b = c.args.basis.now in
     first_many (Contains (leads_of b.elements)) (length b.weights) b.weights c.args.most c.args.bound c.loop-degree.degree degree
     c.loop-degree.invariant.before (omega (arith, c.loop-degree-test.true)) m.0 m.1 m.2 m.3

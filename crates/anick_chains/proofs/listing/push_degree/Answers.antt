@@ -15,7 +15,8 @@ pub returns-in_err-push_continued-clause-many : goal.returns-in_err-push_continu
 returns-in_err-push_continued-clause-many c = λ d e.
     let b = c.args.tips.now.basis.now in
     let next : c.args.degree ≡ (c.args.degree - 1) + 1 = omega (arith, c.requires.some) in
-    let m = c.in_err-push_continued.ensures.many d (ap Err (same_fault c.from_residual-in_err-push_continued.result _ _ c.from_residual-in_err-push_continued.ensures.1 e)) in
+    let m = c.in_err-push_continued.ensures.many d
+    (ap Err (same_fault c.from_residual-in_err-push_continued.result _ _ c.from_residual-in_err-push_continued.ensures.1 e)) in
     let kept = c.requires.tips.kept in (
       m.0,
       length c.args.found.now.items + length (chains_at b.weights b.elements c.args.degree (pieces_of c.args.found.now.items)),
@@ -35,7 +36,8 @@ pub returns-in_err-push_onward-clause-many : goal.returns-in_err-push_onward-cla
 returns-in_err-push_onward-clause-many c = λ d e.
     let b = c.args.tips.now.basis.now in
     let next : c.args.degree ≡ (c.args.degree - 1) + 1 = omega (arith, c.requires.some) in
-    let m = c.in_err-push_onward.ensures.many d (ap Err (same_fault c.from_residual-in_err-push_onward.result _ _ c.from_residual-in_err-push_onward.ensures.1 e)) in
+    let m = c.in_err-push_onward.ensures.many d
+    (ap Err (same_fault c.from_residual-in_err-push_onward.result _ _ c.from_residual-in_err-push_onward.ensures.1 e)) in
     let kept = c.requires.tips.kept in
     let letters = continued [] c.in_ok-letters.letters.items in (
       m.0,
