@@ -36,7 +36,8 @@ chain_line names pieces = line (join_by (word_text names) (codes "|") pieces)
 
 -- the line before the chains of a degree and length
 abbrev pub count_line : ℕ → ℕ → ℕ → List ℕ
-count_line d n count = line (codes "% degree " ++ decimal d ++ codes " length " ++ decimal n ++ codes " count " ++ decimal count)
+count_line d n count =
+    line (codes "% degree " ++ decimal d ++ codes " length " ++ decimal n ++ codes " count " ++ decimal count)
 
 -- a degree and length, with or without a line for each chain
 abbrev pub block_text : List (List ℕ) → Bool → Block → List ℕ

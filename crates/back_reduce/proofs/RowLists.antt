@@ -120,7 +120,8 @@ module _ (p : ℕ) (modulus : IsFieldModulus p) where
   pub row_problem : (problem : Problem) (v : Vr) → OneOf (rows_of problem) v →
       (k : ℕ) × (k < problem.n) × (v ≡ vec p modulus (row_of problem.rows.items k))
   row_problem problem v h =
-      let r = range_one_of (row_of problem.rows.items) 0 problem.n v (subst (λ (rows : List (List ℕ)). OneOf rows v) (rows_by_number problem) h) in (r.0, omega (arith, r.2), r.3)
+      let one = subst (λ (rows : List (List ℕ)). OneOf rows v) (rows_by_number problem) h in
+      let r = range_one_of (row_of problem.rows.items) 0 problem.n v one in (r.0, omega (arith, r.2), r.3)
 
   -- the held rows one by one
   pub one_held : (m : ℕ) (holder : ℕ → Option ℕ) (value : ℕ → ℕ → ℕ) (c r : ℕ) → c < m → holder c ≡ Some r →

@@ -1,6 +1,6 @@
 -- Rows that lead at rising columns, and a row that is reduced by those of later columns.
-use Rattle.std.specs.Prelude.{ℕ, ◌≡◌, ◌<◌, ◌↔◌, Bool, false, true, List, All, AllPairs, Contains, length, map, slice_index}
-use Rattle.std.specs.Prelude.{slice_index_or}
+use Rattle.std.specs.Prelude.{ℕ, ◌≡◌, ◌<◌, ◌↔◌, Bool, false, true, List, All, AllPairs, Contains, length, map}
+use Rattle.std.specs.Prelude.{slice_index, slice_index_or}
 use Rattle.field_table.specs.Residues.{IsFieldModulus}
 use Rattle.linear_algebra.specs.Laws.{ResidueVector}
 use Rattle.back_reduce.specs.declared.echelon.Leader.{Leader}

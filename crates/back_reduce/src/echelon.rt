@@ -30,7 +30,8 @@ pub fn reduced<R: Threads + Sync, P: PivotRows>(
     pivots: &P,
 ) -> Result<Vec<Row>, NoMemory>
     requires { (P.given pivots.now).modulus ≡ field.now }
-    ensures { let problem = P.given pivots.now in IfOk result (λ echelon. IsRref problem.modulus problem.m (rows_of problem) echelon.items) }
+    ensures { let problem = P.given pivots.now in
+        IfOk result (λ echelon. IsRref problem.modulus problem.m (rows_of problem) echelon.items) }
 {
     let leaders = leaders_of(alloc, pivots)?;
     let marks = marks_of(alloc, pivots.problem().m, leaders.as_slice())?;

@@ -1,5 +1,5 @@
-ghost use Rattle.std.specs.Prelude.{◌≡◌, ◌<◌, ◌≤◌, false, true, ℕ, All, AllPairs, IfOk, IsTrue, MatchOption, length, map};
-ghost use Rattle.std.specs.Prelude.{replicate, slice_index, slice_index_or};
+ghost use Rattle.std.specs.Prelude.{◌≡◌, ◌<◌, ◌≤◌, false, true, ℕ, All, AllPairs, IfOk, IsTrue, MatchOption, length};
+ghost use Rattle.std.specs.Prelude.{map, replicate, slice_index, slice_index_or};
 ghost use Rattle.field_table.specs.Residues.{plus_multiple, product_of};
 ghost use Rattle.back_reduce.specs.Entries.{entries_row, IsLead};
 ghost use Rattle.back_reduce.specs.Listings.{entries_of};

@@ -32,9 +32,11 @@ number_line name number = line (name ++ codes " " ++ decimal number)
 -- coefficient
 abbrev pub summary_text : ℕ → ℕ → List (List Term) → ℕ → ℕ → List ℕ
 summary_text number relations elements d coefficient =
-    number_line (codes "% make") number ++ number_line (codes "relations") relations ++ number_line (codes "elements") (length elements)
+    number_line (codes "% make") number ++ number_line (codes "relations") relations
+    ++ number_line (codes "elements") (length elements)
     ++ number_line (codes "terms") (terms_in elements)
-    ++ number_line (codes "sum") (coefficient_sum elements) ++ codes "coefficient " ++ decimal d ++ number_line [] coefficient
+    ++ number_line (codes "sum") (coefficient_sum elements)
+    ++ codes "coefficient " ++ decimal d ++ number_line [] coefficient
 
 -- the summary of the ideal of these relations, up to the bound of the job
 pub record IsSummary (job : Job) (letters : Letters) (relations : List (List Term)) (text : List ℕ) : Type 0 where

@@ -77,7 +77,8 @@ round u v w =
     refused y e f =
         let size : length w - (length u + length v) ≡ length y = omega (arith, ap length e, length-append (u ++ y) v, length-append u y) in
         let tail : drop (length u) w ≡ y ++ v = ap (drop (length u)) (sym e ∙ append_assoc u y v) ∙ drop-append_seam u (y ++ v) in
-        let middle : take (length w - (length u + length v)) (drop (length u) w) ≡ y = ap₂ (λ (n : ℕ) (r : List ℕ). take n r) size tail ∙ take-append_seam y v in
+        let middle : take (length w - (length u + length v)) (drop (length u) w) ≡ y =
+        ap₂ (λ (n : ℕ) (r : List ℕ). take n r) size tail ∙ take-append_seam y v in
         let t : bytes_eq (u ++ take (length w - (length u + length v)) (drop (length u) w) ++ v) w ≡ true =
         here _ w (ap (λ (r : List ℕ). u ++ r ++ v) middle ∙ e) in
         cc

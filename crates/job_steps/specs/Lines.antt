@@ -80,7 +80,8 @@ problem_text (problems.AboveBound relation) = numbered (codes "relation") relati
 
 -- what passed its limit, with its kept value
 abbrev pub limit_text : List ℕ → ℕ → ℕ → List ℕ
-limit_text name degree value = codes "limit: " ++ (name ++ (codes " " ++ (decimal value ++ (codes " in degree " ++ decimal degree))))
+limit_text name degree value =
+    codes "limit: " ++ (name ++ (codes " " ++ (decimal value ++ (codes " in degree " ++ decimal degree))))
 
 -- a run that is done tells nothing
 abbrev pub fault_line : Status → List ℕ

@@ -95,7 +95,8 @@ series_text ns = line (codes "% series") ++ series_lines 0 ns
 -- what became of a claim of the column of this word by this row
 abbrev pub answer_text : List ℕ → ℕ → Answer → List ℕ
 answer_text word row Won = codes " won " ++ word ++ codes " row " ++ decimal row
-answer_text word row (Lost holder stamp) = codes " lost " ++ word ++ codes " row " ++ decimal row ++ codes " to " ++ decimal holder
+answer_text word row (Lost holder stamp) =
+    codes " lost " ++ word ++ codes " row " ++ decimal row ++ codes " to " ++ decimal holder
 
 -- the line of a call
 abbrev pub call_line : List (List ℕ) → List (List ℕ) → Call → List ℕ
@@ -104,7 +105,8 @@ call_line names columns c = line (decimal c.stamp ++ codes " " ++ decimal c.seat
 
 -- the line before the calls of a degree
 abbrev pub trace_line : ℕ → ℕ → ℕ → List ℕ
-trace_line d rows columns = line (codes "# degree " ++ decimal d ++ codes " rows " ++ decimal rows ++ codes " columns " ++ decimal columns)
+trace_line d rows columns =
+    line (codes "# degree " ++ decimal d ++ codes " rows " ++ decimal rows ++ codes " columns " ++ decimal columns)
 
 -- the account of a degree; empty where the degree has no row
 abbrev pub trace_text : List (List ℕ) → ℕ → Account → List ℕ

@@ -2,8 +2,8 @@ ghost use Rattle.std.specs.Prelude.{◌≡◌, ◌<◌, ◌++◌, All, length, I
 ghost use Rattle.words.specs.Words.{IsOver};
 ghost use Rattle.free_poly.specs.Poly.{IsMonic};
 ghost use Rattle.free_poly.specs.Terms.{HasResidues, UsesLetters};
-ghost use Rattle.poly_writer.specs.Texts.{degree_text, element_line, head_line, poly_text, sign_text, size_of, size_text};
-ghost use Rattle.poly_writer.specs.Texts.{term_text};
+ghost use Rattle.poly_writer.specs.Texts.{degree_text, element_line, head_line, poly_text, sign_text, size_of};
+ghost use Rattle.poly_writer.specs.Texts.{size_text, term_text};
 
 use crate::piece::{push_number, push_word};
 use field_table::Field;

@@ -17,7 +17,8 @@ pub fn series_text(alloc: Global, numbers: &[u64]) -> Result<Vec<u8>, NoMemory>
 }
 
 fn push_number_of_degree(text: &mut Vec<u8>, degree: usize, number: u64) -> Result<(), NoMemory>
-    ensures { IfOk result (λ _. text.new.items ≡ text.old.items ++ line (decimal degree ++ codes " " ++ decimal number)) }
+    ensures { IfOk result (λ _. text.new.items
+        ≡ text.old.items ++ line (decimal degree ++ codes " " ++ decimal number)) }
 {
     push_number(text, degree as u64)?;
     text.extend_from_slice(b" ")?;

@@ -130,7 +130,8 @@ spelled_relations (r ∷ rs) = spelled_relation r ++ flat_map (λ s. comma ∷ s
 
 -- text = "vars" item { "," item } ";" [ relation { "," relation } ] ";" end
 abbrev pub spelled : Tree → List Lexeme
-spelled tree = name (codes "vars") ∷ (spelled_item tree.first ++ (flat_map (λ item. comma ∷ spelled_item item) tree.others
+spelled tree = name (codes "vars") ∷ (spelled_item tree.first
+    ++ (flat_map (λ item. comma ∷ spelled_item item) tree.others
     ++ (semicolon ∷ (spelled_relations tree.relations ++ (semicolon ∷ the_end ∷ [])))))
 
 -- what may come after a whole factor, and the place after it

@@ -47,7 +47,8 @@ impl Listing {
         ensures { IfOk result (λ over. (ls : List Lexeme) →
             listed self.old.names self.old.weights self.old.weight
             (lexeme_of token.mark (span text.now token.start token.end) ∷ ls)
-            ≡ (if over then record { letters = record { names = self.new.names; weights = self.new.weights }; rest = ls } else listed self.new.names self.new.weights self.new.weight ls)) }
+            ≡ (if over then record { letters = record { names = self.new.names; weights = self.new.weights }; rest = ls }
+            else listed self.new.names self.new.weights self.new.weight ls)) }
     {
         match token.mark {
             Mark::Name => {
@@ -134,7 +135,8 @@ pub fn declaration_of(alloc: Global, text: &[u8], tokens: &[Token]) -> Result<De
     requires { All (IsInside text.now) tokens.now }
     ensures within { IfOk result (λ d. d.end ≤ length tokens.now) }
     ensures letters { IfOk result (λ d. listed [] [] 1 (lexemes_of text.now (drop 1 tokens.now))
-        ≡ record { letters = record { names = map (λ name. name.items) d.names.items; weights = d.weights.items }; rest = lexemes_of text.now (drop d.end tokens.now) }) }
+        ≡ record { letters = record { names = map (λ name. name.items) d.names.items; weights = d.weights.items };
+        rest = lexemes_of text.now (drop d.end tokens.now) }) }
 {
     let mut listing = Listing::new(alloc);
     for at in 1..tokens.len() {

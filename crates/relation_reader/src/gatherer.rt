@@ -151,7 +151,8 @@ impl Gatherer {
 
     /// Ends the present term, where there is one.
     fn end_term(&mut self, alloc: Global, field: &Field) -> Result<(), NoMemory>
-        ensures terms { OnOk result (self.new.terms ≡ (if self.old.begun then self.old.terms ++ present field.now self.old ∷ [] else self.old.terms)) }
+        ensures terms { OnOk result (self.new.terms
+            ≡ (if self.old.begun then self.old.terms ++ present field.now self.old ∷ [] else self.old.terms)) }
         ensures relations { OnOk result (self.new.relations ≡ self.old.relations) }
     {
         if !self.begun {

@@ -188,7 +188,8 @@ pub fn passed(alloc: Global, walk: Walk, token: Token, bytes: &[u8]) -> Result<W
 
 fn begun_after(begun: u32, place: Place, mark: Mark) -> u32
     requires { begun < 2 ^ 31 }
-    ensures begun { (bytes : List ℕ) → result ≡ begun + (if begins_relation place (lexeme_of mark bytes) then 1 else 0) }
+    ensures begun { (bytes : List ℕ) → result
+        ≡ begun + (if begins_relation place (lexeme_of mark bytes) then 1 else 0) }
     ensures few { result ≤ begun + 1 }
 {
     if begins_relation(place, mark) {

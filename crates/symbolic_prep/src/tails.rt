@@ -19,8 +19,8 @@ use words::NoMemory;
 /// So many reducers are put together before their words are looked up, so that the look-ups wait for memory together.
 const AT_ONCE: usize = 32;
 
-/// Puts together the reducers of the words of a table from a number on, as many as are at once: the words of each but for
-/// the leading one, and where these stand, if there is one. The letters are a buffer.
+/// Puts together the reducers of the words of a table from a number on, as many as go at once: the words of each but
+/// for the leading one, and where these stand, if there is one. The letters are a buffer.
 pub(crate) fn put_together(
     basis: &Basis,
     index: &LeadIndex,

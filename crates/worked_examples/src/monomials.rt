@@ -5,8 +5,8 @@ use std::process::Abort;
 use std::test::Fail;
 use std::thread::Threads;
 
-/// The obstructions of a degree over the basis of a text up to another degree are these, by word, left and right element
-/// and what they share, and one less is refused.
+/// The obstructions of a degree over the basis of a text up to another degree are these, by word, left and right
+/// element and what they share, and one less is refused.
 fn assert_overlaps<R: Abort + Threads + Sync>(
     rt: &R,
     alloc: Global,

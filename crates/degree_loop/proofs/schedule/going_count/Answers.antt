@@ -27,5 +27,6 @@ loop-seat-preserved c =
             ap length (passing-one (going_test problem s) i (sym c.goes_on.ensures ∙ w.if-goes_on.true)),
             length-append (going_below problem s i) (i ∷ []),
           )
-      | else-goes_on w ↦ w.count-is ∙ c.loop-seat.invariant ∙ sym (ap length (passing-none (going_test problem s) i (sym c.goes_on.ensures ∙ w.if-goes_on.false)))
+      | else-goes_on w ↦ w.count-is ∙ c.loop-seat.invariant
+          ∙ sym (ap length (passing-none (going_test problem s) i (sym c.goes_on.ensures ∙ w.if-goes_on.false)))
     ]

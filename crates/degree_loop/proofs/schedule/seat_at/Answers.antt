@@ -27,7 +27,8 @@ loop-seat-preserved c =
           }
       | else-goes_on w ↦
           record {
-            count = w.before-is ∙ c.loop-seat.invariant.count ∙ sym (ap length (passing-none (going_test problem s) i (sym c.goes_on.ensures ∙ w.if-goes_on.false)));
+            count = w.before-is ∙ c.loop-seat.invariant.count
+                ∙ sym (ap length (passing-none (going_test problem s) i (sym c.goes_on.ensures ∙ w.if-goes_on.false)));
             upto = omega (arith, w.before-is, c.loop-seat.invariant.upto);
           }
     ]

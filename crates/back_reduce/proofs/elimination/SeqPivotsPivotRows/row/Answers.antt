@@ -12,7 +12,8 @@ returns-in-Some c =
     let inside = c.self.inside in
     let table = inside.table.items in
     let within : c.args.column < length table = omega (arith, c.requires, c.self.invariant.size, ap (λ s. s.problem.m) c.self.view_is) in
-    let there : held_at table c.args.column ≡ Some c.in-Some.held = sym (get_or_read table c.args.column c.index.result.now within c.index.ensures None) ∙ c.in-Some.is in
+    let there : held_at table c.args.column ≡ Some c.in-Some.held =
+    sym (get_or_read table c.args.column c.index.result.now within c.index.ensures None) ∙ c.in-Some.is in
     let P : Sequential → Type 0 = λ s. IfOk c.copy.result (λ row. row ≡ held_row s.problem.m (value_in s.table) c.args.column) in
     subst P c.self.view_is (subst (λ (r : List ℕ). IfOk c.copy.result (λ row. row ≡ r))
     (sym (row_held inside.problem.m table c.args.column c.in-Some.held (c.self.invariant.widths c.args.column c.in-Some.held there) there)) c.copy.ensures)

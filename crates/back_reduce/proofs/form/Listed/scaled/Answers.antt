@@ -22,5 +22,6 @@ returns c =
     let is : c.as_mut_slice.result.now ≡ row.residues.items = c.as_mut_slice.ensures.value ∙ c.in_ok-residues.ensures.items ∙ c.as_slice-2.ensures.value in
     let products : c.scale.new.row ≡ map f row.residues.items = c.scale.ensures ∙ ap (map f) is in
     let read = with_items_is c.in_ok-residues.residues c.scale.new.row (c.scale.auto.row ∙ c.as_mut_slice.ensures.len) in
-    ap (λ (l : List ℕ). entries_row row.width l (with_items c.in_ok-residues.residues c.scale.new.row).items) columns ∙ ap (entries_row row.width row.columns.items) (read ∙ products)
+    ap (λ (l : List ℕ). entries_row row.width l (with_items c.in_ok-residues.residues c.scale.new.row).items) columns
+    ∙ ap (entries_row row.width row.columns.items) (read ∙ products)
     ∙ sym (map-entries_row f row.width row.columns.items row.residues.items (scaled_zero c.args.field.now c.args.a))
