@@ -27,29 +27,30 @@ factor_at u v w at o q le =
     let front : take (length u) v ≡ u = ap (take (length u)) (sym q.same) ∙ take-take (length u) (length v) (drop at w) le ∙ o.same in
     record { before = []; after = drop (length u) v; joined = sym (take-append-drop (length u) v) ∙ ap (λ (x : List ℕ). x ++ drop (length u) v) front }
 
-apart_at : (u v w : List ℕ) (at : ℕ) → AreApart u v → OccursAt u w at → OccursAt v w at → ⊥
-apart_at u v w at apart o q = elim (cases_lt (length u) (length v)) [
-  | inl lt ↦ apart.0 (factor_at u v w at o q (omega (arith, lt)))
-  | inr le ↦ apart.1 (factor_at v u w at q o le)
-]
-
 abbrev ApartLeads : Lead → Lead → Type 0
 ApartLeads l m = AreApart l.word m.word
 
-same_among : (w : List ℕ) (at : ℕ) (xs : List Lead) → AllPairs ApartLeads xs → (l m : Lead) → Contains xs l → Contains xs m →
-    OccursAt l.word w at → OccursAt m.word w at → l ≡ m
-same_among w at [] p l m cl cm o q = absurd (Contains-none l cl)
-same_among w at (x ∷ xs) p l m cl cm o q = elim (Contains-cases x xs l cl) [
+-- a word of the list is a factor of itself alone
+pub same_lead : (xs : List Lead) → AllPairs ApartLeads xs → (l m : Lead) → Contains xs l → Contains xs m → IsFactor l.word m.word → l ≡ m
+same_lead [] p l m cl cm f = absurd (Contains-none l cl)
+same_lead (x ∷ xs) p l m cl cm f = elim (Contains-cases x xs l cl) [
   | inl e ↦ elim (Contains-cases x xs m cm) [
-    | inl f ↦ sym e ∙ f
-    | inr n ↦ absurd (apart_at x.word m.word w at (All-contains (ApartLeads x) xs m (AllPairs-first ApartLeads x xs p) n)
-        (subst (λ (y : Lead). OccursAt y.word w at) (sym e) o) q)
+    | inl g ↦ sym e ∙ g
+    | inr n ↦ absurd ((All-contains (ApartLeads x) xs m (AllPairs-first ApartLeads x xs p) n).0
+        (subst (λ (y : Lead). IsFactor y.word m.word) (sym e) f))
   ]
   | inr k ↦ elim (Contains-cases x xs m cm) [
-    | inl f ↦ absurd (apart_at x.word l.word w at (All-contains (ApartLeads x) xs l (AllPairs-first ApartLeads x xs p) k)
-        (subst (λ (y : Lead). OccursAt y.word w at) (sym f) q) o)
-    | inr n ↦ same_among w at xs (AllPairs-rest ApartLeads x xs p) l m k n o q
+    | inl g ↦ absurd ((All-contains (ApartLeads x) xs l (AllPairs-first ApartLeads x xs p) k).1
+        (subst (λ (y : Lead). IsFactor l.word y.word) (sym g) f))
+    | inr n ↦ same_lead xs (AllPairs-rest ApartLeads x xs p) l m k n f
   ]
+]
+
+same_among : (w : List ℕ) (at : ℕ) (xs : List Lead) → AllPairs ApartLeads xs → (l m : Lead) → Contains xs l → Contains xs m →
+    OccursAt l.word w at → OccursAt m.word w at → l ≡ m
+same_among w at xs p l m cl cm o q = elim (cases_lt (length l.word) (length m.word)) [
+  | inl lt ↦ same_lead xs p l m cl cm (factor_at l.word m.word w at o q (omega (arith, lt)))
+  | inr le ↦ sym (same_lead xs p m l cm cl (factor_at m.word l.word w at q o le))
 ]
 
 -- a word of the index that stands at a place is the only one there

@@ -3,7 +3,10 @@ pub mod Grown
 pub mod Indexing
 pub mod Labels
 pub mod LeadLemmas
+pub mod LongestEnds
+pub mod Moves
 pub mod Paths
+pub mod Scans
 pub mod StepWalks
 pub mod Trees
 pub mod Walks

@@ -1,18 +1,15 @@
--- A walk for the first word by the steps of a table, and the making of the table.
-use Rattle.std.proofs.Common.{◌≡◌, ◌+◌, ◌*◌, ◌/◌, ◌%◌, ◌<◌, ℕ, List, [], ◌∷◌, ◌++◌, length, get_or, refl, sym, ap, ◌∙◌, arith, subst, Option, Some, None}
-use Rattle.std.proofs.Common.{below_more, length-append}
-use Rattle.std.specs.List.{slice_get}
-use Rattle.std.proofs.lemmas.Nat.{div-mul-add, mod-mul-add, mul-add-lt}
-use Rattle.std.proofs.lemmas.Option.{get_or_from_slice_get}
-use Rattle.std.proofs.Math.Nat.{mul_comm}
+-- What a step by a letter says of the words that are found, and of a walk for the first one.
+use Rattle.std.proofs.Common.{◌≡◌, ◌+◌, ◌<◌, ℕ, List, [], ◌∷◌, ◌++◌, length, drop, get_or, refl, sym, ap, ◌∙◌, subst, append_assoc, Option, Some, None}
+use Rattle.std.specs.List.{Contains}
+use Rattle.std.proofs.lemmas.List.{drop_more}
+use Rattle.lead_index.specs.declared.lead.Lead.{Lead}
 use Rattle.lead_index.specs.declared.steps.Step.{Step}
 use Rattle.lead_index.specs.declared.steps.Step.TheVariants.{Ends, Goes, Stops}
 use Rattle.lead_index.specs.declared.tree.Node.{Node}
-use Rattle.lead_index.specs.Steps.{AreSteps, IsStep, step_to}
+use Rattle.lead_index.specs.Steps.{IsStep, step_to}
 use Rattle.lead_index.specs.Steps.IsStep.{beside, here, nowhere}
-use Rattle.lead_index.specs.Tree.{IsMissed, IsRising, Meets}
-use Rattle.lead_index.proofs.Paths.{slice_get-append, slice_get-push}
-use Rattle.lead_index.proofs.Walks.{IsWalk, walk_child, walk_found, walk_no_child, walk_no_sibling, walk_sibling}
+use Rattle.lead_index.specs.Tree.{IsLabelled, IsMissed, IsRising, IsTree, Meets}
+use Rattle.lead_index.proofs.Walks.{IsWalk, missed_on, missed_other, missed_same, walk_found, walk_sibling}
 
 stops_says : (e c : Option ℕ) → step_to e c ≡ Stops → (e ≡ None) × (c ≡ None)
 stops_says (Some e) c is = cc
@@ -29,26 +26,73 @@ ends_says (Some e) c k is = cc
 ends_says None (Some c) k is = cc
 ends_says None None k is = cc
 
+-- what a step says of the words that are found from its node, and of the letters before the next one
+module _ (nodes : List Node) where
+  pub missed_by_stop : (n x : ℕ) (step : Step) → IsStep nodes n x step → step ≡ Stops → (rest : List ℕ) → IsMissed nodes n (x ∷ rest)
+  missed_by_stop n x step (here m node y stands same) is rest =
+      let s = stops_says node.element node.child is in
+      missed_same nodes n node x rest stands same s.0 (λ c e. let both : None ≡ Some c = sym s.1 ∙ e in cc both)
+  missed_by_stop n x step (beside m sibling node y st stands other next h) is rest =
+      missed_other nodes n node x rest stands other
+      (λ s e. let both : Some sibling ≡ Some s = sym next ∙ e in let k : sibling ≡ s = cc in
+      subst (λ (i : ℕ). IsMissed nodes i (x ∷ rest)) k (missed_by_stop sibling x step h is rest))
+  missed_by_stop n x step (nowhere m node y stands other none) is rest =
+      missed_other nodes n node x rest stands other (λ s e. let both : None ≡ Some s = sym none ∙ e in cc both)
+
+  pub missed_by_go : (n x child : ℕ) (step : Step) → IsStep nodes n x step → step ≡ Goes child → (rest : List ℕ) → IsMissed nodes child rest →
+      IsMissed nodes n (x ∷ rest)
+  missed_by_go n x child step (here m node y stands same) is rest h =
+      let s = goes_says node.element node.child child is in
+      missed_same nodes n node x rest stands same s.0 (λ c e. let both : Some child ≡ Some c = sym s.1 ∙ e in let k : child ≡ c = cc in
+      subst (λ (i : ℕ). IsMissed nodes i rest) k h)
+  missed_by_go n x child step (beside m sibling node y st stands other next h) is rest g =
+      missed_other nodes n node x rest stands other
+      (λ s e. let both : Some sibling ≡ Some s = sym next ∙ e in let k : sibling ≡ s = cc in
+      subst (λ (i : ℕ). IsMissed nodes i (x ∷ rest)) k (missed_by_go sibling x child step h is rest g))
+  missed_by_go n x child step (nowhere m node y stands other none) is rest h = cc
+
+  pub goes_within : IsRising nodes → (n x child : ℕ) (step : Step) → IsStep nodes n x step → step ≡ Goes child → child < length nodes
+  goes_within rising n x child step (here m node y stands same) is =
+      (rising.children n child node stands (goes_says node.element node.child child is).1).1
+  goes_within rising n x child step (beside m sibling node y st stands other next h) is = goes_within rising sibling x child step h is
+  goes_within rising n x child step (nowhere m node y stands other none) is = cc
+
+  pub goes_before : (before : ℕ → List ℕ) → IsLabelled nodes before → (n x child : ℕ) (step : Step) → IsStep nodes n x step → step ≡ Goes child →
+      before child ≡ before n ++ x ∷ []
+  goes_before before labelled n x child step (here m node y stands same) is =
+      labelled.children n child node stands (goes_says node.element node.child child is).1 ∙ ap (λ (z : ℕ). before n ++ z ∷ []) same
+  goes_before before labelled n x child step (beside m sibling node y st stands other next h) is =
+      goes_before before labelled sibling x child step h is ∙ ap (λ (xs : List ℕ). xs ++ x ∷ []) (labelled.siblings n sibling node stands next)
+  goes_before before labelled n x child step (nowhere m node y stands other none) is = cc
+
+  pub ends_among : (leads : List Lead) (tree : IsTree nodes leads) (n x element : ℕ) (step : Step) → IsStep nodes n x step → step ≡ Ends element →
+      Contains leads (record { word = tree.before n ++ x ∷ []; element = element })
+  ends_among leads tree n x element step (here m node y stands same) is =
+      subst (λ (z : ℕ). Contains leads (record { word = tree.before n ++ z ∷ []; element = element })) same
+      (tree.ends n element node stands (ends_says node.element node.child element is))
+  ends_among leads tree n x element step (beside m sibling node y st stands other next h) is =
+      subst (λ (xs : List ℕ). Contains leads (record { word = xs ++ x ∷ []; element = element })) (tree.labelled.siblings n sibling node stands next)
+      (ends_among leads tree sibling x element step h is)
+  ends_among leads tree n x element step (nowhere m node y stands other none) is = cc
+
 -- what a step says of a walk that has come to its node
 module _ (nodes : List Node) (letters : List ℕ) (place : ℕ) (rising : IsRising nodes) (lt : place < length letters) where
   pub step_stops : (n x : ℕ) (step : Step) → IsStep nodes n x step → x ≡ get_or letters place 0 → step ≡ Stops →
       IsWalk nodes letters n place → IsMissed nodes 0 letters
-  step_stops n x step (here m node y stands same) e is walk =
-      let s = stops_says node.element node.child is in
-      walk_no_child nodes letters n place node rising walk lt stands (same ∙ e) s.0 s.1
-  step_stops n x step (beside m sibling node y st stands other next h) e is walk =
-      step_stops sibling x step h e is (walk_sibling nodes letters n place node rising walk lt stands (λ q. other (q ∙ sym e)) sibling next)
-  step_stops n x step (nowhere m node y stands other none) e is walk =
-      walk_no_sibling nodes letters n place node rising walk lt stands (λ q. other (q ∙ sym e)) none
+  step_stops n x step h e is walk = walk.missed (missed_on nodes n letters place lt
+      (subst (λ (z : ℕ). IsMissed nodes n (z ∷ drop (place + 1) letters)) e (missed_by_stop nodes n x step h is (drop (place + 1) letters))))
 
   pub step_goes : (n x child : ℕ) (step : Step) → IsStep nodes n x step → x ≡ get_or letters place 0 → step ≡ Goes child →
       IsWalk nodes letters n place → IsWalk nodes letters child (place + 1)
-  step_goes n x child step (here m node y stands same) e is walk =
-      let s = goes_says node.element node.child child is in
-      walk_child nodes letters n place node rising walk lt stands (same ∙ e) s.0 child s.1
-  step_goes n x child step (beside m sibling node y st stands other next h) e is walk =
-      step_goes sibling x child step h e is (walk_sibling nodes letters n place node rising walk lt stands (λ q. other (q ∙ sym e)) sibling next)
-  step_goes n x child step (nowhere m node y stands other none) e is walk = cc
+  step_goes n x child step h e is walk = record {
+    within = goes_within nodes rising n x child step h is;
+    spelled = λ before labelled. walk.spelled before labelled ∙ ap (λ (xs : List ℕ). before n ++ xs) (drop_more letters place 0 lt)
+        ∙ sym (append_assoc (before n) (get_or letters place 0 ∷ []) (drop (place + 1) letters))
+        ∙ ap (λ (xs : List ℕ). xs ++ drop (place + 1) letters) (ap (λ (z : ℕ). before n ++ z ∷ []) (sym e)
+        ∙ sym (goes_before nodes before labelled n x child step h is));
+    missed = λ g. walk.missed (missed_on nodes n letters place lt
+        (subst (λ (z : ℕ). IsMissed nodes n (z ∷ drop (place + 1) letters)) e (missed_by_go nodes n x child step h is (drop (place + 1) letters) g)));
+  }
 
   pub step_ends : (n x element : ℕ) (step : Step) → IsStep nodes n x step → x ≡ get_or letters place 0 → step ≡ Ends element →
       IsWalk nodes letters n place → Meets nodes letters element
@@ -57,44 +101,3 @@ module _ (nodes : List Node) (letters : List ℕ) (place : ℕ) (rising : IsRisi
   step_ends n x element step (beside m sibling node y st stands other next h) e is walk =
       step_ends sibling x element step h e is (walk_sibling nodes letters n place node rising walk lt stands (λ q. other (q ∙ sym e)) sibling next)
   step_ends n x element step (nowhere m node y stands other none) e is walk = cc
-
--- the place of a node's step in the table
-pub step_within : (nodes : List Node) (count : ℕ) (steps : List Step) → AreSteps nodes count steps → (n x : ℕ) → n < length nodes → x < count →
-    n * count + x < length steps
-step_within nodes count steps h n x in_nodes in_letters =
-    omega (arith, h.count, mul-add-lt n count x (length nodes) in_nodes in_letters, mul_comm (length nodes) count)
-
--- the step that is read there
-pub step_read : (nodes : List Node) (count : ℕ) (steps : List Step) → AreSteps nodes count steps → (n x : ℕ) → n < length nodes → x < count →
-    (d : Step) → IsStep nodes n x (get_or steps (n * count + x) d)
-step_read nodes count steps h n x in_nodes in_letters d =
-    let i : ℕ = n * count + x in
-    let s = h.each i (step_within nodes count steps h n x in_nodes in_letters) in
-    subst (λ (m : ℕ). IsStep nodes m x (get_or steps i d)) (div-mul-add n count x in_letters)
-    (subst (λ (y : ℕ). IsStep nodes (i / count) y (get_or steps i d)) (mod-mul-add n count x in_letters)
-    (subst (IsStep nodes (i / count) (i % count)) (sym (get_or_from_slice_get steps i s.0 d s.1)) s.2))
-
--- so many steps of the table
-pub record AreBegun (nodes : List Node) (count place : ℕ) (steps : List Step) : Type 0 where
-  pub size : length steps ≡ place
-  pub each : (i : ℕ) → i < place → (step : Step) × (slice_get steps i ≡ Some step) × IsStep nodes (i / count) (i % count) step
-
-pub begun_none : (nodes : List Node) (count : ℕ) (steps : List Step) → steps ≡ [] → AreBegun nodes count 0 steps
-begun_none nodes count steps e = record { size = ap length e; each = λ i lt. absurd (omega (arith, lt)) }
-
-pub begun_more : (nodes : List Node) (count place : ℕ) (steps more : List Step) (step : Step) → AreBegun nodes count place steps →
-    IsStep nodes (place / count) (place % count) step → more ≡ steps ++ step ∷ [] → AreBegun nodes count (place + 1) more
-begun_more nodes count place steps more step h is e =
-    subst (AreBegun nodes count (place + 1)) (sym e) (record {
-      size = omega (arith, h.size, length-append steps (step ∷ []));
-      each = below_more (λ i. (s : Step) × (slice_get (steps ++ step ∷ []) i ≡ Some s) × IsStep nodes (i / count) (i % count) s) place
-          (λ i lt. let s = h.each i lt in (s.0, slice_get-append steps (step ∷ []) i (omega (arith, lt, h.size)) ∙ s.1, s.2))
-          (step, slice_get-push steps step place (sym h.size), is);
-    })
-
-pub begun_all : (nodes : List Node) (count place : ℕ) (steps : List Step) → AreBegun nodes count place steps → place ≡ length nodes * count →
-    AreSteps nodes count steps
-begun_all nodes count place steps h e = record {
-  count = h.size ∙ e;
-  each = λ i lt. h.each i (omega (arith, lt, h.size));
-}

@@ -32,7 +32,7 @@ missed_empty nodes n word rest element (below m child node x w e at l is h) none
 missed_empty nodes n word rest element (beside m sibling node x w e at l is h) none = cc
 
 -- the letter is another one
-missed_other : (nodes : List Node) (n : ℕ) (here : Node) (y : ℕ) (letters : List ℕ) → slice_get nodes n ≡ Some here → (here.letter ≡ y → ⊥)
+pub missed_other : (nodes : List Node) (n : ℕ) (here : Node) (y : ℕ) (letters : List ℕ) → slice_get nodes n ≡ Some here → (here.letter ≡ y → ⊥)
     → ((sibling : ℕ) → here.sibling ≡ Some sibling → IsMissed nodes sibling (y ∷ letters))
     → (word rest : List ℕ) (element : ℕ) → Leads nodes n word element → y ∷ letters ≡ word ++ rest → ⊥
 missed_other nodes n here y letters stands other next word rest element (ends m node x e at l is) joined =
@@ -46,7 +46,7 @@ missed_other nodes n here y letters stands other next word rest element (beside 
     next sibling (ap (λ (k : Node). k.sibling) same ∙ is) (x ∷ w) rest e h joined
 
 -- the letter is this one, and no element ends with it
-missed_same : (nodes : List Node) (n : ℕ) (here : Node) (y : ℕ) (letters : List ℕ) → slice_get nodes n ≡ Some here → here.letter ≡ y → here.element ≡ None
+pub missed_same : (nodes : List Node) (n : ℕ) (here : Node) (y : ℕ) (letters : List ℕ) → slice_get nodes n ≡ Some here → here.letter ≡ y → here.element ≡ None
     → ((child : ℕ) → here.child ≡ Some child → IsMissed nodes child letters)
     → (word rest : List ℕ) (element : ℕ) → Leads nodes n word element → y ∷ letters ≡ word ++ rest → ⊥
 missed_same nodes n here y letters stands same_letter no_element next word rest element (ends m node x e at l is) joined =
@@ -60,7 +60,7 @@ missed_same nodes n here y letters stands same_letter no_element next word rest 
     let same : here ≡ node = same_node nodes m here node stands at in
     let first : y ≡ x = cc in absurd (l (ap (λ (k : Node). k.letter) (sym same) ∙ same_letter ∙ first))
 
-missed_on : (nodes : List Node) (n : ℕ) (letters : List ℕ) (place : ℕ) → place < length letters →
+pub missed_on : (nodes : List Node) (n : ℕ) (letters : List ℕ) (place : ℕ) → place < length letters →
     IsMissed nodes n (get_or letters place 0 ∷ drop (place + 1) letters) → IsMissed nodes n (drop place letters)
 missed_on nodes n letters place lt h = subst (IsMissed nodes n) (sym (drop_more letters place 0 lt)) h
 

@@ -1,3 +1,4 @@
 pub mod Leads
 pub mod Tree
 pub mod Steps
+pub mod Automaton

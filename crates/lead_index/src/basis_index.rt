@@ -20,7 +20,7 @@ pub fn index_of(alloc: Global, basis: &Basis) -> Result<LeadIndex, NoMemory>
     for place in 0..count {
         add_lead(&mut index, basis.element(place), place)?;
     }
-    index.tabulate()?;
+    index.make_automaton()?;
     Ok(index)
 }
 

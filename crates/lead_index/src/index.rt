@@ -1,28 +1,28 @@
 ghost use Rattle.std.specs.Prelude.{◌≡◌, ◌++◌, ◌∷◌, ◌<◌, ◌≤◌, [], MatchOption, OnErr, OnOk, length};
 ghost use Rattle.lead_index.specs.Leads.{IsFirstReducer, IsFree, IsFresh, IsFreeAt, IsIndex, Starts};
 
+use crate::automaton::Automaton;
 use crate::lead::Lead;
-use crate::steps::StepTable;
-use crate::tree::{Node, attach, first_element, push_path};
+use crate::tree::{Node, attach, first_element, first_place, push_path};
 use std::alloc::{AllocError, Global};
 use std::marker::Model;
 use words::{NoMemory, Word};
 
 /// Leading words with their elements, which contracts see as the list of these pairs in the order of their adding.
-/// Where the list is whole, a table takes the place of the links between the nodes.
+/// Where the list is whole, an automaton takes the place of the links between the nodes.
 #[derive(Debug, Drop)]
 pub struct LeadIndex {
     alloc: Global,
     leads: Vec<Lead>,
     nodes: Vec<Node>,
-    table: Option<StepTable>,
+    automaton: Option<Automaton>,
 }
 
 impl Model for LeadIndex {
     ghost use Rattle.std.specs.Prelude.{List};
     ghost use Rattle.lead_index.specs.declared.lead.Lead.{Lead};
     ghost use Rattle.lead_index.specs.Leads.{IsIndex};
-    ghost use Rattle.lead_index.specs.Steps.{MayStep};
+    ghost use Rattle.lead_index.specs.Automaton.{MayRun};
     ghost use Rattle.lead_index.specs.Tree.{IsTree};
 
     ghost Value = { List Lead };
@@ -30,7 +30,7 @@ impl Model for LeadIndex {
     ghost view = { λ x. x.leads.items };
 
     ghost invariant = { λ x. IsIndex x.leads.items × IsTree x.nodes.items x.leads.items
-        × MayStep x.nodes.items x.table };
+        × MayRun x.nodes.items x.automaton };
 }
 
 /// Where a leading word stands, counted from 0, and its element.
@@ -49,7 +49,7 @@ impl LeadIndex {
             alloc,
             leads: Vec::new(alloc),
             nodes: Vec::new(alloc),
-            table: None,
+            automaton: None,
         }
     }
 
@@ -63,7 +63,7 @@ impl LeadIndex {
             return Err(AllocError);
         }
         let word = Word::from_letters(self.alloc, lead)?;
-        self.table = None;
+        self.automaton = None;
         self.nodes.reserve(lead.len())?;
         self.leads.push(Lead { word, element })?;
         let place = attach(&mut self.nodes, lead);
@@ -71,11 +71,11 @@ impl LeadIndex {
         Ok(())
     }
 
-    /// Makes the table for a list that is whole, where it is not too large.
-    pub(crate) fn tabulate(&mut self) -> Result<(), NoMemory>
+    /// Makes the automaton for a list that is whole, where it is not too large.
+    pub(crate) fn make_automaton(&mut self) -> Result<(), NoMemory>
         ensures { self.new ≡ self.old }
     {
-        self.table = StepTable::of(self.alloc, self.nodes.as_slice())?;
+        self.automaton = Automaton::of(self.alloc, self.nodes.as_slice())?;
         Ok(())
     }
 
@@ -86,16 +86,11 @@ impl LeadIndex {
         ensures place { MatchOption result (IsFree self.now word.now)
             (λ place. IsFirstReducer self.now word.now place.at place.element) }
     {
-        let _ = &self.leads;
-        for at in 0..word.len() {
-            if let Some(element) = self.starts(word, at) {
-                return Some(Place {
-                    at: at as u32,
-                    element,
-                });
-            }
+        let nodes = self.nodes.as_slice();
+        match &self.automaton {
+            Some(automaton) => automaton.first_place(nodes, word),
+            None => first_place(nodes, word),
         }
-        None
     }
 
     /// The element whose leading word stands in the word from this place.
@@ -107,8 +102,8 @@ impl LeadIndex {
             (λ element. Starts self.now word.now at element) }
     {
         let letters = &word[at..];
-        match &self.table {
-            Some(table) => table.element(self.nodes.as_slice(), letters),
+        match &self.automaton {
+            Some(automaton) => automaton.element(self.nodes.as_slice(), letters),
             None => first_element(self.nodes.as_slice(), letters),
         }
     }

@@ -2,6 +2,7 @@
 //! another, so at most one stands at each place, and the leftmost is a function of the word.
 #![tactic(auto)]
 
+mod automaton;
 mod basis_index;
 mod index;
 pub mod laws;

@@ -1,5 +1,9 @@
-ghost use Rattle.std.specs.Prelude.{◌≡◌, ◌+◌, ◌<◌, ◌≤◌, MatchOption, length, vec_capacity, vec_len};
-ghost use Rattle.lead_index.specs.Tree.{HasPath, IsAttached, IsMissed, IsOnPath, IsRising, Meets};
+ghost use Rattle.std.specs.Prelude.{◌≡◌, ◌+◌, ◌<◌, ◌≤◌, List, MatchOption, length, vec_capacity, vec_len};
+ghost use Rattle.lead_index.specs.declared.lead.Lead.{Lead};
+ghost use Rattle.lead_index.specs.Leads.{IsFirstReducer, IsFree, IsIndex};
+ghost use Rattle.lead_index.specs.Tree.{HasPath, IsAttached, IsMissed, IsOnPath, IsRising, IsTree, Meets};
+
+use crate::index::Place;
 
 /// A node of the prefix tree: a letter, the first node for the next letter, the next node for another letter in
 /// its place, and the element of the word that ends with it.
@@ -38,6 +42,24 @@ pub(crate) fn first_element(nodes: &[Node], letters: &[u8]) -> Option<u32>
         };
         node = child as usize;
         place += 1;
+    }
+    None
+}
+
+/// The leftmost place where a word of the tree stands, place after place.
+pub(crate) fn first_place(nodes: &[Node], word: &[u8]) -> Option<Place>
+    requires small { length word.now ≤ 64 }
+    requires rising { IsRising nodes.now }
+    ensures { (leads : List Lead) → IsIndex leads → IsTree nodes.now leads →
+        MatchOption result (IsFree leads word.now) (λ place. IsFirstReducer leads word.now place.at place.element) }
+{
+    for at in 0..word.len() {
+        if let Some(element) = first_element(nodes, &word[at..]) {
+            return Some(Place {
+                at: at as u32,
+                element,
+            });
+        }
     }
     None
 }

@@ -33,5 +33,5 @@ loop-place-preserved c =
 pub returns : goal.returns
 returns c =
     let all : c.loop-place.place ≡ length c.args.basis.now.elements = omega (arith, c.len-count.ensures) in
-    subst (IsIndexOf c.args.basis.now.elements) (sym c.tabulate.ensures)
+    subst (IsIndexOf c.args.basis.now.elements) (sym c.make_automaton.ensures)
     (indexed_all c.args.basis.now.elements c.loop-place.place c.loop-place.index all c.loop-place.invariant)
