@@ -20,7 +20,7 @@ pub record Begins (leads : List Lead) (letters : List ℕ) : Type 0 where
   pub among : Contains leads lead
   pub is : lead.word ≡ letters ++ rest
 
--- the longest end of the letters that begins a word of the list, or none
+-- an end of the letters, and no longer one begins a word of the list
 pub record IsLongestEnd (leads : List Lead) (letters last : List ℕ) : Type 0 where
   pub front : List ℕ
   pub joined : letters ≡ front ++ last
