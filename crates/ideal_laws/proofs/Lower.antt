@@ -110,9 +110,12 @@ module _ (p : ℕ) (relations : List (List Term)) (below : Elements) (st : IsSet
   listed : (g : List Term) → Contains below.elements g → (e : ℕ) × (e < below.done + 1) × IsReduced (ideal_over p below.weights relations) e g
   listed g m =
       let k = All-contains (IsKeptElement below.weights below.done) below.elements g kept.each m in
-      let d = lead_degree below.weights g in
-      (d, omega (arith, k.upto), ((upto d k.from k.upto).exactly g).0
-          (of_degree-has below.weights d below.elements g m (λ none. subst IsMonic none k.monic) refl))
+      let d = lead_degree below.weights g in (
+        d,
+        omega (arith, k.upto),
+        ((upto d k.from k.upto).exactly g).0
+            (of_degree-has below.weights d below.elements g m (λ none. subst IsMonic none k.monic) refl),
+      )
 
   has : (g : List Term) (e : ℕ) → e < below.done + 1 → IsReduced (ideal_over p below.weights relations) e g → Contains below.elements g
   has g zero lt h = absurd (no_reduced_0 (ideal_over p below.weights relations) st g h)

@@ -135,8 +135,10 @@ pub fn declaration_of(alloc: Global, text: &[u8], tokens: &[Token]) -> Result<De
     requires { All (IsInside text.now) tokens.now }
     ensures within { IfOk result (λ d. d.end ≤ length tokens.now) }
     ensures letters { IfOk result (λ d. listed [] [] 1 (lexemes_of text.now (drop 1 tokens.now))
-        ≡ record { letters = record { names = map (λ name. name.items) d.names.items; weights = d.weights.items };
-        rest = lexemes_of text.now (drop d.end tokens.now) }) }
+        ≡ record {
+          letters = record { names = map (λ name. name.items) d.names.items; weights = d.weights.items };
+          rest = lexemes_of text.now (drop d.end tokens.now);
+        }) }
 {
     let mut listing = Listing::new(alloc);
     for at in 1..tokens.len() {
