@@ -3,12 +3,13 @@ use Rattle.std.proofs.Common.{◌≡◌, ℕ, ◌+◌, ◌*◌, ◌<◌, ◌≤�
 use Rattle.std.specs.List.{sum_by}
 use Rattle.std.proofs.Math.Nat.{mul_comm, mul-add}
 use Rattle.std.proofs.lemmas.List.Elements.{All-head, All-tail}
-use Rattle.std.proofs.lemmas.List.Sums.{sum_by-cons}
+use Rattle.std.proofs.lemmas.List.Sums.{get_or-le-sum_by, sum_by-cons}
 use Rattle.std.proofs.lemmas.Nat.{mul-le}
 use Rattle.back_reduce.specs.declared.problem.Problem.{Problem}
 use Rattle.pivot_core.specs.declared.view.Phase.{Phase}
 use Rattle.pivot_core.specs.declared.view.Phase.TheVariants as phase
 use Rattle.pivot_core.specs.declared.sight.Sight.{Sight}
+use Rattle.pivot_core.specs.Views.{fresh}
 use Rattle.pivot_core.specs.Runs.{State, state_after, view_at}
 use Rattle.pivot_core.specs.Phases.{IsPhase}
 use Rattle.pivot_core.specs.Calls.{IsBounded, steps_of_row}
@@ -87,6 +88,18 @@ counted problem crew s h =
           omega (arith, sum, most, h.ranges.count);
       stamps = λ i lt j d within. omega (arith, (calls.each i lt j d within).stamp, calls.clocks i lt);
     }
+
+-- a view has drawn some of the rows, so its steps are few
+module _ (problem : Problem) (crew : ℕ) (s : State) (h : ClaimedPivots problem crew s) (i : ℕ) (lt : i < crew) where
+  pub drawn_few : (view_at problem s i).drawn ≤ sum_by (λ (z : Sight). z.drawn) s.views
+  drawn_few = get_or-le-sum_by (λ (z : Sight). z.drawn) s.views i (fresh problem.m i) (omega (arith, lt, h.ranges.count))
+
+  pub steps_few : (view_at problem s i).steps ≤ problem.n * steps_of_row problem.m + 1
+  steps_few =
+      let k : ℕ = steps_of_row problem.m in
+      let most : (view_at problem s i).drawn * k ≤ problem.n * k =
+      mul-le (view_at problem s i).drawn k problem.n k (omega (arith, drawn_few, h.counter_sum.few)) (omega arith) in
+      omega (arith, (counted problem crew s h).steps i lt, most)
 
 pub step_counts : StepCounts
 step_counts problem crew setting events = counted problem crew (state_after problem crew events) (claimed_pivots problem crew setting events)
