@@ -102,7 +102,8 @@ module _ (problem : Problem) (crew : ℕ) (setting : IsSetting problem crew) (s 
   seen_residues phase.Ended is = unread_residues phase.Ended is (unread_at phase.Ended is)
 
   drawn_small : v.phase ≡ phase.Fresh → problem.n < 2 ^ 32 → word_at problem s (spot_of v.phase) < problem.n → v.drawn < 2 ^ 32 - 1
-  drawn_small is rows some = omega (arith, some, ap (λ (f : Phase). word_at problem s (spot_of f)) is, rows, drawn_few problem crew s h i lt, h.counter_sum.counts)
+  drawn_small is rows some =
+      omega (arith, some, ap (λ (f : Phase). word_at problem s (spot_of f)) is, rows, drawn_few problem crew s h i lt, h.counter_sum.counts)
 
   -- the steps of all rows are few
   steps_small : problem.n < 2 ^ 32 → problem.m < 2 ^ 32 → v.steps < 2 ^ 64 - 1
