@@ -18,6 +18,7 @@ use Rattle.pivot_core.specs.Laws.{IsSetting}
 use Rattle.pivot_core.specs.Meets.{IsClaiming, MayMeet}
 use Rattle.pivot_core.proofs.CallRoom.{room_for_call}
 use Rattle.pivot_core.proofs.Kept.{claimed_pivots}
+use Rattle.pivot_core.proofs.Moves.{seat_and_step}
 use Rattle.pivot_core.proofs.Table.{move_of, same_some}
 use Rattle.pivot_table.specs.declared.share.Hand.{Hand}
 use Rattle.pivot_table.specs.declared.share.Share.{Share}
@@ -29,7 +30,6 @@ use Rattle.pivot_table.specs.Shares.{hand, published_after, published_by, share}
 use Rattle.pivot_table.specs.WorkerFields.{IsWorker, own_hand, standing_of}
 use Rattle.pivot_table.specs.Workers.{IsOf, IsTaken, arena_of}
 use Rattle.pivot_table.proofs.HandSteps as steps
-use Rattle.pivot_table.proofs.HandSteps.{moves_seat}
 use Rattle.pivot_table.proofs.Turns.{IsLoad, one}
 use Rattle.pivot_table.proofs.WorkerTurns.{IsTurn, still}
 
@@ -177,8 +177,7 @@ module _ {race : race.Inside} {w : worker.Inside} (turn : IsTurn race w) where
       pub seat_kept : after.seat ≡ w.view.seat
       seat_kept =
           let u : Stepped = record { sight = sight_of after; word = made.word; reply = r } in
-          moves_seat race.setting.problem (sight_of w.view) old (sight_of after) (spot_of w.view.phase) made.word
-          (move_of race.setting.problem (sight_of w.view) old u made.gives)
+          (seat_and_step (move_of race.setting.problem (sight_of w.view) old u made.gives)).0
 
       -- what its fields keep holds again
       pub worker_after : IsWorker v
