@@ -1,5 +1,5 @@
 -- Calls and counts: every move keeps what is said of each view's own calls.
-use Rattle.std.proofs.Common.{◌≡◌, ◌≢◌, ℕ, ◌+◌, ◌<◌, ◌≤◌, All, AllPairs, [], ◌∷◌, ◌++◌, max, sym, ap, ◌∙◌, arith, subst}
+use Rattle.std.proofs.Common.{◌≡◌, ◌≢◌, ℕ, ◌+◌, ◌<◌, ◌≤◌, All, AllPairs, [], ◌∷◌, ◌++◌, max, refl, sym, ap, ◌∙◌, arith, subst}
 use Rattle.std.proofs.lemmas.List.Elements.{All-push, All-weaker}
 use Rattle.std.proofs.lemmas.List.Quantifiers.{all_pairs_push}
 use Rattle.ideal_laws.specs.declared.account.Answer.{Answer}
@@ -18,7 +18,7 @@ use Rattle.pivot_core.proofs.Changes.{IsChange}
 use Rattle.pivot_core.proofs.Effects.{KeepsHeld, held_after}
 use Rattle.pivot_core.proofs.HeldKept.{won_held}
 use Rattle.pivot_core.proofs.Moves.{IsLater, IsLostClaim, IsMove, IsWonClaim, draws, ends, looks_free, looks_held, puts, wins, loses, reads_more, reads_last}
-use Rattle.pivot_core.proofs.Rows.{won_holder, won_numbers, won_stamp}
+use Rattle.pivot_core.proofs.Rows.{won_holder, won_stamp}
 
 -- what a call tells stays true
 answers_stay : (problem : Problem) (s t : State) → KeepsHeld problem s t → (k : Call) (a : Answer) → IsAnswered problem s k a → IsAnswered problem t k a
@@ -74,60 +74,50 @@ module _ (problem : Problem) (crew : ℕ) (s t : State) (seat : ℕ) (w : Sight)
 
   module _ (ranges : Ranges problem crew s) (keeps : KeepsHeld problem s t) (published : PublishedPrefix problem crew s)
       (unclaimed : IsUnclaimed v.phase v.calls) where
-    unclaimed_at : (row column : ℕ) → v.phase ≡ phase.Claiming row column → All (λ l. l.column ≢ column) v.calls
-    unclaimed_at row column is = subst (λ (f : Phase). IsUnclaimed f v.calls) is unclaimed
+    numbers_at : (row column : ℕ) → v.phase ≡ phase.Claiming row column → IsPhase problem.m problem.n (phase.Claiming row column)
+    numbers_at row column was = subst (IsPhase problem.m problem.n) was (ranges.views seat c.below).numbers
+
+    -- the call of a claim
+    call_made : (k : Call) {d : ℕ} → k.seat ≡ v.seat → v.phase ≡ phase.Claiming k.row k.column → IsLater v w k.stamp d (v.calls ++ k ∷ [])
+        → v.clock < k.stamp → IsAnswered problem t k k.answer → IsCalling
+    call_made k own was later rises answered = called k (record {
+      calls = later.calls;
+      is = record {
+        own = own ∙ ranges.seats seat c.below;
+        column = (numbers_at k.row k.column was).1;
+        row = (numbers_at k.row k.column was).0;
+        stamp = omega (arith, later.clock);
+        answered = answered;
+      };
+      later = rises;
+      clock = later.clock;
+      column = subst (λ (f : Phase). IsUnclaimed f v.calls) was unclaimed;
+    })
 
     won_call : IsWonClaim problem v old w a x → IsCalling
     won_call m =
-        let numbers = won_numbers problem crew s t seat w a x c ranges m in
-        called (record { seat = v.seat; stamp = v.clock + 1; column = m.column; row = m.row; answer = answer.Won }) (record {
-          calls = m.later.calls;
-          is = record {
-            own = ranges.seats seat c.below;
-            column = numbers.1;
-            row = numbers.0;
-            stamp = omega (arith, m.later.clock);
-            answered = (
-              won_held problem crew s t seat w a x c ranges published m,
-              won_holder problem crew s t seat w a x c ranges m,
-              won_stamp problem crew s t seat w a x c ranges m,
-            );
-          };
-          later = omega arith;
-          clock = m.later.clock;
-          column = unclaimed_at m.row m.column m.was;
-        })
+        call_made (record { seat = v.seat; stamp = v.clock + 1; column = m.column; row = m.row; answer = answer.Won }) refl m.was m.later (omega arith) (
+          won_held problem crew s t seat w a x c ranges published m,
+          won_holder problem crew s t seat w a x c ranges m,
+          won_stamp problem crew s t seat w a x c ranges m,
+        )
 
     lost_call : IsLostClaim problem v old w a x → IsCalling
     lost_call m =
-        let numbers : IsPhase problem.m problem.n (phase.Claiming m.row m.column) =
-        subst (IsPhase problem.m problem.n) m.was (ranges.views seat c.below).numbers in
         let met : claim_at problem s m.column ≡ old = ap (word_at problem s) (sym m.spot) in
-        let held : IsHeld problem s m.column = record { below = numbers.1; some = λ e. m.held (sym met ∙ e) } in
-        called (record {
+        let held : IsHeld problem s m.column = record { below = (numbers_at m.row m.column m.was).1; some = λ e. m.held (sym met ∙ e) } in
+        call_made (record {
           seat = v.seat;
           stamp = max v.clock (stamp_in old) + 1;
           column = m.column;
           row = m.row;
           answer = answer.Lost (row_in old) (stamp_in old);
-        }) (record {
-          calls = m.later.calls;
-          is = record {
-            own = ranges.seats seat c.below;
-            column = numbers.1;
-            row = numbers.0;
-            stamp = omega (arith, m.later.clock);
-            answered = (
-              held_after problem s t m.column keeps held,
-              ap row_in (keeps.claims m.column held ∙ met),
-              ap stamp_in (keeps.claims m.column held ∙ met),
-              omega arith,
-            );
-          };
-          later = omega arith;
-          clock = m.later.clock;
-          column = unclaimed_at m.row m.column m.was;
-        })
+        }) refl m.was m.later (omega arith) (
+          held_after problem s t m.column keeps held,
+          ap row_in (keeps.claims m.column held ∙ met),
+          ap stamp_in (keeps.claims m.column held ∙ met),
+          omega arith,
+        )
 
     -- the same calls and clock
     as_before : {d : ℕ} → IsLater v w v.clock d v.calls → IsCalling

@@ -24,7 +24,7 @@ use Rattle.pivot_core.proofs.EventsMade.{makes, makes_state}
 use Rattle.pivot_core.proofs.RunLaws.{after_events-append}
 use Rattle.pivot_core.proofs.CoreTurns.{IsTurn, goes_on, own, own_room}
 
-module _ (core : Inside) (e : Event) (v : View) (turn : IsTurn core e v) where
+module _ {core : Inside} {e : Event} {v : View} (turn : IsTurn core e v) where
   abbrev problem : Problem
   problem = core.problem
 
@@ -41,7 +41,7 @@ module _ (core : Inside) (e : Event) (v : View) (turn : IsTurn core e v) where
   there = turn.there
 
   is_own : view_at problem s e.seat ≡ sight_of v
-  is_own = own core e v turn
+  is_own = own turn
 
   -- as many views go on as before, or one less where the view after the step has ended
   pub count_after : (w found : View) (k : ℕ) → found ≡ get_or (set views e.seat w) e.seat found → k ≡ is_ended found.phase
@@ -51,14 +51,14 @@ module _ (core : Inside) (e : Event) (v : View) (turn : IsTurn core e v) where
       let moved : sum_by one_ended (map sight_of (set views e.seat w)) ≡ sum_by one_ended (set (map sight_of views) e.seat (sight_of w)) =
       ap (sum_by one_ended) (map-set sight_of views e.seat w) in
       let sums = sum_by-set one_ended (map sight_of views) e.seat (sight_of w) (fresh problem.m e.seat) seats in
-      let before : one_ended (view_at problem s e.seat) ≡ 0 = ap one_ended is_own ∙ none_ended v.phase (goes_on core e v turn) in
+      let before : one_ended (view_at problem s e.seat) ≡ 0 = ap one_ended is_own ∙ none_ended v.phase (goes_on turn) in
       let most = at_most_all (map sight_of (set views e.seat w)) in
       let size : length (map sight_of (set views e.seat w)) ≡ length views = length-map (set views e.seat w) sight_of ∙ length-set views e.seat w in
       let now : k ≡ is_ended w.phase = counts ∙ ap (λ (z : View). is_ended z.phase) (there_is ∙ get_or-set_same views e.seat w found there) in
       let left : k ≤ core.going = omega (arith, now, turn.run.ended, moved, sums, before, most, size) in
       (left, omega (arith, now, turn.run.ended, moved, sums, before, left, length-set views e.seat w))
 
-  module _ (after : List ℕ) (w : View) (r : Reply) (made : IsMade problem words (sight_of v) after (sight_of w) r) where
+  module _ {after : List ℕ} (w : View) {r : Reply} (made : IsMade problem words (sight_of v) after (sight_of w) r) where
     abbrev t : Stepped
     t = record { sight = sight_of w; word = made.word; reply = r }
 
@@ -103,7 +103,7 @@ module _ (core : Inside) (e : Event) (v : View) (turn : IsTurn core e v) where
               (count_after w found k there_is counts).1;
           room = subst (All (λ (z : View). min problem.n problem.m ≤ vec_capacity z.calls)) (sym seen_is)
               (All-set (λ (z : View). min problem.n problem.m ≤ vec_capacity z.calls) views e.seat w
-              (omega (arith, own_room core e v turn, wide)) turn.run.room);
+              (omega (arith, own_room turn, wide)) turn.run.room);
           no_logs = turn.run.no_logs;
           room_for_logs = omega (arith, turn.run.room_for_logs, size);
         }

@@ -40,17 +40,17 @@ pub record IsTurn (core : Inside) (e : Event) (v : View) : Type 0 where
   pub next : is_next e.kind v.phase ≡ true
 
 -- as the code sees it, which has looked twice at the view
-pub turn_by : (core : Inside) (e : Event) (v first : View) → IsRun core → e.seat < length core.views.items →
+pub turn_by : {core : Inside} (e : Event) {v first : View} → IsRun core → e.seat < length core.views.items →
     v ≡ get_or core.views.items e.seat v → first ≡ get_or core.views.items e.seat first → true ≡ is_next e.kind first.phase →
     IsTurn core e v
-turn_by core e v first run there is was next = record {
+turn_by {core} e {v} {first} run there is was next = record {
   run = run;
   there = there;
   is = is;
   next = ap (λ (z : View). is_next e.kind z.phase) (is ∙ sym (get_or_read core.views.items e.seat first there was v)) ∙ sym next;
 }
 
-module _ (core : Inside) (e : Event) (v : View) (turn : IsTurn core e v) where
+module _ {core : Inside} {e : Event} {v : View} (turn : IsTurn core e v) where
   abbrev pub problem : Problem
   problem = core.problem
 

@@ -2,7 +2,6 @@
 use Rattle.std.proofs.Common.{◌≡◌, ◌≢◌, inl, inr, ℕ, ◌+◌, ◌-◌, ◌*◌, ◌<◌, ◌≤◌, ◌^◌, All, length, refl, sym, ap, ◌∙◌, arith, subst}
 use Rattle.std.specs.List.{sum_by}
 use Rattle.std.proofs.lemmas.List.Elements.{All-from_get_or, All-get_or, All-replicate}
-use Rattle.std.proofs.lemmas.List.Sums.{get_or-le-sum_by, sum_by-le}
 use Rattle.std.proofs.lemmas.Nat.{mul-le}
 use Rattle.std.proofs.lemmas.Bool.{cases_lt}
 use Rattle.back_reduce.specs.declared.problem.Problem.{Problem}
@@ -10,7 +9,7 @@ use Rattle.pivot_core.specs.declared.view.Phase.{Phase}
 use Rattle.pivot_core.specs.declared.view.Phase.TheVariants as phase
 use Rattle.pivot_core.specs.declared.sight.Sight.{Sight}
 use Rattle.pivot_core.specs.Words.{counter, row_word}
-use Rattle.pivot_core.specs.Views.{fresh, zeros}
+use Rattle.pivot_core.specs.Views.{zeros}
 use Rattle.pivot_core.specs.Steps.{spot_of}
 use Rattle.pivot_core.specs.Runs.{State, claim_at, view_at, word_at}
 use Rattle.pivot_core.specs.Phases.{HasRow, IsIdle, IsPhase, IsUnread, is_ended}
@@ -20,9 +19,10 @@ use Rattle.pivot_core.specs.Claimed.{ClaimedPivots}
 use Rattle.pivot_core.specs.Laws.{IsSetting}
 use Rattle.pivot_core.specs.Meets.{IsMetClaim, IsMetWord, MayMeet}
 use Rattle.std.proofs.Math.Nat.{mul-add, mul_assoc, mul_comm}
-use Rattle.pivot_core.proofs.Counts.{all_views, call_count-few}
+use Rattle.pivot_core.proofs.Counts.{call_count-few}
 use Rattle.pivot_core.proofs.HeldRows.{held_row-at, values-from}
-use Rattle.pivot_core.proofs.StepCounts.{counted}
+use Rattle.pivot_core.proofs.Ended.{at_most_all}
+use Rattle.pivot_core.proofs.StepCounts.{drawn_few, steps_few}
 
 module _ (problem : Problem) (crew : ℕ) (setting : IsSetting problem crew) (s : State) (h : ClaimedPivots problem crew s) (i : ℕ) (lt : i < crew) where
   abbrev v : Sight
@@ -43,18 +43,8 @@ module _ (problem : Problem) (crew : ℕ) (setting : IsSetting problem crew) (s 
   -- the counter is at most the rows and the crew
   counter_few : word_at problem s counter ≤ problem.n + 64
   counter_few =
-      let each : All (λ (z : Sight). is_ended z.phase ≤ 1) s.views =
-      all_views problem crew s h.ranges (λ (z : Sight). is_ended z.phase ≤ 1) (λ j lj. at_most_one (view_at problem s j).phase) in
-      let ended : sum_by (λ (z : Sight). is_ended z.phase) s.views ≤ length s.views * 1 = sum_by-le (λ (z : Sight). is_ended z.phase) 1 s.views each in
+      let ended : sum_by (λ (z : Sight). is_ended z.phase) s.views ≤ length s.views = at_most_all s.views in
       omega (arith, h.counter_sum.counts, h.counter_sum.few, ended, h.ranges.count, setting.few)
-    where
-      at_most_one : (f : Phase) → is_ended f ≤ 1
-      at_most_one phase.Fresh = omega arith
-      at_most_one (phase.Looking row column) = omega arith
-      at_most_one (phase.Putting row column at) = omega arith
-      at_most_one (phase.Claiming row column) = omega arith
-      at_most_one (phase.Reading row column holder at) = omega arith
-      at_most_one phase.Ended = omega arith
 
   -- the word that a read meets is a residue of the held row
   read_word : (row column holder at : ℕ) → v.phase ≡ phase.Reading row column holder at → word_at problem s (row_word holder at) < problem.modulus
@@ -74,16 +64,20 @@ module _ (problem : Problem) (crew : ℕ) (setting : IsSetting problem crew) (s 
   met_word (phase.Reading row column holder at) is = read_word row column holder at is
   met_word phase.Ended is = tt
 
+  idle_residues : v.current ≡ zeros problem.m → All (λ a. a < problem.modulus) v.current
+  idle_residues none = subst (All (λ a. a < problem.modulus)) (sym none) (zeros_residues problem.m)
+
+  row_residues : (row : ℕ) → HasRow v.phase row → All (λ a. a < problem.modulus) v.current
+  row_residues row has = (h.published_prefix.residues i row lt has).residues
+
   -- the current row has residues in every phase
   current_residues : (f : Phase) → v.phase ≡ f → All (λ a. a < problem.modulus) v.current
-  current_residues phase.Fresh is = subst (All (λ a. a < problem.modulus))
-      (sym (subst (λ (f : Phase). IsIdle problem.m f v.current) is (h.ranges.views i lt).idle)) (zeros_residues problem.m)
-  current_residues (phase.Looking row column) is = (h.published_prefix.residues i row lt (subst (λ (f : Phase). HasRow f row) (sym is) refl)).residues
-  current_residues (phase.Putting row column at) is = (h.published_prefix.residues i row lt (subst (λ (f : Phase). HasRow f row) (sym is) refl)).residues
-  current_residues (phase.Claiming row column) is = (h.published_prefix.residues i row lt (subst (λ (f : Phase). HasRow f row) (sym is) refl)).residues
-  current_residues (phase.Reading row column holder at) is = (h.published_prefix.residues i row lt (subst (λ (f : Phase). HasRow f row) (sym is) refl)).residues
-  current_residues phase.Ended is = subst (All (λ a. a < problem.modulus))
-      (sym (subst (λ (f : Phase). IsIdle problem.m f v.current) is (h.ranges.views i lt).idle)) (zeros_residues problem.m)
+  current_residues phase.Fresh is = idle_residues (subst (λ (f : Phase). IsIdle problem.m f v.current) is (h.ranges.views i lt).idle)
+  current_residues (phase.Looking row column) is = row_residues row (subst (λ (f : Phase). HasRow f row) (sym is) refl)
+  current_residues (phase.Putting row column at) is = row_residues row (subst (λ (f : Phase). HasRow f row) (sym is) refl)
+  current_residues (phase.Claiming row column) is = row_residues row (subst (λ (f : Phase). HasRow f row) (sym is) refl)
+  current_residues (phase.Reading row column holder at) is = row_residues row (subst (λ (f : Phase). HasRow f row) (sym is) refl)
+  current_residues phase.Ended is = idle_residues (subst (λ (f : Phase). IsIdle problem.m f v.current) is (h.ranges.views i lt).idle)
 
   unread_residues : (f : Phase) → v.phase ≡ f → v.seen ≡ zeros problem.m → All (λ a. a < problem.modulus) v.seen
   unread_residues f is none = subst (All (λ a. a < problem.modulus)) (sym none) (zeros_residues problem.m)
@@ -107,27 +101,21 @@ module _ (problem : Problem) (crew : ℕ) (setting : IsSetting problem crew) (s 
       ])
   seen_residues phase.Ended is = unread_residues phase.Ended is (unread_at phase.Ended is)
 
-  -- a view has drawn some of the rows
-  drawn_few : v.drawn ≤ sum_by (λ (z : Sight). z.drawn) s.views
-  drawn_few = get_or-le-sum_by (λ (z : Sight). z.drawn) s.views i (fresh problem.m i) (omega (arith, lt, h.ranges.count))
-
   drawn_small : v.phase ≡ phase.Fresh → problem.n < 2 ^ 32 → word_at problem s (spot_of v.phase) < problem.n → v.drawn < 2 ^ 32 - 1
-  drawn_small is rows some = omega (arith, some, ap (λ (f : Phase). word_at problem s (spot_of f)) is, rows, drawn_few, h.counter_sum.counts)
+  drawn_small is rows some =
+      omega (arith, some, ap (λ (f : Phase). word_at problem s (spot_of f)) is, rows, drawn_few problem crew s h i lt, h.counter_sum.counts)
 
   -- the steps of all rows are few
   steps_small : problem.n < 2 ^ 32 → problem.m < 2 ^ 32 → v.steps < 2 ^ 64 - 1
   steps_small rows columns =
       let n : ℕ = problem.n in
       let m : ℕ = problem.m in
-      let own : v.steps ≤ v.drawn * steps_of_row m + 1 = (counted problem crew s h).steps i lt in
-      let most : v.drawn * steps_of_row m ≤ n * steps_of_row m = mul-le v.drawn (steps_of_row m) n (steps_of_row m)
-      (omega (arith, drawn_few, h.counter_sum.few)) (omega arith) in
       let split : n * steps_of_row m ≡ n * (m * m + 3 * m) + n * 1 = mul-add n (m * m + 3 * m) 1 in
       let again : n * (m * m + 3 * m) ≡ n * (m * m) + n * (3 * m) = mul-add n (m * m) (3 * m) in
       let square : n * (m * m) ≡ n * m * m = sym (mul_assoc n m m) in
       let three : n * (3 * m) ≡ n * m * 3 = ap (λ (k : ℕ). n * k) (mul_comm 3 m) ∙ sym (mul_assoc n m 3) in
       let cells : n * m * m ≤ 67108864 * 4294967296 = mul-le (n * m) m 67108864 4294967296 problem.few (omega (arith, columns)) in
-      omega (arith, own, most, split, again, square, three, cells, problem.few, rows)
+      omega (arith, steps_few problem crew s h i lt, split, again, square, three, cells, problem.few, rows)
 
   -- the counter does not wrap
   pub counter_small : v.phase ≡ phase.Fresh → problem.n < 2 ^ 32 → word_at problem s (spot_of v.phase) < 2 ^ 64 - 1

@@ -66,7 +66,7 @@ pub(crate) fn stamp_told(word: u64) -> u32
 }
 
 /// The row in a claim word other than 0.
-pub(crate) fn row_told(word: u64) -> u32
+pub fn row_told(word: u64) -> u32
     ensures { result ≡ row_in word }
 {
     let low = (word % 4294967296) as u32;

@@ -22,11 +22,12 @@ use Rattle.pivot_table.specs.declared.worker.Worker.TheInside as worker
 use Rattle.pivot_table.specs.declared.race.Race.TheInside as race
 use Rattle.pivot_table.specs.Cells.{cell_of, half_at}
 use Rattle.pivot_table.specs.Law.{IsKept, met_by}
-use Rattle.pivot_table.specs.WorkerFields.{standing_of}
+use Rattle.pivot_table.specs.Shares.{published_after}
+use Rattle.pivot_table.specs.WorkerFields.{own_hand, standing_of}
 use Rattle.pivot_table.specs.Workers.{Arena, AreTaken, IsOf, IsReadUpto, IsTaken, Standing, arena_of, begun, gone_on}
 use Rattle.pivot_table.proofs.Turns.{IsLoad}
 use Rattle.pivot_table.proofs.WorkerTurns.{IsTurn, load_asks, read_within, still}
-use Rattle.pivot_table.proofs.WorkersTold.{IsTold, crew_kept, load_publishes, problem_kept, taken_after, told_read, worker_after}
+use Rattle.pivot_table.proofs.WorkersTold.{IsTold, crew_kept, load_publishes, problem_kept, taken_after, told_half, worker_after}
 
 -- no step or some
 abbrev pub MayBeTaken : Arena → Standing → Standing → Type 0
@@ -48,99 +49,83 @@ abbrev pub reading_at : worker.Inside → Phase → ℕ → worker.Inside
 reading_at w f steps = record w { view = record w.view { phase = f; steps = steps } }
 
 -- a worker that reads a word that is not the last
-module _ (race : race.Inside) (before : Standing) (w : worker.Inside) (h : IsReading race before w) (row column holder at : ℕ)
+module _ {race : race.Inside} {before : Standing} {w : worker.Inside} (h : IsReading race before w) (row column holder at : ℕ)
     (is : w.view.phase ≡ phase.Reading row column holder at) (more : at + 1 < race.setting.problem.m)
     (cell word : ℕ) (seat : Seat ℕ Share) (same : seat.table_id ≡ w.seat.table_id) (told : met_by still w.seat.me cell seat.me)
     (half : word ≡ half_at at cell) where
   abbrev after : View
   after = record w.view { phase = phase.Reading row column holder (at + 1); seen = with_item w.view.seen at word; steps = w.view.steps + 1 }
 
-  -- the worker after it
-  abbrev pub next : worker.Inside
-  next = record w { view = after; seat = seat }
-
   told_so : IsTold w word seat.me
-  told_so = subst (λ (n : ℕ). IsTold w n seat.me) (sym half) (told_read race w h.turn cell seat.me row column holder at is told)
+  told_so = told_half h.turn cell word seat.me row column holder at is half told
 
   made : IsMet race.setting.problem (sight_of w.view) word (sight_of after) (reply.Got word)
   made = meets_read race.setting.problem (sight_of w.view) word row column holder at is more
 
+  loads : w.published.items ≡ published_after w.seat.me.0.problem.m (own_hand w)
+  loads = load_publishes h.turn (subst IsLoad (sym is) tt)
+
   -- it has come here by one step more
-  pub reads_on : IsReading race before next
-  reads_on =
-      let loads = load_publishes race w h.turn (subst IsLoad (sym is) tt) in
-      record {
-        turn = record {
-          kept = h.turn.kept;
-          own = worker_after race w h.turn word seat.me told_so after (reply.Got word) made (omega arith) w.published loads seat refl;
-          table = same ∙ h.turn.table;
-          problem_is = problem_kept race w h.turn word seat.me told_so after (reply.Got word) made (omega arith) w.published loads seat refl
-              ∙ h.turn.problem_is;
-          crew_is = crew_kept race w h.turn word seat.me told_so after (reply.Got word) made (omega arith) w.published loads seat refl ∙ h.turn.crew_is;
-        };
-        taken = inr (taken_on (arena_of race.table.shared.table_id race.setting) before (standing_of w) (standing_of next) (reply.Got word) h.taken
-            (taken_after race w h.turn word seat.me told_so after (reply.Got word) made (omega arith) w.published loads seat refl));
-        seat = h.seat;
-      }
+  pub reads_on : IsReading race before (record w { view = after; seat = seat })
+  reads_on = record {
+    turn = record {
+      kept = h.turn.kept;
+      own = worker_after h.turn told_so after made (omega arith) w.published loads seat refl;
+      table = same ∙ h.turn.table;
+      problem_is = problem_kept h.turn told_so after made (omega arith) w.published loads seat refl ∙ h.turn.problem_is;
+      crew_is = crew_kept h.turn told_so after made (omega arith) w.published loads seat refl ∙ h.turn.crew_is;
+    };
+    taken = inr (taken_on (arena_of race.table.shared.table_id race.setting) before (standing_of w)
+        (standing_of (record w { view = after; seat = seat })) (reply.Got word) h.taken
+        (taken_after h.turn told_so after made (omega arith) w.published loads seat refl));
+    seat = h.seat;
+  }
 
 -- the worker has come here from before and reads at a place of a row, after a step for each word since it began
-abbrev pub ReadsAt : race.Inside → Standing → worker.Inside → ℕ → ℕ → ℕ → ℕ → ℕ → Type 0
-ReadsAt race before w row column holder at next =
-    IsReading race before (reading_at w (phase.Reading row column holder next) (w.view.steps + (next - at)))
+pub record ReadsAt (race : race.Inside) (before : Standing) (w : worker.Inside) (row column holder at next : ℕ) : Type 0 where
+  pub here : IsReading race before (reading_at w (phase.Reading row column holder next) (w.view.steps + (next - at)))
 
--- what its next load asks, and room for the word
-pub load_here : (race : race.Inside) (before : Standing) (w : worker.Inside) (row column holder at next : ℕ)
-    → ReadsAt race before w row column holder at next → (cell slots : ℕ) → cell ≡ cell_of race.setting.problem.m (row_word holder next)
-    → (w.seat.table_id ≡ race.table.shared.table_id) × (cell < race.table.shared.table_id.words)
-    × Allows (IsKept race.table.shared.key) slots w.seat.id w.seat.me cell (λ n. n) (met_by still w.seat.me)
-load_here race before w row column holder at next h cell slots is =
-    load_asks race (reading_at w (phase.Reading row column holder next) (w.view.steps + (next - at))) h.turn cell slots is tt
+module _ {race : race.Inside} {before : Standing} {w : worker.Inside} {row column holder at next : ℕ} (h : ReadsAt race before w row column holder at next)
+  where
+    -- what its next load asks, and room for the word
+    pub load_here : (cell : ℕ) → cell ≡ cell_of race.setting.problem.m (row_word holder next)
+        → (w.seat.table_id ≡ race.table.shared.table_id) × (cell < race.table.shared.table_id.words)
+        × Allows (IsKept race.table.shared.key) race.table.shared.table_id.slots w.seat.id w.seat.me cell (λ n. n) (met_by still w.seat.me)
+    load_here cell is = load_asks h.here.turn cell is tt
 
-pub seen_here : (race : race.Inside) (before : Standing) (w : worker.Inside) (row column holder at next : ℕ)
-    → ReadsAt race before w row column holder at next → next < w.view.seen.len
-seen_here race before w row column holder at next h =
-    let within = read_within race (reading_at w (phase.Reading row column holder next) (w.view.steps + (next - at))) h.turn row column holder next refl in
-    omega (arith, within, w.view.seen.ok.0)
+    pub seen_here : next < w.view.seen.len
+    seen_here =
+        let within = read_within h.here.turn row column holder next refl in
+        omega (arith, within, w.view.seen.ok.0)
 
--- so it is from word to word of a row
-pub reads_step : (race : race.Inside) (before : Standing) (w : worker.Inside) (row column holder at next : ℕ)
-    → ReadsAt race before w row column holder at next → at ≤ next
-    → next + 1 < race.setting.problem.m → (cell word : ℕ) (seat : Seat ℕ Share) → seat.table_id ≡ w.seat.table_id
-    → met_by still w.seat.me cell seat.me → word ≡ half_at next cell
-    → ReadsAt race before (record w { view = record w.view { seen = with_item w.view.seen next word }; seat = seat }) row column holder at (next + 1)
-reads_step race before w row column holder at next h from more cell word seat same told half =
-    let here = reading_at w (phase.Reading row column holder next) (w.view.steps + (next - at)) in
-    let count : w.view.steps + (next - at) + 1 ≡ w.view.steps + (next + 1 - at) = omega (arith, from) in
-    subst (λ (n : ℕ). IsReading race before (reading_at (record w { view = record w.view { seen = with_item w.view.seen next word }; seat = seat })
-    (phase.Reading row column holder (next + 1)) n)) count
-    (reads_on race before here h row column holder next refl more cell word seat same told half)
+    -- so it is from word to word of a row
+    pub reads_step : at ≤ next → next + 1 < race.setting.problem.m → (cell : ℕ) {word : ℕ} (seat : Seat ℕ Share) → seat.table_id ≡ w.seat.table_id
+        → met_by still w.seat.me cell seat.me → word ≡ half_at next cell
+        → ReadsAt race before (record w { view = record w.view { seen = with_item w.view.seen next word }; seat = seat }) row column holder at (next + 1)
+    reads_step from more cell {word} seat same told half =
+        let count : w.view.steps + (next - at) + 1 ≡ w.view.steps + (next + 1 - at) = omega (arith, from) in
+        record {
+          here = subst (λ (n : ℕ). IsReading race before (reading_at (record w { view = record w.view { seen = with_item w.view.seen next word }; seat = seat })
+              (phase.Reading row column holder (next + 1)) n)) count (reads_on h.here row column holder next refl more cell word seat same told half);
+        }
 
--- before the first read it has come here
-pub reads_begin : (race : race.Inside) (before : Standing) (w : worker.Inside) (row column holder at : ℕ) → IsTurn race w → standing_of w ≡ before
-    → w.view.phase ≡ phase.Reading row column holder at → IsReading race before (reading_at w (phase.Reading row column holder at) (w.view.steps + (at - at)))
-reads_begin race before w row column holder at turn same is =
-    let none : w.view.steps ≡ w.view.steps + (at - at) = omega arith in
-    let own : IsReading race before w = record { turn = turn; taken = inl same; seat = ap (λ (z : Standing). z.sight.seat) same } in
-    subst (IsReading race before) (λ i. reading_at w (is i) (none i)) own
-
--- and after the loop it reads the last word
-pub reads_end : (race : race.Inside) (before : Standing) (w : worker.Inside) (row column holder at here last steps : ℕ)
-    → IsReading race before (reading_at w (phase.Reading row column holder here) (w.view.steps + (here - at))) → here ≡ last → steps ≡ last - at
-    → IsReading race before (reading_at w (phase.Reading row column holder last) (w.view.steps + steps))
-reads_end race before w row column holder at here last steps h is count =
-    subst (λ (k : ℕ). IsReading race before (reading_at w (phase.Reading row column holder last) (w.view.steps + k))) (sym count)
-    (subst (λ (j : ℕ). IsReading race before (reading_at w (phase.Reading row column holder j) (w.view.steps + (j - at)))) is h)
+    -- and after the loop it reads the last word
+    pub reads_end : (last steps : ℕ) → next ≡ last → steps ≡ last - at
+        → IsReading race before (reading_at w (phase.Reading row column holder last) (w.view.steps + steps))
+    reads_end last steps is count =
+        subst (λ (k : ℕ). IsReading race before (reading_at w (phase.Reading row column holder last) (w.view.steps + k))) (sym count)
+        (subst (λ (j : ℕ). IsReading race before (reading_at w (phase.Reading row column holder j) (w.view.steps + (j - at)))) is h.here)
 
 -- a worker of a race belongs to it
-pub belongs : (race : race.Inside) (w : worker.Inside) (a : Arena) → arena_of race.table.shared.table_id race.setting ≡ a → IsTurn race w
+pub belongs : {race : race.Inside} {w : worker.Inside} (a : Arena) → arena_of race.table.shared.table_id race.setting ≡ a → IsTurn race w
     → IsOf a (standing_of w)
-belongs race w a is turn = subst (λ (z : Arena). IsOf z (standing_of w)) is
+belongs {w} a is turn = subst (λ (z : Arena). IsOf z (standing_of w)) is
     (record { table = turn.table; problem = turn.problem_is; crew = turn.crew_is })
 
 -- it has come here by steps in the race
-pub reads_taken : (race : race.Inside) (before : Standing) (w : worker.Inside) (a : Arena) → arena_of race.table.shared.table_id race.setting ≡ a
+pub reads_taken : {race : race.Inside} {before : Standing} {w : worker.Inside} (a : Arena) → arena_of race.table.shared.table_id race.setting ≡ a
     → IsReading race before w → MayBeTaken a before (standing_of w)
-reads_taken race before w a is h = subst (λ (z : Arena). MayBeTaken z before (standing_of w)) is h.taken
+reads_taken {before} {w} a is h = subst (λ (z : Arena). MayBeTaken z before (standing_of w)) is h.taken
 
 -- the cell of a word, from that of the first word of its row
 pub cell_on : (m r j first : ℕ) → first ≡ cell_of m (row_word r 0) → first + j / 2 ≡ cell_of m (row_word r j)

@@ -1,5 +1,5 @@
 -- A worker at its next step, and what the step asks of the table.
-use Rattle.std.proofs.Common.{◌≡◌, ◌≢◌, ◌==◌, ◌%◌, set, ℕ, ◌+◌, ◌-◌, ◌<◌, ◌^◌, inl, length, refl, sym, ap, ◌∙◌, arith, subst}
+use Rattle.std.proofs.Common.{◌≡◌, ◌≢◌, ◌==◌, ◌%◌, set, ℕ, ◌+◌, ◌-◌, ◌<◌, ◌^◌, inl, length, true, refl, sym, ap, ◌∙◌, arith, subst}
 use prog.Atomic.{either}
 use mathlib.Core.Option.{none}
 use Rattle.std.specs.Prelude.{slice_index}
@@ -8,7 +8,8 @@ use Rattle.back_reduce.specs.declared.problem.Problem.{Problem}
 use Rattle.pivot_core.specs.declared.view.Phase.{Phase}
 use Rattle.pivot_core.specs.declared.view.Phase.TheVariants as phase
 use Rattle.pivot_core.specs.Views.{sight_of}
-use Rattle.pivot_core.specs.Steps.{spot_of}
+use Rattle.pivot_core.specs.declared.event.Kind.{Kind}
+use Rattle.pivot_core.specs.Steps.{is_next, spot_of}
 use Rattle.pivot_core.specs.Runs.{State, state_after, word_at}
 use Rattle.pivot_core.specs.Phases.{IsPhase, IsSight}
 use Rattle.pivot_core.specs.Claimed.{ClaimedPivots}
@@ -38,9 +39,9 @@ pub record IsTurn (race : race.Inside) (w : worker.Inside) : Type 0 where
   pub crew_is : w.seat.me.0.crew ≡ race.setting.crew
 
 -- a worker that belongs to the race is one
-pub turn_by : (race : race.Inside) (w : worker.Inside) (a : Arena) (b : Standing) → IsRace race → IsWorker w
+pub turn_by : {race : race.Inside} {w : worker.Inside} {a : Arena} {b : Standing} → IsRace race → IsWorker w
     → arena_of race.table.shared.table_id race.setting ≡ a → standing_of w ≡ b → IsOf a b → IsTurn race w
-turn_by race w a b kept own a_is b_is of = record {
+turn_by kept own a_is b_is of = record {
   kept = kept;
   own = own;
   table = ap (λ (z : Standing). z.table) b_is ∙ of.table ∙ sym (ap (λ (z : Arena). z.table) a_is);
@@ -52,7 +53,7 @@ turn_by race w a b kept own a_is b_is of = record {
 abbrev pub still : Step ℕ
 still = step 0 0 0 0 none
 
-module _ (race : race.Inside) (w : worker.Inside) (turn : IsTurn race w) where
+module _ {race : race.Inside} {w : worker.Inside} (turn : IsTurn race w) where
   abbrev p : Problem
   p = w.seat.me.0.problem
 
@@ -74,6 +75,10 @@ module _ (race : race.Inside) (w : worker.Inside) (turn : IsTurn race w) where
   own_sight : IsSight p.m p.n (sight_of w.view)
   own_sight = subst (IsSight p.m p.n) (sym own.stands.sight) (rule.ranges.views x.sight.seat own.stands.seat)
 
+  -- what comes next for the worker that a contract sees
+  pub next_by : (k : Kind) {b : Standing} → standing_of w ≡ b → is_next k b.sight.phase ≡ true → is_next k w.view.phase ≡ true
+  next_by k is next = ap (λ (z : Standing). is_next k z.sight.phase) is ∙ next
+
   -- the numbers of the phase are in range
   pub phase_within : IsPhase race.setting.problem.m race.setting.problem.n w.view.phase
   phase_within = subst (λ (q : Problem). IsPhase q.m q.n w.view.phase) turn.problem_is own_sight.numbers
@@ -91,27 +96,25 @@ module _ (race : race.Inside) (w : worker.Inside) (turn : IsTurn race w) where
       let numbers : IsPhase p.m p.n (phase.Reading row column holder at) = subst (IsPhase p.m p.n) is own_sight.numbers in
       omega (arith, numbers.3, own_sight.seen)
 
-  -- before a claim, the word may be 0
-  pub may_claim : (row column : ℕ) → w.view.phase ≡ phase.Claiming row column → MayMeet race.setting.problem (sight_of w.view) 0
-  may_claim row column is =
-      let h : MayMeet p (sight_of w.view) (word_at p s (spot_of w.view.phase)) = may_next (λ e. claims_end (sym is ∙ e)) in
+  -- where the word 0 may stand, the view may meet it before a put or a claim
+  may_zero : (f : Phase) → f ≢ phase.Ended → f ≢ phase.Fresh → IsMetWord p f 0 → w.view.phase ≡ f → MayMeet race.setting.problem (sight_of w.view) 0
+  may_zero f runs drawn word is =
+      let h : MayMeet p (sight_of w.view) (word_at p s (spot_of w.view.phase)) = may_next (λ e. runs (sym is ∙ e)) in
       subst (λ (q : Problem). MayMeet q (sight_of w.view) 0) turn.problem_is
       (record {
         next = h.next;
         sight = h.sight;
         current = h.current;
         seen = h.seen;
-        word = subst (λ (f : Phase). IsMetWord p f 0) (sym is) (record { claim = inl refl; stamp = omega arith });
+        word = subst (λ (f : Phase). IsMetWord p f 0) (sym is) word;
         steps = h.steps;
         clock = h.clock;
-        drawn = λ fresh. absurd (claims_fresh (sym is ∙ fresh));
+        drawn = λ fresh. absurd (drawn (sym is ∙ fresh));
       })
-    where
-      claims_end : phase.Claiming row column ≡ phase.Ended → ⊥
-      claims_end e = cc e
 
-      claims_fresh : phase.Claiming row column ≡ phase.Fresh → ⊥
-      claims_fresh e = cc e
+  -- before a claim, the word may be 0
+  pub may_claim : (row column : ℕ) → w.view.phase ≡ phase.Claiming row column → MayMeet race.setting.problem (sight_of w.view) 0
+  may_claim row column = may_zero (phase.Claiming row column) (λ e. cc e) (λ e. cc e) (record { claim = inl refl; stamp = omega arith })
 
   -- the cell of the next step is on the table
   pub cell_there : (i : ℕ) → i ≡ cell_of race.setting.problem.m (spot_of w.view.phase) → i < race.table.shared.table_id.words
@@ -120,15 +123,18 @@ module _ (race : race.Inside) (w : worker.Inside) (turn : IsTurn race w) where
       (meets_spot race.setting.problem.m race.setting.problem.n w.view.phase phase_within) in
       omega (arith, is, within, turn.kept.cells)
 
+  abbrev slots : ℕ
+  slots = race.table.shared.table_id.slots
+
   key_problem : race.setting.problem ≡ race.table.shared.key.problem
   key_problem = sym (ap (λ (k : Setting). k.problem) turn.kept.key)
 
   -- what the steps on the table ask
-  pub claim_asks : (i new slots row column : ℕ) → i ≡ cell_of race.setting.problem.m (spot_of w.view.phase) → w.view.phase ≡ phase.Claiming row column
+  pub claim_asks : (i new row column : ℕ) → i ≡ cell_of race.setting.problem.m (spot_of w.view.phase) → w.view.phase ≡ phase.Claiming row column
       → LeavesWord race.setting.problem (sight_of w.view) 0 new
       → (w.seat.table_id ≡ race.table.shared.table_id) × (i < race.table.shared.table_id.words)
       × Allows (IsKept race.table.shared.key) slots w.seat.id w.seat.me i (λ n. either (n == 0) new n) (met_by still w.seat.me)
-  claim_asks i new slots row column is claiming leaves = (
+  claim_asks i new row column is claiming leaves = (
     turn.table,
     cell_there i is,
     allows_claim race.table.shared.key slots w.seat.id w.seat.me p c x own.seat i still new row column
@@ -137,10 +143,10 @@ module _ (race : race.Inside) (w : worker.Inside) (turn : IsTurn race w) where
   )
 
   -- what the load of a look and of a read ask
-  pub load_asks : (i slots : ℕ) → i ≡ cell_of race.setting.problem.m (spot_of w.view.phase) → IsLoad w.view.phase
+  pub load_asks : (i : ℕ) → i ≡ cell_of race.setting.problem.m (spot_of w.view.phase) → IsLoad w.view.phase
       → (w.seat.table_id ≡ race.table.shared.table_id) × (i < race.table.shared.table_id.words)
       × Allows (IsKept race.table.shared.key) slots w.seat.id w.seat.me i (λ n. n) (met_by still w.seat.me)
-  load_asks i slots is load = (
+  load_asks i is load = (
     turn.table,
     cell_there i is,
     allows_load race.table.shared.key slots w.seat.id w.seat.me p c x own.seat i still
@@ -148,21 +154,21 @@ module _ (race : race.Inside) (w : worker.Inside) (turn : IsTurn race w) where
   )
 
   -- what the sum of a draw asks
-  pub draw_asks : (i slots : ℕ) → i ≡ 0 → w.view.phase ≡ phase.Fresh
+  pub draw_asks : (i : ℕ) → i ≡ 0 → w.view.phase ≡ phase.Fresh
       → (w.seat.table_id ≡ race.table.shared.table_id) × (i < race.table.shared.table_id.words)
       × Allows (IsKept race.table.shared.key) slots w.seat.id w.seat.me i (λ n. (n + 1) % 2 ^ 64) (met_by still w.seat.me)
-  draw_asks i slots is fresh = (
+  draw_asks i is fresh = (
     turn.table,
     cell_there i (is ∙ ap (λ (f : Phase). cell_of race.setting.problem.m (spot_of f)) (sym fresh)),
     allows_draw race.table.shared.key slots w.seat.id w.seat.me p c x own.seat i still is fresh,
   )
 
   -- what the store of a put asks
-  pub put_asks : (i new slots row column to : ℕ) → i ≡ cell_of race.setting.problem.m (spot_of w.view.phase) → w.view.phase ≡ phase.Putting row column to
+  pub put_asks : (i new row column to : ℕ) → i ≡ cell_of race.setting.problem.m (spot_of w.view.phase) → w.view.phase ≡ phase.Putting row column to
       → new ≡ pair_at (set w.published.items to (slice_index w.view.current.items to)) to
       → (w.seat.table_id ≡ race.table.shared.table_id) × (i < race.table.shared.table_id.words)
       × Allows (IsKept race.table.shared.key) slots w.seat.id w.seat.me i (λ n. new) (λ n. put_by still w.seat.me new)
-  put_asks i new slots row column to is putting pair = (
+  put_asks i new row column to is putting pair = (
     turn.table,
     cell_there i is,
     allows_put race.table.shared.key slots w.seat.id w.seat.me p c x own.seat i still new row column to
@@ -178,22 +184,4 @@ module _ (race : race.Inside) (w : worker.Inside) (turn : IsTurn race w) where
 
   -- whatever word a put has met, it is as if it had met 0
   pub may_put : (row column at : ℕ) → w.view.phase ≡ phase.Putting row column at → MayMeet race.setting.problem (sight_of w.view) 0
-  may_put row column at is =
-      let h : MayMeet p (sight_of w.view) (word_at p s (spot_of w.view.phase)) = may_next (λ e. puts_end (sym is ∙ e)) in
-      subst (λ (q : Problem). MayMeet q (sight_of w.view) 0) turn.problem_is
-      (record {
-        next = h.next;
-        sight = h.sight;
-        current = h.current;
-        seen = h.seen;
-        word = subst (λ (f : Phase). IsMetWord p f 0) (sym is) tt;
-        steps = h.steps;
-        clock = h.clock;
-        drawn = λ fresh. absurd (puts_fresh (sym is ∙ fresh));
-      })
-    where
-      puts_end : phase.Putting row column at ≡ phase.Ended → ⊥
-      puts_end e = cc e
-
-      puts_fresh : phase.Putting row column at ≡ phase.Fresh → ⊥
-      puts_fresh e = cc e
+  may_put row column at = may_zero (phase.Putting row column at) (λ e. cc e) (λ e. cc e) tt

@@ -18,6 +18,7 @@ use Rattle.pivot_core.specs.Laws.{IsSetting}
 use Rattle.pivot_core.specs.Meets.{IsClaiming, MayMeet}
 use Rattle.pivot_core.proofs.CallRoom.{room_for_call}
 use Rattle.pivot_core.proofs.Kept.{claimed_pivots}
+use Rattle.pivot_core.proofs.Moves.{seat_and_step}
 use Rattle.pivot_core.proofs.Table.{move_of, same_some}
 use Rattle.pivot_table.specs.declared.share.Hand.{Hand}
 use Rattle.pivot_table.specs.declared.share.Share.{Share}
@@ -29,7 +30,6 @@ use Rattle.pivot_table.specs.Shares.{hand, published_after, published_by, share}
 use Rattle.pivot_table.specs.WorkerFields.{IsWorker, own_hand, standing_of}
 use Rattle.pivot_table.specs.Workers.{IsOf, IsTaken, arena_of}
 use Rattle.pivot_table.proofs.HandSteps as steps
-use Rattle.pivot_table.proofs.HandSteps.{moves_seat}
 use Rattle.pivot_table.proofs.Turns.{IsLoad, one}
 use Rattle.pivot_table.proofs.WorkerTurns.{IsTurn, still}
 
@@ -39,7 +39,7 @@ pub record IsTold (w : worker.Inside) (old : ℕ) (me : Me ℕ Share) : Type 0 w
   pub stepped : IsStepped w.seat.me.0.problem w.seat.me.0.crew (own_hand w) old after
   pub is : me ≡ (one w.seat.me.0.problem w.seat.me.0.crew after, [])
 
-module _ (race : race.Inside) (w : worker.Inside) (turn : IsTurn race w) where
+module _ {race : race.Inside} {w : worker.Inside} (turn : IsTurn race w) where
   abbrev p : Problem
   p = w.seat.me.0.problem
 
@@ -113,6 +113,12 @@ module _ (race : race.Inside) (w : worker.Inside) (turn : IsTurn race w) where
       → IsTold w (half_at at cell) me
   told_read cell me row column holder at is h = subst (λ (n : ℕ). IsTold w n me) (ap (λ (f : Phase). part_of (spot_of f) cell) is) (told cell me h)
 
+  -- which is its word
+  pub told_half : (cell word : ℕ) (me : Me ℕ Share) (row column holder at : ℕ) → w.view.phase ≡ phase.Reading row column holder at → word ≡ half_at at cell
+      → met_by still w.seat.me cell me → IsTold w word me
+  told_half cell word me row column holder at is half h =
+      subst (λ (n : ℕ). IsTold w n me) (sym half) (told_read cell me row column holder at is h)
+
   -- the step of a put does not look at the old word
   pub made_put : (row column at old : ℕ) (after : Sight) (r : Reply) → w.view.phase ≡ phase.Putting row column at
       → IsMet race.setting.problem (sight_of w.view) 0 after r → IsMet race.setting.problem (sight_of w.view) old after r
@@ -122,7 +128,7 @@ module _ (race : race.Inside) (w : worker.Inside) (turn : IsTurn race w) where
         ap (λ (f : Phase). by_phase race.setting.problem v f old) is ∙ sym (ap (λ (f : Phase). by_phase race.setting.problem v f 0) is) ∙ m.gives);
   }
 
-  module _ (old : ℕ) (me : Me ℕ Share) (t : IsTold w old me) where
+  module _ {old : ℕ} {me : Me ℕ Share} (t : IsTold w old me) where
     -- the view may meet the word that it is told
     pub may_met : w.view.phase ≢ phase.Ended → MayMeet race.setting.problem (sight_of w.view) old
     may_met next = subst (λ (q : Problem). MayMeet q (sight_of w.view) old) turn.problem_is
@@ -137,7 +143,7 @@ module _ (race : race.Inside) (w : worker.Inside) (turn : IsTurn race w) where
         omega (arith, few, own.room)
 
     -- the worker after the step
-    module _ (after : View) (r : Reply) (made : IsMet race.setting.problem (sight_of w.view) old (sight_of after) r)
+    module _ (after : View) {r : Reply} (made : IsMet race.setting.problem (sight_of w.view) old (sight_of after) r)
         (wide : vec_capacity w.view.calls ≤ vec_capacity after.calls)
         (published : Vec ℕ Global) (row : published.items ≡ published_after p.m x) (seat : Seat ℕ Share) (is : seat.me ≡ me) where
       abbrev later : List Event
@@ -171,8 +177,7 @@ module _ (race : race.Inside) (w : worker.Inside) (turn : IsTurn race w) where
       pub seat_kept : after.seat ≡ w.view.seat
       seat_kept =
           let u : Stepped = record { sight = sight_of after; word = made.word; reply = r } in
-          moves_seat race.setting.problem (sight_of w.view) old (sight_of after) (spot_of w.view.phase) made.word
-          (move_of race.setting.problem (sight_of w.view) old u made.gives)
+          (seat_and_step (move_of race.setting.problem (sight_of w.view) old u made.gives)).0
 
       -- what its fields keep holds again
       pub worker_after : IsWorker v

@@ -5,7 +5,6 @@ ghost use Rattle.std.specs.Mem.Slots.{slots_items, slots_len, IsFull};
 ghost use Rattle.back_reduce.specs.declared.problem.Problem.{Problem};
 ghost use Rattle.back_reduce.specs.Pivots.{ArePivots};
 ghost use Rattle.pivot_core.specs.declared.view.Phase.TheVariants as phase;
-ghost use Rattle.pivot_core.specs.Words.{row_in};
 ghost use Rattle.pivot_table.specs.Finished.{IsEndOf, found_holders, found_values, hand_of};
 ghost use Rattle.pivot_table.specs.Shares.{share_of};
 ghost use Rattle.pivot_table.specs.Workers.{IsOf, arena_of};
@@ -18,6 +17,7 @@ use crate::worker::Worker;
 use atomic_table::{Closed, Seat, Table};
 use back_reduce::{PivotRows, Problem};
 use ideal_laws::Call;
+use pivot_core::row_told;
 use std::alloc::Global;
 use std::marker::Model;
 
@@ -83,17 +83,6 @@ impl PivotRows for Finish {
         }
         half_told(at, self.cells[row_cell(&self.problem, row_told(word), at)])
     }
-}
-
-/// The row in a claim word other than 0.
-fn row_told(word: u64) -> u32
-    ensures { result ≡ row_in word }
-{
-    let low = (word % 4294967296) as u32;
-    if low == 0 {
-        return 0;
-    }
-    low - 1
 }
 
 impl Race {
