@@ -1,5 +1,5 @@
 -- What is said of an answer at the limit that its engine passed.
-use Rattle.std.proofs.Common.{◌≡◌, ℕ, [], Result, Ok, Err, IfOk, refl, sym, subst}
+use Rattle.std.proofs.Common.{◌≡◌, ℕ, [], Result, IfOk, refl, sym, subst}
 use Rattle.std.proofs.lemmas.Result.{IfOk-from_err}
 use Rattle.ideal_laws.specs.declared.engine.EngineFault.{EngineFault}
 use Rattle.ideal_laws.specs.declared.engine.EngineFault.TheVariants as engine
@@ -10,6 +10,5 @@ use Rattle.job_steps.specs.declared.status.Status.TheVariants.{Limit}
 
 pub stopped_is : {E : Type 0} (P : Answer → Type 0) (fault : EngineFault) (result : Result Answer E) → IsStopped fault result →
     ((kind : LimitKind) (d value : ℕ) → fault ≡ engine.Limit kind d value → P (record { status = Limit kind d value; text = [] })) → IfOk result P
-stopped_is P (engine.Limit kind d value) (Ok answer) is at = subst P (sym is) (at kind d value refl)
-stopped_is P (engine.Limit kind d value) (Err e) is at = tt
+stopped_is {E} P (engine.Limit kind d value) result is at = subst (λ (r : Result Answer E). IfOk r P) (sym is) (at kind d value refl)
 stopped_is P engine.NoMemory result is at = IfOk-from_err result P is
