@@ -1,8 +1,7 @@
 -- Reducers that are put in another order, one behind another.
 use Rattle.std.proofs.Common.{◌≡◌, ◌+◌, ◌<◌, ℕ, List, [], ◌∷◌, ◌++◌, length, map, take, get_or, sym, ap, ◌∙◌, Option, Some, None, subst}
-use Rattle.std.proofs.Common.{◌-◌, drop, slice_index}
 use Rattle.std.specs.List.{AllZip, slice_range}
-use Rattle.std.proofs.lemmas.List.{drop-map, map-append, take-map, take_more}
+use Rattle.std.proofs.lemmas.List.{map-append, take_more}
 use Rattle.symbolic_prep.specs.declared.lists.Span.{Span}
 use Rattle.symbolic_prep.specs.Numbers.{IsLonger}
 use Rattle.symbolic_prep.specs.Orders.{IsMoved, IsMovedTo, columns_at}
@@ -40,20 +39,10 @@ module _ (columns numbers m q : List ℕ) (l : IsLonger m q) where
       (subst (AllZip (IsMoved columns numbers q) (so_far ++ at k ∷ [])) (sym pushed)
       (AllZip-push (IsMoved columns numbers q) so_far ts (at k) t (all_moved-more so_far ts z) h))
 
-range_at : (columns numbers : List ℕ) (a b : ℕ) → slice_range (columns_at columns numbers) a b ≡ columns_at columns (slice_range numbers a b)
-range_at columns numbers a b =
-    let at : ℕ → ℕ = λ n. slice_index columns n in
-    ap (take (b - a)) (drop-map at a numbers) ∙ take-map at (b - a) (drop a numbers)
-
--- a part of the columns of all numbers that is put behind others
-pub moved_part : (columns numbers placed old new : List ℕ) (s t : Span) → placed ≡ columns_at columns numbers →
-    new ≡ old ++ slice_range placed s.start s.end → length old ≡ t.start → length new ≡ t.end → t.element ≡ s.element →
-    IsMovedTo columns numbers new s t
-moved_part columns numbers placed old new s t is made starts ends element =
-    let part : slice_range placed s.start s.end ≡ columns_at columns (slice_range numbers s.start s.end) =
-    ap (λ (xs : List ℕ). slice_range xs s.start s.end) is ∙ range_at columns numbers s.start s.end in
-    record {
-      place = part_last old new (columns_at columns (slice_range numbers s.start s.end)) t.start t.end
-          (made ∙ ap (λ (xs : List ℕ). old ++ xs) part) starts ends;
-      element = element;
-    }
+-- the columns of the numbers of a span, put behind others
+pub moved_part : (columns numbers old new : List ℕ) (s t : Span) → new ≡ old ++ columns_at columns (slice_range numbers s.start s.end) →
+    length old ≡ t.start → length new ≡ t.end → t.element ≡ s.element → IsMovedTo columns numbers new s t
+moved_part columns numbers old new s t made starts ends element = record {
+  place = part_last old new (columns_at columns (slice_range numbers s.start s.end)) t.start t.end made starts ends;
+  element = element;
+}

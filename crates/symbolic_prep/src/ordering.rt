@@ -76,32 +76,32 @@ pub(crate) fn ordered(
     ensures { IfOk result (λ parts. AllZip (IsMoved columns.now numbers.now parts.1.items)
         (map (λ n. slice_index_or spans.now n None) order.now) parts.0.items) }
 {
-    let mut placed = Vec::with_capacity(alloc, numbers.len())?;
-    push_columns(numbers, columns, &mut placed)?;
     let mut ordered = Vec::with_capacity(alloc, order.len())?;
     let mut moved = Vec::with_capacity(alloc, numbers.len())?;
     for number in order {
-        let span = push_moved(spans[*number as usize], placed.as_slice(), &mut moved)?;
+        let span = push_moved(spans[*number as usize], numbers, columns, &mut moved)?;
         ordered.push(span)?;
     }
     Ok((ordered, moved))
 }
 
-/// Adds what stands at a span, if there is one.
+/// Adds the columns of the numbers at a span, if there is one.
 fn push_moved(
     span: Option<Span>,
-    placed: &[u32],
+    numbers: &[u32],
+    columns: &[u32],
     moved: &mut Vec<u32>,
 ) -> Result<Option<Span>, NoMemory>
-    requires { IsSpanIn placed.now span }
+    requires span { IsSpanIn numbers.now span }
+    requires columns { All (λ n. n < length columns.now) numbers.now }
     ensures longer { OnOk result (IsLonger moved.old.items moved.new.items) }
-    ensures moved { (columns numbers : List ℕ) → placed.now ≡ columns_at columns numbers →
-        IfOk result (IsMoved columns numbers moved.new.items span) }
+    ensures moved { IfOk result (IsMoved columns.now numbers.now moved.new.items span) }
 {
     match span {
         Some(span) => {
             let start = place_behind(moved.len())?;
-            moved.extend_from_slice(&placed[span.start as usize..span.end as usize])?;
+            let own = &numbers[span.start as usize..span.end as usize];
+            push_columns(own, columns, moved)?;
             let end = place_behind(moved.len())?;
             Ok(Some(Span { start, end, ..span }))
         }
