@@ -6,7 +6,6 @@ pub mod Walks
 pub mod Sets
 pub mod Contested
 pub mod Ending
-pub mod Single
 pub mod Digits
 pub mod Parts
 pub mod Numbers

@@ -16,7 +16,7 @@ use ideal_laws::Basis;
 use lead_index::LeadIndex;
 use words::NoMemory;
 
-/// So many reducers are put together before their words are looked up, so that the look-ups wait for memory together.
+/// So many reducers are put together before their words are looked up.
 const AT_ONCE: usize = 32;
 
 /// Puts together the reducers of the words of a table from a number on, as many as go at once: the words of each but

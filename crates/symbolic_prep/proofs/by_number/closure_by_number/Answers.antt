@@ -1,9 +1,9 @@
 use Rattle.std.proofs.Common.{Err, ap, sym, ◌∙◌}
 use Rattle.std.proofs.lemmas.Result.{err_from_is_err_and}
 use Rattle.ideal_laws.specs.Quantities.{words_of}
+use Rattle.words.proofs.Faults.{one_fault}
 use Rattle.symbolic_prep.proofs.ListedClosures.{listed-same, one_degree}
 use Rattle.symbolic_prep.proofs.RowWords.{given_word, given_words, more_than, rows_digits, rows_more_than, rows_room}
-use Rattle.symbolic_prep.proofs.Sets.{one_fault}
 use Rattle.symbolic_prep.proofs.by_number.closure_by_number.Goals as goal
 
 pub table_of-requires-clause-over : goal.table_of-requires-clause-over

@@ -4,10 +4,11 @@ use Rattle.std.proofs.lemmas.List.{take_all}
 use Rattle.std.proofs.lemmas.Result.{err_from_is_err_and}
 use Rattle.free_poly.specs.declared.term.Term.{Term}
 use Rattle.ideal_laws.specs.Quantities.{words_of}
+use Rattle.words.proofs.Faults.{one_fault}
 use Rattle.symbolic_prep.specs.Numbers.{IsGrown}
 use Rattle.symbolic_prep.specs.Walk.{HasMore}
 use Rattle.symbolic_prep.proofs.RowWords.{grown_says, row_words}
-use Rattle.symbolic_prep.proofs.Sets.{one_fault, rows_many, rows_more}
+use Rattle.symbolic_prep.proofs.Sets.{rows_many, rows_more}
 use Rattle.symbolic_prep.proofs.by_number.table_of.Goals as goal
 
 pub returns-in_err-add_words-clause-many : goal.returns-in_err-add_words-clause-many

@@ -4,12 +4,12 @@ use Rattle.std.specs.List.{AllZip}
 use Rattle.std.proofs.lemmas.Result.{err_from_is_err_and}
 use Rattle.ideal_laws.specs.Closure.{HasReducer}
 use Rattle.ideal_laws.specs.Quantities.{words_of}
+use Rattle.words.proofs.Faults.{one_fault}
 use Rattle.symbolic_prep.specs.Columns.{IsOnColumns}
 use Rattle.symbolic_prep.specs.Numbers.{IsSpanOf}
 use Rattle.symbolic_prep.proofs.ByWord.{closure_on_columns}
 use Rattle.symbolic_prep.proofs.Ending.{AllZip-length}
 use Rattle.symbolic_prep.proofs.ListedClosures.{listed-same, walked_listed}
-use Rattle.symbolic_prep.proofs.Sets.{one_fault}
 use Rattle.symbolic_prep.proofs.RowWords.{given_words, more_than, rows_more_than}
 use Rattle.symbolic_prep.proofs.by_word.closure_by_word.Goals as goal
 

@@ -6,10 +6,11 @@ use Rattle.std.proofs.lemmas.Result.{err_from_is_err_and}
 use Rattle.free_poly.specs.declared.term.Term.{Term}
 use Rattle.ideal_laws.specs.Basis.{below_lead}
 use Rattle.ideal_laws.specs.Closure.{IsInClosure}
+use Rattle.words.proofs.Faults.{one_fault}
 use Rattle.symbolic_prep.specs.Numbers.{AreListed, IsGrown}
 use Rattle.symbolic_prep.proofs.Reduced.{below_by, longer_by, numbered_own, stands_at, tail_in_closure}
 use Rattle.symbolic_prep.proofs.ReducerTails.{has_own}
-use Rattle.symbolic_prep.proofs.Sets.{more_widely, one_fault}
+use Rattle.symbolic_prep.proofs.Sets.{more_widely}
 use Rattle.symbolic_prep.proofs.numbering.push_reducer.Goals as goal
 
 pub returns-in_ok-end-in-Some-clause-reduced : goal.returns-in_ok-end-in-Some-clause-reduced

@@ -1,5 +1,6 @@
 use Rattle.std.proofs.Common.{◌≡◌, ◌<◌, [], Err, arith, ap, get_or, length, length-append, refl, sym, ◌∙◌}
 use Rattle.std.proofs.lemmas.List.{get_or_default}
+use Rattle.words.proofs.Faults.{one_fault}
 use Rattle.symbolic_prep.specs.Walk.{tail_words}
 use Rattle.symbolic_prep.proofs.Reduced.{grown_longer}
 use Rattle.std.proofs.lemmas.List.Elements.{All-contains}
@@ -8,7 +9,6 @@ use Rattle.words.specs.Words.{IsOver, degree_of}
 use Rattle.words.proofs.Members.{All-from_members}
 use Rattle.symbolic_prep.proofs.Numbers.{closure_many}
 use Rattle.symbolic_prep.proofs.NumberWalks.{number_walk_more, number_walk_none}
-use Rattle.symbolic_prep.proofs.Sets.{one_fault}
 use Rattle.symbolic_prep.proofs.Stays.{stays}
 use Rattle.symbolic_prep.proofs.numbering.walk_by_number.Goals as goal
 
