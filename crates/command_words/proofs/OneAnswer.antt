@@ -6,7 +6,7 @@ use Rattle.command_words.specs.declared.job.Command.{Command}
 use Rattle.command_words.specs.declared.job.Key.{Key}
 use Rattle.command_words.specs.declared.job.Job.{Job}
 use Rattle.command_words.specs.declared.job.UsageFault.{UsageFault}
-use Rattle.command_words.specs.declared.job.UsageFault.TheVariants.{NoCommand, UnknownCommand, UnknownKey, RepeatedKey, BadValue, MissingKey}
+use Rattle.command_words.specs.declared.job.UsageFault.TheVariants.{NoCommand, UnknownCommand}
 use Rattle.command_words.specs.Keys.{command_name, required_of}
 use Rattle.command_words.specs.Refusals.{Stands}
 use Rattle.command_words.specs.JobOf.{HasFault, HasNoCommand, IsAnswerTo, IsFaultOf, IsJob, IsUsageFault}
@@ -20,10 +20,7 @@ usage_kind : (words : List (List ℕ)) (f : UsageFault) → IsUsageFault words f
     ((f ≡ NoCommand) × (words ≡ [])) ⊎ (((f ≡ UnknownCommand) × HasNoCommand words) ⊎ HasFault words f)
 usage_kind words NoCommand p = inl (refl, p)
 usage_kind words UnknownCommand p = inr (inl (refl, p))
-usage_kind words (UnknownKey n) p = inr (inr p)
-usage_kind words (RepeatedKey n) p = inr (inr p)
-usage_kind words (BadValue n) p = inr (inr p)
-usage_kind words (MissingKey key) p = inr (inr p)
+usage_kind words fault p = inr (inr p)
 
 same_command : (words : List (List ℕ)) (c d : Command) (r s : List (List ℕ)) → words ≡ command_name c ∷ r → words ≡ command_name d ∷ s → c ≡ d
 same_command words c d r s p q = let e : command_name c ≡ command_name d = cc (sym p ∙ q) in one_command c d e

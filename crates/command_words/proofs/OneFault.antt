@@ -5,7 +5,7 @@ use Rattle.std.proofs.lemmas.List.Elements.{All-contains}
 use Rattle.command_words.specs.declared.job.Command.{Command}
 use Rattle.command_words.specs.declared.job.Key.{Key}
 use Rattle.command_words.specs.declared.job.UsageFault.{UsageFault}
-use Rattle.command_words.specs.declared.job.UsageFault.TheVariants.{NoCommand, UnknownCommand, UnknownKey, RepeatedKey, BadValue, MissingKey}
+use Rattle.command_words.specs.declared.job.UsageFault.TheVariants.{UnknownKey, RepeatedKey, BadValue, MissingKey}
 use Rattle.command_words.specs.Keys.{required_of}
 use Rattle.command_words.specs.Refusals.{IsRefused, Stands}
 use Rattle.command_words.specs.JobOf.{AreTaken, IsFaultOf, IsFirstMissing, IsFirstRefusal}
@@ -58,11 +58,7 @@ not_taken command words f p taken = taken f (record { before = p.before; word = 
 pub fault_kind : (command : Command) (words : List (List ℕ)) (f : UsageFault) → IsFaultOf command words f
     → ((key : Key) × (f ≡ MissingKey key) × AreTaken command words × IsFirstMissing (required_of command) words key) ⊎ IsFirstRefusal command words f
 fault_kind command words (MissingKey key) p = inl (key, refl, p.0, p.1)
-fault_kind command words NoCommand p = inr p
-fault_kind command words UnknownCommand p = inr p
-fault_kind command words (UnknownKey n) p = inr p
-fault_kind command words (RepeatedKey n) p = inr p
-fault_kind command words (BadValue n) p = inr p
+fault_kind command words fault p = inr p
 
 pub one_fault_of : (command : Command) (words : List (List ℕ)) (f g : UsageFault) → IsFaultOf command words f → IsFaultOf command words g → f ≡ g
 one_fault_of command words f g p q = elim (fault_kind command words f p) [
