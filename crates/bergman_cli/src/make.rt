@@ -110,7 +110,7 @@ fn coefficients_in(terms: &[Term]) -> u128
     sum
 }
 
-pub(crate) fn push_line(text: &mut Vec<u8>, name: &[u8], number: u128) -> Result<(), NoMemory>
+fn push_line(text: &mut Vec<u8>, name: &[u8], number: u128) -> Result<(), NoMemory>
     ensures { IfOk result (λ _. text.new.items ≡ text.old.items ++ number_line name.now number) }
 {
     text.extend_from_slice(name)?;
@@ -119,7 +119,7 @@ pub(crate) fn push_line(text: &mut Vec<u8>, name: &[u8], number: u128) -> Result
     text.extend_from_slice(b"\n")
 }
 
-pub(crate) fn push_number(text: &mut Vec<u8>, number: u128) -> Result<(), NoMemory>
+fn push_number(text: &mut Vec<u8>, number: u128) -> Result<(), NoMemory>
     ensures { IfOk result (λ _. text.new.items ≡ text.old.items ++ decimal number) }
 {
     let mut digits = Buffer::new();

@@ -5,12 +5,11 @@ ghost use Rattle.bergman_cli.specs.Jobs.{IsAsked};
 ghost use Rattle.bergman_cli.specs.Module.{IsModuleBasisText, IsModuleOutcome, IsModuleText, free_of};
 ghost use Rattle.bergman_cli.specs.Module.{module_series_text};
 
-use crate::make::{push_line, push_number};
 use command_words::{Command, Job, Show};
 use field_table::Field;
 use ideal_laws::{DegreeEngine, Limits, Presentation, setting_law};
 use job_steps::{Answer, InputProblem, Status};
-use poly_writer::degree_text;
+use poly_writer::{degree_text, push_series};
 use right_modules::{ModuleBasis, ModuleDegree, ModuleFault, module_basis};
 use std::alloc::{AllocError, Global};
 use std::thread::Threads;
@@ -128,9 +127,6 @@ fn series_text(alloc: Global, numbers: &[u64]) -> Result<Vec<u8>, NoMemory>
     ensures { IfOk result (λ text. text.items ≡ module_series_text numbers.now) }
 {
     let mut text = Vec::from_slice(alloc, b"% module series\n")?;
-    for (degree, number) in numbers.iter().enumerate() {
-        push_number(&mut text, degree as u128)?;
-        push_line(&mut text, b"", u128::from(*number))?;
-    }
+    push_series(&mut text, numbers)?;
     Ok(text)
 }
