@@ -17,7 +17,7 @@ use Rattle.command_words.specs.declared.job.Command.TheVariants as commands
 use Rattle.command_words.specs.declared.job.Job.{Job}
 use Rattle.job_steps.specs.declared.answer.Answer.{Answer}
 use Rattle.job_steps.specs.declared.status.Status.{Status}
-use Rattle.job_steps.specs.declared.status.Status.TheVariants.{Done, Usage, Input, Limit, Chains, Products, ReadFault, WriteFault, NoMemory}
+use Rattle.job_steps.specs.declared.status.Status.TheVariants.{Done, Usage, Input, Limit, Chains, ReadFault}
 use Rattle.job_steps.specs.Progress.{refused}
 use Rattle.job_steps.specs.Status.{PrintsNothing}
 use Rattle.job_steps.specs.Statuses.{IsOwn, IsTaskStatus}
@@ -42,39 +42,24 @@ module _ (job : Job) (letters : Letters) (relations : List (List Term)) where
   -- the statuses of the command are its own
   pub chains_own : (status : Status) → Due status → IsOwn status
   chains_own Done h = tt
-  chains_own (Usage fault) h = absurd h
-  chains_own (Input problem) h = absurd h
   chains_own (Limit kind d value) h = tt
   chains_own (Chains d value) h = tt
-  chains_own (Products d value) h = absurd h
-  chains_own ReadFault h = absurd h
-  chains_own WriteFault h = absurd h
-  chains_own NoMemory h = absurd h
+  chains_own status h = absurd h
 
   -- with one of them something may be printed
   pub chains_prints : (status : Status) → Due status → PrintsNothing status → ⊥
-  chains_prints Done h none = none
   chains_prints (Usage fault) h none = h
   chains_prints (Input problem) h none = h
-  chains_prints (Limit kind d value) h none = none
-  chains_prints (Chains d value) h none = none
-  chains_prints (Products d value) h none = none
   chains_prints ReadFault h none = h
-  chains_prints WriteFault h none = none
-  chains_prints NoMemory h none = none
+  chains_prints status h none = none
 
   -- only the chain text is not empty
   pub chains_writes : (status : Status) (text : List ℕ) → Due status → IsChainsText job letters relations status text → text ≢ [] →
       Writes commands.Chains status
   chains_writes Done text due h some = tt
-  chains_writes (Usage fault) text due h some = absurd due
-  chains_writes (Input problem) text due h some = absurd due
   chains_writes (Limit kind d value) text due h some = some h
   chains_writes (Chains d value) text due h some = some h
-  chains_writes (Products d value) text due h some = absurd due
-  chains_writes ReadFault text due h some = absurd due
-  chains_writes WriteFault text due h some = absurd due
-  chains_writes NoMemory text due h some = absurd due
+  chains_writes status text due h some = absurd due
 
   module _ (st : IsSetting (ideal_over job.modulus letters.weights relations)) where
     few_or_many : HasFewChains job letters relations → (d value : ℕ) → HasManyChains job letters relations d value → ⊥
@@ -93,50 +78,22 @@ module _ (job : Job) (letters : Letters) (relations : List (List Term)) where
         let same : value ≡ other = a.kept ∙ sym b.kept in
         λ i. Chains (at i) (same i)
 
-    done_is_one : (other : Status) → Due Done → Due other → Done ≡ other
-    done_is_one Done a b = refl
-    done_is_one (Usage fault) a b = absurd b
-    done_is_one (Input problem) a b = absurd b
-    done_is_one (Limit kind d value) a b = stopped kind d value a.0 b
-    done_is_one (Chains d value) a b = absurd (few_or_many a.1 d value b.1)
-    done_is_one (Products d value) a b = absurd b
-    done_is_one ReadFault a b = absurd b
-    done_is_one WriteFault a b = absurd b
-    done_is_one NoMemory a b = absurd b
-
-    many_is_one : (d value : ℕ) (other : Status) → Due (Chains d value) → Due other → Chains d value ≡ other
-    many_is_one d value Done a b = absurd (few_or_many b.1 d value a.1)
-    many_is_one d value (Usage fault) a b = absurd b
-    many_is_one d value (Input problem) a b = absurd b
-    many_is_one d value (Limit kind e other) a b = absurd (not_stopped kind e other a.0 b)
-    many_is_one d value (Chains e other) a b = one_many d value e other a.1 b.1
-    many_is_one d value (Products e other) a b = absurd b
-    many_is_one d value ReadFault a b = absurd b
-    many_is_one d value WriteFault a b = absurd b
-    many_is_one d value NoMemory a b = absurd b
-
-    limit_is_one : (kind : LimitKind) (d value : ℕ) (other : Status) → Due (Limit kind d value) → Due other → Limit kind d value ≡ other
-    limit_is_one kind d value Done a b = sym (stopped kind d value b.0 a)
-    limit_is_one kind d value (Usage fault) a b = absurd b
-    limit_is_one kind d value (Input problem) a b = absurd b
-    limit_is_one kind d value (Limit k e other) a b = one_task_status (chains_task job letters relations) st (Limit kind d value) (Limit k e other) a b
-    limit_is_one kind d value (Chains e other) a b = absurd (not_stopped kind d value b.0 a)
-    limit_is_one kind d value (Products e other) a b = absurd b
-    limit_is_one kind d value ReadFault a b = absurd b
-    limit_is_one kind d value WriteFault a b = absurd b
-    limit_is_one kind d value NoMemory a b = absurd b
-
     -- one status is due
     pub one_chains_status : (status other : Status) → Due status → Due other → status ≡ other
-    one_chains_status Done other a b = done_is_one other a b
-    one_chains_status (Usage fault) other a b = absurd a
-    one_chains_status (Input problem) other a b = absurd a
-    one_chains_status (Limit kind d value) other a b = limit_is_one kind d value other a b
-    one_chains_status (Chains d value) other a b = many_is_one d value other a b
-    one_chains_status (Products d value) other a b = absurd a
-    one_chains_status ReadFault other a b = absurd a
-    one_chains_status WriteFault other a b = absurd a
-    one_chains_status NoMemory other a b = absurd a
+    one_chains_status Done Done a b = refl
+    one_chains_status Done (Limit kind d value) a b = stopped kind d value a.0 b
+    one_chains_status Done (Chains d value) a b = absurd (few_or_many a.1 d value b.1)
+    one_chains_status (Limit kind d value) Done a b = sym (stopped kind d value b.0 a)
+    one_chains_status (Limit kind d value) (Limit k e other) a b =
+        one_task_status (chains_task job letters relations) st (Limit kind d value) (Limit k e other) a b
+    one_chains_status (Limit kind d value) (Chains e other) a b = absurd (not_stopped kind d value b.0 a)
+    one_chains_status (Chains d value) Done a b = absurd (few_or_many b.1 d value a.1)
+    one_chains_status (Chains d value) (Limit kind e other) a b = absurd (not_stopped kind e other a.0 b)
+    one_chains_status (Chains d value) (Chains e other) a b = one_many d value e other a.1 b.1
+    one_chains_status Done other a b = absurd b
+    one_chains_status (Limit kind d value) other a b = absurd b
+    one_chains_status (Chains d value) other a b = absurd b
+    one_chains_status status other a b = absurd a
 
   module _ (limits : List (LimitKind × ℕ)) (same : limits ≡ limits_of job.engine) (p : ℕ) (field : p ≡ job.modulus) where
     -- a limit of the engine
