@@ -17,6 +17,7 @@ use Rattle.command_words.specs.JobOf.{HasOneAnswer, IsJob, IsUsageFault, IsValue
 use Rattle.command_words.specs.Keys.{required_of}
 use Rattle.command_words.specs.Refusals.{Stands}
 use Rattle.command_words.specs.Values.{IsNumberFrom, IsValue, value_at}
+use Rattle.command_words.proofs.Digits.{modulus_below}
 use Rattle.bergman_cli.specs.Jobs.{IsSound}
 
 one_count : (m n : ℕ) → Count m ≡ Count n → m ≡ n
@@ -79,12 +80,6 @@ module _ (words : List (List ℕ)) (job : Job) (j : IsJob words job) where
 le_says : (m n : ℕ) → nat_le m n ≡ true → m ≤ n
 le_says m n e = grind (arith, nat_tests)
 
--- the listed moduli are from 2 to 1000003
-listed_small : (p : ℕ) → Contains listed_moduli p → p ≤ 1000003
-listed_small p m = All-contains (λ n. n ≤ 1000003) listed_moduli p
-    (λ k d within. le_says (get_or listed_moduli k d) 1000003 (AllPass-from_list_all (λ n. nat_le n 1000003) listed_moduli refl k d within))
-    m
-
 pub some_workers : (words : List (List ℕ)) (job : Job) → IsJob words job → 1 ≤ job.workers
 some_workers words job j = (workers_range words job j).0
 
@@ -95,7 +90,7 @@ few_workers words job j = (workers_range words job j).1
 pub sound_job : (words : List (List ℕ)) (job : Job) → IsJob words job → All IsFieldModulus listed_moduli → IsSound job
 sound_job words job j all = record {
   modulus = All-contains IsFieldModulus listed_moduli job.modulus all (listed words job j);
-  small = omega (arith, listed_small job.modulus (listed words job j));
+  small = omega (arith, modulus_below job.modulus (listed words job j));
   some_degree = (bound_range words job j).0;
   few_degrees = (bound_range words job j).1;
   letters = letters_range words job j;
