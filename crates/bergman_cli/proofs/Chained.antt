@@ -22,7 +22,7 @@ use Rattle.job_steps.specs.Progress.{refused}
 use Rattle.job_steps.specs.Status.{PrintsNothing}
 use Rattle.job_steps.specs.Statuses.{IsOwn, IsTaskStatus}
 use Rattle.job_steps.proofs.Statuses.{one_task_status}
-use Rattle.bergman_cli.specs.Chains.{HasChainText, HasFewChains, HasManyChains, IsChainList, IsChainsOutcome, IsChainsStatus, IsChainsText}
+use Rattle.bergman_cli.specs.Chains.{HasChainText, HasFewChains, HasManyChains, IsChainsOutcome, IsChainsStatus, IsChainsText}
 use Rattle.bergman_cli.specs.Chains.{chains_task, most_chains}
 use Rattle.bergman_cli.specs.Engines.{limits_of}
 use Rattle.bergman_cli.specs.Outcomes.{Writes}
@@ -32,6 +32,9 @@ use Rattle.bergman_cli.proofs.OwnLimits.{own_none, own_refused}
 module _ (job : Job) (letters : Letters) (relations : List (List Term)) where
   abbrev Due : Status → Type 0
   Due = IsChainsStatus job letters relations
+
+  abbrev Outcome : Answer → Type 0
+  Outcome a = IsChainsOutcome job letters relations a.status a.text
 
   abbrev Tasked : Status → Type 0
   Tasked = IsTaskStatus (chains_task job letters relations)
@@ -99,10 +102,10 @@ module _ (job : Job) (letters : Letters) (relations : List (List Term)) where
     -- a limit of the engine
     pub refused_chains : (answer : Answer) (kind : LimitKind) (d value : ℕ) → answer ≡ record { status = Limit kind d value; text = [] } →
         IsFirstRefused (ideal_over p letters.weights relations) limits job.bound kind d value
-        → IsChainsOutcome job letters relations answer.status answer.text
+        → Outcome answer
     refused_chains answer kind d value is first =
         let own = own_refused job letters.weights relations limits same p field kind d value first in
-        subst (λ (a : Answer). IsChainsOutcome job letters relations a.status a.text) (sym is) ((refused kind d value, own, (refl, refl, refl)), refl)
+        subst Outcome (sym is) ((refused kind d value, own, (refl, refl, refl)), refl)
 
     own_whole : NonePassesUpto (ideal_over p letters.weights relations) limits job.bound → Tasked Done
     own_whole none = (
@@ -117,10 +120,10 @@ module _ (job : Job) (letters : Letters) (relations : List (List Term)) where
       own_setting = subst (λ (ws : List ℕ). IsSetting (ideal_over p ws relations)) (sym weights) st
 
       -- too many chains
-      pub many_chains : HasMinimalChains → ListsLower → (most d value : ℕ) (text : List ℕ) → most ≡ most_chains → value ≡ most + 1 → text ≡ []
-          → IsFirstMany (Contains (leads_of basis.elements)) (length basis.weights) basis.weights job.bound most d →
-          IsChainsOutcome job letters relations (Chains d value) text
-      many_chains law lower most d value text count plus empty first =
+      pub many_chains : HasMinimalChains → ListsLower → (answer : Answer) (most d value : ℕ) → answer ≡ record { status = Chains d value; text = [] }
+          → most ≡ most_chains → value ≡ most + 1
+          → IsFirstMany (Contains (leads_of basis.elements)) (length basis.weights) basis.weights job.bound most d → Outcome answer
+      many_chains law lower answer most d value is count plus first =
           let lists = lower (ideal_over p basis.weights relations) own_setting (basis.done + 1) basis
           (record { kept = kept; next = refl; same_weights = refl; reduced = reduced }) in
           let minimal = many_minimal law (ideal_over p basis.weights relations) own_setting (basis.done + 1) basis.elements lists job.bound most d
@@ -129,12 +132,13 @@ module _ (job : Job) (letters : Letters) (relations : List (List Term)) where
           d) field
           (subst (λ (ws : List ℕ). IsFirstMany (IsMinimal (ideal_over p ws relations)) (length ws) ws job.bound most d) weights minimal) in
           let many = subst (λ (n : ℕ). IsFirstMany T (length letters.weights) letters.weights job.bound n d) count own in
-          ((own_whole none, record { first = many; kept = plus ∙ ap (λ (n : ℕ). n + 1) count }), empty)
+          subst Outcome (sym is) ((own_whole none, record { first = many; kept = plus ∙ ap (λ (n : ℕ). n + 1) count }), refl)
 
       -- the chain text
-      pub told_chains : (text out : List ℕ) → out ≡ text → (IsSetting (ideal_over p basis.weights relations) → IsReducedUpto p relations basis
-          → HasChainText (IsMinimal (ideal_over p basis.weights relations)) letters job text) → IsChainsOutcome job letters relations Done out
-      told_chains text out is told =
+      pub told_chains : (answer : Answer) (text : List ℕ) → answer ≡ record { status = Done; text = text }
+          → (IsSetting (ideal_over p basis.weights relations) → IsReducedUpto p relations basis
+          → HasChainText (IsMinimal (ideal_over p basis.weights relations)) letters job text) → Outcome answer
+      told_chains answer text is told =
           let h = told own_setting reduced in
           let own : AreListed T (length letters.weights) letters.weights job.bound h.chains =
           subst (λ (m : ℕ). AreListed (IsMinimal (ideal_over m letters.weights relations)) (length letters.weights) letters.weights job.bound h.chains) field
@@ -145,5 +149,5 @@ module _ (job : Job) (letters : Letters) (relations : List (List Term)) where
             is_number = listed_number T (length letters.weights) letters.weights job.bound h.chains own;
             few = h.few;
           } in
-          let list : IsChainList job letters relations out = record { chains = h.chains; listed = own; printed = is ∙ h.printed } in
-          ((own_whole none, few), list)
+          let list : HasChainText T letters job text = record { chains = h.chains; listed = own; few = h.few; printed = h.printed } in
+          subst Outcome (sym is) ((own_whole none, few), list)

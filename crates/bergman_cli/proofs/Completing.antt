@@ -10,6 +10,7 @@ use Rattle.relation_reader.specs.Meaning.{FirstFault, HasOneReading, Reads}
 use Rattle.command_words.specs.declared.job.Command.{Command}
 use Rattle.command_words.specs.declared.job.Job.{Job}
 use Rattle.command_words.specs.JobOf.{HasOneAnswer, IsJob}
+use Rattle.command_words.proofs.Digits.{modulus_some}
 use Rattle.job_steps.specs.declared.status.InputProblem.TheVariants.{TooLong, Text}
 use Rattle.job_steps.specs.declared.status.Status.{Status}
 use Rattle.job_steps.specs.declared.status.Status.TheVariants.{Usage, Input, ReadFault, WriteFault, NoMemory}
@@ -22,7 +23,7 @@ use Rattle.bergman_cli.specs.Run.{Completes, IsCaused, IsDueTo, IsEnd, IsJobEnd,
 use Rattle.bergman_cli.proofs.Causes.{job_of_end, reads_nothing_not}
 use Rattle.bergman_cli.proofs.Given.{fault_mishap, given_input, given_is, input_is, long_mishap, make_or_reads, no_text_fault, one_reading}
 use Rattle.bergman_cli.proofs.Given.{read_mishap, told_input, ungiven_input}
-use Rattle.bergman_cli.proofs.Jobs.{listed, listed_some, no_fault, one_job}
+use Rattle.bergman_cli.proofs.Jobs.{listed, no_fault, one_job}
 use Rattle.bergman_cli.proofs.Works.{due_is_one, failed_writes, never, outcome_due, work_gained, work_write}
 
 module _ (job : Job) (law : HasOneReading) (some : 0 < job.modulus) (unread rest : SourceState) (before after : SinkState) where
@@ -131,7 +132,7 @@ module _ (words : List (List ℕ)) (unread rest : SourceState) (before after : S
 
   pub job_completes : HasOneReading → (own status : Status) → End status → IsCaused job unread.left own →
       (status ≡ own) ⊎ IsMishap job.command own unread rest before after status
-  job_completes law own status end cause = caused_comes job law (listed_some job.modulus (listed words job is)) unread rest before after own status
+  job_completes law own status end cause = caused_comes job law (modulus_some job.modulus (listed words job is)) unread rest before after own status
       (ends_of status end) cause
 
 pub completes : (words : List (List ℕ)) (unread rest : SourceState) (before after : SinkState) → HasOneAnswer words → HasOneReading

@@ -1,10 +1,7 @@
 -- What the words of a job say of it, and that words are one job or have one fault.
-use Rattle.std.proofs.Common.{◌≡◌, ◌<◌, ◌≤◌, ℕ, List, All, refl, sym, ◌∙◌, inl, inr, arith, subst, true, get_or, Result, Ok, Err, lit<}
-use Rattle.std.specs.Prelude.{nat_le}
+use Rattle.std.proofs.Common.{◌≡◌, ◌≤◌, ℕ, List, All, sym, ◌∙◌, inl, inr, arith, subst, Result, Ok, Err, lit<}
 use Rattle.std.specs.List.{Contains}
-use Rattle.std.proofs.lemmas.Bool.Decides.{nat_tests}
 use Rattle.std.proofs.lemmas.List.Elements.{All-contains}
-use Rattle.std.proofs.lemmas.List.Sums.{AllPass-from_list_all}
 use Rattle.field_table.specs.Residues.{IsFieldModulus, listed_moduli}
 use Rattle.command_words.specs.declared.job.Command.{Command}
 use Rattle.command_words.specs.declared.job.Command.TheVariants.{Gb, Make, Module, Normal}
@@ -77,9 +74,6 @@ module _ (words : List (List ℕ)) (job : Job) (j : IsJob words job) where
   ask_range : job.command ≡ Normal → (1 ≤ job.ask) × (job.ask ≤ 4096)
   ask_range is = let t = told words job keys.Ask j (required Normal is 2 keys.Ask (lit< tt)) in in_range 1 4096 job.ask t.0 t.1
 
-le_says : (m n : ℕ) → nat_le m n ≡ true → m ≤ n
-le_says m n e = grind (arith, nat_tests)
-
 pub some_workers : (words : List (List ℕ)) (job : Job) → IsJob words job → 1 ≤ job.workers
 some_workers words job j = (workers_range words job j).0
 
@@ -97,12 +91,6 @@ sound_job words job j all = record {
   gens = gens_range words job j;
   ask = ask_range words job j;
 }
-
-pub listed_some : (p : ℕ) → Contains listed_moduli p → 0 < p
-listed_some p m =
-    let two = All-contains (λ n. 2 ≤ n) listed_moduli p (λ k d within. le_says 2 (get_or listed_moduli k d)
-    (AllPass-from_list_all (λ n. nat_le 2 n) listed_moduli refl k d within)) m in
-    omega (arith, two)
 
 module _ (words : List (List ℕ)) (one : HasOneAnswer words) where
   same_answer : (a b : Result Job UsageFault) → a ≡ one.answer → b ≡ one.answer → a ≡ b

@@ -11,10 +11,10 @@ use ideal_laws::{
     Basis, DegreeEngine, LimitKind, Limits, Presentation, lower_law, run, setting_law,
 };
 use itoa::Buffer;
-use job_steps::{Answer, Status};
+use job_steps::Answer;
 use std::alloc::{AllocError, Global};
 use std::thread::Threads;
-use words::{Items, NoMemory};
+use words::NoMemory;
 
 /// The command `make`: the summary of the basis and of the last coefficient.
 pub fn make_answer<R: Threads + Sync, E: DegreeEngine>(
@@ -47,10 +47,7 @@ pub fn make_answer<R: Threads + Sync, E: DegreeEngine>(
             let coefficient = numbers[job.bound as usize];
             let relations = given.relations.as_slice().len();
             let text = summary_text(alloc, job, relations, &basis, coefficient)?;
-            Ok(Answer {
-                status: Status::Done,
-                text: Items::from_vec(text),
-            })
+            Ok(Answer::done(text))
         }
         Err(SeriesFault::Limit { degree, value, .. }) => {
             Ok(Answer::limit(alloc, LimitKind::NormalWords, degree, value))
