@@ -85,22 +85,14 @@ pub fn command_in(word: &[u8]) -> Option<Command>
     ensures { MatchOption result ((command : Command) → word.now ≢ command_name command)
         (λ command. word.now ≡ command_name command) }
 {
-    if word == b"gb".as_slice() {
-        return Some(Command::Gb);
+    match word {
+        b"gb" => Some(Command::Gb),
+        b"make" => Some(Command::Make),
+        b"module" => Some(Command::Module),
+        b"chains" => Some(Command::Chains),
+        b"normal" => Some(Command::Normal),
+        _ => None,
     }
-    if word == b"make".as_slice() {
-        return Some(Command::Make);
-    }
-    if word == b"module".as_slice() {
-        return Some(Command::Module);
-    }
-    if word == b"chains".as_slice() {
-        return Some(Command::Chains);
-    }
-    if word == b"normal".as_slice() {
-        return Some(Command::Normal);
-    }
-    None
 }
 
 /// The key of the command that the word has.
