@@ -14,7 +14,7 @@ use Rattle.command_words.specs.Keys.{command_name, name_of}
 use Rattle.command_words.specs.Values.{IsAnswer, IsEngine, IsModulus, IsNumberFrom, IsShow, IsValue, answer_name, engine_name, show_name}
 use Rattle.command_words.specs.Refusals.{HasKey, Says}
 use Rattle.command_words.proofs.Digits.{listed_says, number_or_not, one_number, says_listed}
-use Rattle.words.proofs.Members.{Contains-cases, Contains-more}
+use Rattle.command_words.proofs.Members.{among_or_not}
 use Rattle.command_words.proofs.Named.{answer_of, answer_of-name, command_of, command_of-name, engine_of, engine_of-name, show_of, show_of-name}
 use Rattle.command_words.proofs.OneKey.{one_text}
 use Rattle.command_words.proofs.Parts.{Decided}
@@ -113,12 +113,4 @@ has_key_or_not key word = elim (front_or_not (name_of key ++ codes "=") word) [
 ]
 
 pub key_or_not : (row : List Key) (word : List ℕ) → Decided (λ (key : Key). Contains row key × HasKey key word)
-key_or_not [] word = inr (λ key h. omega (arith, h.0.1))
-key_or_not (k ∷ row) word = elim (has_key_or_not k word) [
-  | inl has ↦ inl (k, ((0, omega arith, refl), has))
-  | inr other ↦ elim (key_or_not row word) [
-    | inl m ↦ inl (m.0, (Contains-more k row m.0 m.1.0, m.1.1))
-    | inr none ↦ inr (λ key h. elim (Contains-cases k row key h.0)
-        [ inl e ↦ other (subst (λ (l : Key). HasKey l word) (sym e) h.1) | inr m ↦ none key (m, h.1) ])
-  ]
-]
+key_or_not row word = among_or_not (λ key. HasKey key word) (λ key. has_key_or_not key word) row
