@@ -26,6 +26,6 @@ returns-in-Err-TooMany g c =
     let run = c.in-Ok.ensures in
     let at = c.in-Err-TooMany in
     many_chains c.args.job.now c.args.given.now.alphabet c.args.given.now.relations _ c.requires.limits c.args.field.now c.requires.modulus
-    c.setting_law.ensures
-    c.in-Ok.basis run.weights run.kept run.reduced run.done run.within c.chain_laws.ensures.minimal c.lower_law.ensures.lower c.without_text.result _ at.degree _
-    c.without_text.ensures refl (ap (λ (n : ℕ). n + 1) c.from-value.ensures) (at.ensures.many at.degree (ap Err at.field-0-is))
+    c.setting_law.ensures c.in-Ok.basis run.weights run.kept run.reduced run.done run.within c.chain_laws.ensures.minimal c.lower_law.ensures.lower
+    c.without_text.result _ at.degree _ c.without_text.ensures refl
+    (ap (λ (n : ℕ). n + 1) c.from-value.ensures) (at.ensures.many at.degree (ap Err at.field-0-is))
