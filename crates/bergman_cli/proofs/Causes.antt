@@ -9,9 +9,9 @@ use Rattle.command_words.specs.declared.job.Command.{Command}
 use Rattle.command_words.specs.declared.job.Job.{Job}
 use Rattle.command_words.specs.declared.job.UsageFault.{UsageFault}
 use Rattle.command_words.specs.JobOf.{HasOneAnswer, IsJob, IsUsageFault}
-use Rattle.job_steps.specs.declared.status.InputProblem.TheVariants.{TooLong, Text, TooFewNames, Shape, TooFewRelations, AboveBound}
+use Rattle.job_steps.specs.declared.status.InputProblem.TheVariants.{TooLong, Text}
 use Rattle.job_steps.specs.declared.status.Status.{Status}
-use Rattle.job_steps.specs.declared.status.Status.TheVariants.{Done, Usage, Input, Limit, Chains, Products, ReadFault, WriteFault, NoMemory}
+use Rattle.job_steps.specs.declared.status.Status.TheVariants.{Usage, Input, ReadFault, WriteFault, NoMemory}
 use Rattle.job_steps.specs.Inputs.{IsInputEnd}
 use Rattle.job_steps.specs.States.{SinkState, SourceState}
 use Rattle.job_steps.specs.Status.{IsOfInput, ReadsNothing}
@@ -28,20 +28,11 @@ use Rattle.bergman_cli.proofs.Works.{never, work_gained, work_memory, work_part,
 -- an end of the input is one of few statuses
 module _ (p : ℕ) (unread rest : SourceState) where
   input_not : (status : Status) → IsInputEnd p unread rest status → (IsOfInput status → ⊥) → status ≢ NoMemory → ⊥
-  input_not Done h none memory = h
-  input_not (Usage fault) h none memory = h
   input_not (Input TooLong) h none memory = none tt
   input_not (Input (Text fault)) h none memory = none tt
-  input_not (Input (TooFewNames names)) h none memory = h
-  input_not (Input (Shape relation)) h none memory = h
-  input_not (Input (TooFewRelations relations)) h none memory = h
-  input_not (Input (AboveBound relation)) h none memory = h
-  input_not (Limit kind d value) h none memory = h
-  input_not (Chains d value) h none memory = h
-  input_not (Products d value) h none memory = h
   input_not ReadFault h none memory = none tt
-  input_not WriteFault h none memory = h
   input_not NoMemory h none memory = memory refl
+  input_not status h none memory = h
 
   pub ungiven_not : (command : Command) (status : Status) → IsUngivenTo command p unread rest status → (IsOfInput status → ⊥) → status ≢ NoMemory → ⊥
   ungiven_not command status h none memory = elim (make_or_reads command) [
@@ -52,18 +43,8 @@ module _ (p : ℕ) (unread rest : SourceState) where
 own_is_not_of_input : (status : Status) → IsOwn status → IsOfInput status → ⊥
 own_is_not_of_input (Input TooLong) own of = own
 own_is_not_of_input (Input (Text fault)) own of = own
-own_is_not_of_input (Input (TooFewNames names)) own of = of
-own_is_not_of_input (Input (Shape relation)) own of = of
-own_is_not_of_input (Input (TooFewRelations relations)) own of = of
-own_is_not_of_input (Input (AboveBound relation)) own of = of
 own_is_not_of_input ReadFault own of = own
-own_is_not_of_input Done own of = of
-own_is_not_of_input (Usage fault) own of = of
-own_is_not_of_input (Limit kind d value) own of = of
-own_is_not_of_input (Chains d value) own of = of
-own_is_not_of_input (Products d value) own of = of
-own_is_not_of_input WriteFault own of = of
-own_is_not_of_input NoMemory own of = of
+own_is_not_of_input status own of = of
 
 own_is_not : (status other : Status) → (IsOwn other → ⊥) → IsOwn status → status ≢ other
 own_is_not status other none own is = none (subst IsOwn is own)
@@ -73,15 +54,8 @@ of_input_is_not status other none own is = none (subst IsOfInput is own)
 
 -- a usage fault, or a status of a run that read its words as a job
 usage_or_job : (status : Status) → ((fault : UsageFault) × (status ≡ Usage fault)) ⊎ (ReadsNothing status → ⊥)
-usage_or_job Done = inr (λ none. none)
 usage_or_job (Usage fault) = inl (fault, refl)
-usage_or_job (Input problem) = inr (λ none. none)
-usage_or_job (Limit kind d value) = inr (λ none. none)
-usage_or_job (Chains d value) = inr (λ none. none)
-usage_or_job (Products d value) = inr (λ none. none)
-usage_or_job ReadFault = inr (λ none. none)
-usage_or_job WriteFault = inr (λ none. none)
-usage_or_job NoMemory = inr (λ none. none)
+usage_or_job status = inr (λ none. none)
 
 -- what no usage fault has, no status has of a run that reads nothing
 pub reads_nothing_not : (P : Status → Type 0) → ((fault : UsageFault) → P (Usage fault) → ⊥) → (status : Status) → ReadsNothing status → P status → ⊥
@@ -163,15 +137,8 @@ module _ (words : List (List ℕ)) (unread rest : SourceState) (before after : S
   -- but for a usage fault, a run ends as its job does
   as_job : (status : Status) → (ReadsNothing status → ⊥) →
       (OfJob words (λ job. JobEnds job status) → End status) × (End status → OfJob words (λ job. JobEnds job status))
-  as_job Done some = (λ h. h, λ h. h)
   as_job (Usage fault) some = absurd (some tt)
-  as_job (Input problem) some = (λ h. h, λ h. h)
-  as_job (Limit kind d value) some = (λ h. h, λ h. h)
-  as_job (Chains d value) some = (λ h. h, λ h. h)
-  as_job (Products d value) some = (λ h. h, λ h. h)
-  as_job ReadFault some = (λ h. h, λ h. h)
-  as_job WriteFault some = (λ h. h, λ h. h)
-  as_job NoMemory some = (λ h. h, λ h. h)
+  as_job status some = (λ h. h, λ h. h)
 
   -- a status of a job is one of the run
   pub end_of_job : (status : Status) (job : Job) → IsJob words job → JobEnds job status → End status

@@ -1,12 +1,12 @@
 -- The number of chains up to a degree is one number, and grows with the degree.
-use Rattle.std.proofs.Common.{◌≡◌, ◌<◌, ◌≤◌, ℕ, List, length, refl, sym, ◌∙◌, inl, inr, arith}
+use Rattle.std.proofs.Common.{◌≡◌, ◌<◌, ◌≤◌, ℕ, List, length, refl, sym, ◌∙◌, arith}
 use Rattle.std.specs.List.{Contains}
-use Rattle.std.proofs.lemmas.Bool.{cases_lt}
 use Rattle.std.proofs.lemmas.List.{length-map}
 use Rattle.free_poly.specs.declared.term.Term.{Term}
 use Rattle.ideal_laws.specs.Ideal.{Ideal, IsMinimal}
 use Rattle.ideal_laws.specs.Laws.{IsSetting}
 use Rattle.ideal_laws.specs.Overlaps.{AreLower}
+use Rattle.relation_reader.proofs.Numbers.{neither_less}
 use Rattle.anick_chains.specs.declared.chain.Chain.{Chain}
 use Rattle.anick_chains.specs.BasisTips.{HasMinimalChains, leads_of}
 use Rattle.anick_chains.specs.Listed.{AreListed, pieces_of}
@@ -40,13 +40,7 @@ module _ (T : List ℕ → Type 0) (names : ℕ) (weights : List ℕ) where
 
     -- the first degree up to which there are too many chains is one
     pub one_first_many : (d e : ℕ) → IsFirstMany T names weights bound most d → IsFirstMany T names weights bound most e → d ≡ e
-    one_first_many d e a b = elim (cases_lt d e) [
-      | inl lt ↦ absurd (not_before e d b a lt)
-      | inr le ↦ elim (cases_lt e d) [
-        | inl lt ↦ absurd (not_before d e a b lt)
-        | inr ge ↦ omega (arith, le, ge)
-      ]
-    ]
+    one_first_many d e a b = neither_less d e (not_before e d b a) (not_before d e a b)
 
     -- where there are few chains up to the bound, there are few up to each degree
     pub few_not_many : (n d : ℕ) → IsNumber T names weights bound n → n ≤ most → IsFirstMany T names weights bound most d → ⊥

@@ -17,12 +17,12 @@ use Rattle.command_words.specs.declared.job.Command.TheVariants as commands
 use Rattle.command_words.specs.declared.job.Job.{Job}
 use Rattle.job_steps.specs.declared.answer.Answer.{Answer}
 use Rattle.job_steps.specs.declared.status.Status.{Status}
-use Rattle.job_steps.specs.declared.status.Status.TheVariants.{Done, Usage, Input, Limit, Chains, Products, ReadFault, WriteFault, NoMemory}
+use Rattle.job_steps.specs.declared.status.Status.TheVariants.{Done, Usage, Input, Limit, Chains, ReadFault}
 use Rattle.job_steps.specs.Progress.{refused}
 use Rattle.job_steps.specs.Status.{PrintsNothing}
 use Rattle.job_steps.specs.Statuses.{IsOwn, IsTaskStatus}
 use Rattle.job_steps.proofs.Statuses.{one_task_status}
-use Rattle.bergman_cli.specs.Chains.{HasChainText, HasFewChains, HasManyChains, IsChainList, IsChainsOutcome, IsChainsStatus, IsChainsText}
+use Rattle.bergman_cli.specs.Chains.{HasChainText, HasFewChains, HasManyChains, IsChainsOutcome, IsChainsStatus, IsChainsText}
 use Rattle.bergman_cli.specs.Chains.{chains_task, most_chains}
 use Rattle.bergman_cli.specs.Engines.{limits_of}
 use Rattle.bergman_cli.specs.Outcomes.{Writes}
@@ -33,6 +33,9 @@ module _ (job : Job) (letters : Letters) (relations : List (List Term)) where
   abbrev Due : Status → Type 0
   Due = IsChainsStatus job letters relations
 
+  abbrev Outcome : Answer → Type 0
+  Outcome a = IsChainsOutcome job letters relations a.status a.text
+
   abbrev Tasked : Status → Type 0
   Tasked = IsTaskStatus (chains_task job letters relations)
 
@@ -42,39 +45,24 @@ module _ (job : Job) (letters : Letters) (relations : List (List Term)) where
   -- the statuses of the command are its own
   pub chains_own : (status : Status) → Due status → IsOwn status
   chains_own Done h = tt
-  chains_own (Usage fault) h = absurd h
-  chains_own (Input problem) h = absurd h
   chains_own (Limit kind d value) h = tt
   chains_own (Chains d value) h = tt
-  chains_own (Products d value) h = absurd h
-  chains_own ReadFault h = absurd h
-  chains_own WriteFault h = absurd h
-  chains_own NoMemory h = absurd h
+  chains_own status h = absurd h
 
   -- with one of them something may be printed
   pub chains_prints : (status : Status) → Due status → PrintsNothing status → ⊥
-  chains_prints Done h none = none
   chains_prints (Usage fault) h none = h
   chains_prints (Input problem) h none = h
-  chains_prints (Limit kind d value) h none = none
-  chains_prints (Chains d value) h none = none
-  chains_prints (Products d value) h none = none
   chains_prints ReadFault h none = h
-  chains_prints WriteFault h none = none
-  chains_prints NoMemory h none = none
+  chains_prints status h none = none
 
   -- only the chain text is not empty
   pub chains_writes : (status : Status) (text : List ℕ) → Due status → IsChainsText job letters relations status text → text ≢ [] →
       Writes commands.Chains status
   chains_writes Done text due h some = tt
-  chains_writes (Usage fault) text due h some = absurd due
-  chains_writes (Input problem) text due h some = absurd due
   chains_writes (Limit kind d value) text due h some = some h
   chains_writes (Chains d value) text due h some = some h
-  chains_writes (Products d value) text due h some = absurd due
-  chains_writes ReadFault text due h some = absurd due
-  chains_writes WriteFault text due h some = absurd due
-  chains_writes NoMemory text due h some = absurd due
+  chains_writes status text due h some = absurd due
 
   module _ (st : IsSetting (ideal_over job.modulus letters.weights relations)) where
     few_or_many : HasFewChains job letters relations → (d value : ℕ) → HasManyChains job letters relations d value → ⊥
@@ -93,59 +81,31 @@ module _ (job : Job) (letters : Letters) (relations : List (List Term)) where
         let same : value ≡ other = a.kept ∙ sym b.kept in
         λ i. Chains (at i) (same i)
 
-    done_is_one : (other : Status) → Due Done → Due other → Done ≡ other
-    done_is_one Done a b = refl
-    done_is_one (Usage fault) a b = absurd b
-    done_is_one (Input problem) a b = absurd b
-    done_is_one (Limit kind d value) a b = stopped kind d value a.0 b
-    done_is_one (Chains d value) a b = absurd (few_or_many a.1 d value b.1)
-    done_is_one (Products d value) a b = absurd b
-    done_is_one ReadFault a b = absurd b
-    done_is_one WriteFault a b = absurd b
-    done_is_one NoMemory a b = absurd b
-
-    many_is_one : (d value : ℕ) (other : Status) → Due (Chains d value) → Due other → Chains d value ≡ other
-    many_is_one d value Done a b = absurd (few_or_many b.1 d value a.1)
-    many_is_one d value (Usage fault) a b = absurd b
-    many_is_one d value (Input problem) a b = absurd b
-    many_is_one d value (Limit kind e other) a b = absurd (not_stopped kind e other a.0 b)
-    many_is_one d value (Chains e other) a b = one_many d value e other a.1 b.1
-    many_is_one d value (Products e other) a b = absurd b
-    many_is_one d value ReadFault a b = absurd b
-    many_is_one d value WriteFault a b = absurd b
-    many_is_one d value NoMemory a b = absurd b
-
-    limit_is_one : (kind : LimitKind) (d value : ℕ) (other : Status) → Due (Limit kind d value) → Due other → Limit kind d value ≡ other
-    limit_is_one kind d value Done a b = sym (stopped kind d value b.0 a)
-    limit_is_one kind d value (Usage fault) a b = absurd b
-    limit_is_one kind d value (Input problem) a b = absurd b
-    limit_is_one kind d value (Limit k e other) a b = one_task_status (chains_task job letters relations) st (Limit kind d value) (Limit k e other) a b
-    limit_is_one kind d value (Chains e other) a b = absurd (not_stopped kind d value b.0 a)
-    limit_is_one kind d value (Products e other) a b = absurd b
-    limit_is_one kind d value ReadFault a b = absurd b
-    limit_is_one kind d value WriteFault a b = absurd b
-    limit_is_one kind d value NoMemory a b = absurd b
-
     -- one status is due
     pub one_chains_status : (status other : Status) → Due status → Due other → status ≡ other
-    one_chains_status Done other a b = done_is_one other a b
-    one_chains_status (Usage fault) other a b = absurd a
-    one_chains_status (Input problem) other a b = absurd a
-    one_chains_status (Limit kind d value) other a b = limit_is_one kind d value other a b
-    one_chains_status (Chains d value) other a b = many_is_one d value other a b
-    one_chains_status (Products d value) other a b = absurd a
-    one_chains_status ReadFault other a b = absurd a
-    one_chains_status WriteFault other a b = absurd a
-    one_chains_status NoMemory other a b = absurd a
+    one_chains_status Done Done a b = refl
+    one_chains_status Done (Limit kind d value) a b = stopped kind d value a.0 b
+    one_chains_status Done (Chains d value) a b = absurd (few_or_many a.1 d value b.1)
+    one_chains_status (Limit kind d value) Done a b = sym (stopped kind d value b.0 a)
+    one_chains_status (Limit kind d value) (Limit k e other) a b =
+        one_task_status (chains_task job letters relations) st (Limit kind d value) (Limit k e other) a b
+    one_chains_status (Limit kind d value) (Chains e other) a b = absurd (not_stopped kind d value b.0 a)
+    one_chains_status (Chains d value) Done a b = absurd (few_or_many b.1 d value a.1)
+    one_chains_status (Chains d value) (Limit kind e other) a b = absurd (not_stopped kind e other a.0 b)
+    one_chains_status (Chains d value) (Chains e other) a b = one_many d value e other a.1 b.1
+    one_chains_status Done other a b = absurd b
+    one_chains_status (Limit kind d value) other a b = absurd b
+    one_chains_status (Chains d value) other a b = absurd b
+    one_chains_status status other a b = absurd a
 
   module _ (limits : List (LimitKind × ℕ)) (same : limits ≡ limits_of job.engine) (p : ℕ) (field : p ≡ job.modulus) where
     -- a limit of the engine
     pub refused_chains : (answer : Answer) (kind : LimitKind) (d value : ℕ) → answer ≡ record { status = Limit kind d value; text = [] } →
         IsFirstRefused (ideal_over p letters.weights relations) limits job.bound kind d value
-        → IsChainsOutcome job letters relations answer.status answer.text
+        → Outcome answer
     refused_chains answer kind d value is first =
         let own = own_refused job letters.weights relations limits same p field kind d value first in
-        subst (λ (a : Answer). IsChainsOutcome job letters relations a.status a.text) (sym is) ((refused kind d value, own, (refl, refl, refl)), refl)
+        subst Outcome (sym is) ((refused kind d value, own, (refl, refl, refl)), refl)
 
     own_whole : NonePassesUpto (ideal_over p letters.weights relations) limits job.bound → Tasked Done
     own_whole none = (
@@ -160,10 +120,10 @@ module _ (job : Job) (letters : Letters) (relations : List (List Term)) where
       own_setting = subst (λ (ws : List ℕ). IsSetting (ideal_over p ws relations)) (sym weights) st
 
       -- too many chains
-      pub many_chains : HasMinimalChains → ListsLower → (most d value : ℕ) (text : List ℕ) → most ≡ most_chains → value ≡ most + 1 → text ≡ []
-          → IsFirstMany (Contains (leads_of basis.elements)) (length basis.weights) basis.weights job.bound most d →
-          IsChainsOutcome job letters relations (Chains d value) text
-      many_chains law lower most d value text count plus empty first =
+      pub many_chains : HasMinimalChains → ListsLower → (answer : Answer) (most d value : ℕ) → answer ≡ record { status = Chains d value; text = [] }
+          → most ≡ most_chains → value ≡ most + 1
+          → IsFirstMany (Contains (leads_of basis.elements)) (length basis.weights) basis.weights job.bound most d → Outcome answer
+      many_chains law lower answer most d value is count plus first =
           let lists = lower (ideal_over p basis.weights relations) own_setting (basis.done + 1) basis
           (record { kept = kept; next = refl; same_weights = refl; reduced = reduced }) in
           let minimal = many_minimal law (ideal_over p basis.weights relations) own_setting (basis.done + 1) basis.elements lists job.bound most d
@@ -172,12 +132,13 @@ module _ (job : Job) (letters : Letters) (relations : List (List Term)) where
           d) field
           (subst (λ (ws : List ℕ). IsFirstMany (IsMinimal (ideal_over p ws relations)) (length ws) ws job.bound most d) weights minimal) in
           let many = subst (λ (n : ℕ). IsFirstMany T (length letters.weights) letters.weights job.bound n d) count own in
-          ((own_whole none, record { first = many; kept = plus ∙ ap (λ (n : ℕ). n + 1) count }), empty)
+          subst Outcome (sym is) ((own_whole none, record { first = many; kept = plus ∙ ap (λ (n : ℕ). n + 1) count }), refl)
 
       -- the chain text
-      pub told_chains : (text out : List ℕ) → out ≡ text → (IsSetting (ideal_over p basis.weights relations) → IsReducedUpto p relations basis
-          → HasChainText (IsMinimal (ideal_over p basis.weights relations)) letters job text) → IsChainsOutcome job letters relations Done out
-      told_chains text out is told =
+      pub told_chains : (answer : Answer) (text : List ℕ) → answer ≡ record { status = Done; text = text }
+          → (IsSetting (ideal_over p basis.weights relations) → IsReducedUpto p relations basis
+          → HasChainText (IsMinimal (ideal_over p basis.weights relations)) letters job text) → Outcome answer
+      told_chains answer text is told =
           let h = told own_setting reduced in
           let own : AreListed T (length letters.weights) letters.weights job.bound h.chains =
           subst (λ (m : ℕ). AreListed (IsMinimal (ideal_over m letters.weights relations)) (length letters.weights) letters.weights job.bound h.chains) field
@@ -188,5 +149,5 @@ module _ (job : Job) (letters : Letters) (relations : List (List Term)) where
             is_number = listed_number T (length letters.weights) letters.weights job.bound h.chains own;
             few = h.few;
           } in
-          let list : IsChainList job letters relations out = record { chains = h.chains; listed = own; printed = is ∙ h.printed } in
-          ((own_whole none, few), list)
+          let list : HasChainText T letters job text = record { chains = h.chains; listed = own; few = h.few; printed = h.printed } in
+          subst Outcome (sym is) ((own_whole none, few), list)

@@ -10,9 +10,10 @@ use Rattle.relation_reader.specs.Meaning.{FirstFault, HasOneReading, Reads}
 use Rattle.command_words.specs.declared.job.Command.{Command}
 use Rattle.command_words.specs.declared.job.Job.{Job}
 use Rattle.command_words.specs.JobOf.{HasOneAnswer, IsJob}
-use Rattle.job_steps.specs.declared.status.InputProblem.TheVariants.{TooLong, Text, TooFewNames, Shape, TooFewRelations, AboveBound}
+use Rattle.command_words.proofs.Digits.{modulus_some}
+use Rattle.job_steps.specs.declared.status.InputProblem.TheVariants.{TooLong, Text}
 use Rattle.job_steps.specs.declared.status.Status.{Status}
-use Rattle.job_steps.specs.declared.status.Status.TheVariants.{Done, Usage, Input, Limit, Chains, Products, ReadFault, WriteFault, NoMemory}
+use Rattle.job_steps.specs.declared.status.Status.TheVariants.{Usage, Input, ReadFault, WriteFault, NoMemory}
 use Rattle.job_steps.specs.States.{SinkState, SourceState}
 use Rattle.job_steps.specs.Status.{ReadsNothing}
 use Rattle.job_steps.specs.Statuses.{IsOwn}
@@ -22,7 +23,7 @@ use Rattle.bergman_cli.specs.Run.{Completes, IsCaused, IsDueTo, IsEnd, IsJobEnd,
 use Rattle.bergman_cli.proofs.Causes.{job_of_end, reads_nothing_not}
 use Rattle.bergman_cli.proofs.Given.{fault_mishap, given_input, given_is, input_is, long_mishap, make_or_reads, no_text_fault, one_reading}
 use Rattle.bergman_cli.proofs.Given.{read_mishap, told_input, ungiven_input}
-use Rattle.bergman_cli.proofs.Jobs.{listed, listed_some, no_fault, one_job}
+use Rattle.bergman_cli.proofs.Jobs.{listed, no_fault, one_job}
 use Rattle.bergman_cli.proofs.Works.{due_is_one, failed_writes, never, outcome_due, work_gained, work_write}
 
 module _ (job : Job) (law : HasOneReading) (some : 0 < job.modulus) (unread rest : SourceState) (before after : SinkState) where
@@ -89,23 +90,16 @@ module _ (job : Job) (law : HasOneReading) (some : 0 < job.modulus) (unread rest
         not_comes s none write memory e = absurd (never job letters relations before after job.command s none write memory e)
 
         by_status : (s : Status) → IsWorkEnd job letters relations before after s → Comes own s
-        by_status Done e = own_comes Done tt e
         by_status (Usage fault) e = not_comes (Usage fault) (λ none. none) (λ same. cc) (λ same. cc) e
         by_status (Input TooLong) e = not_comes (Input TooLong) (λ none. none) (λ same. cc) (λ same. cc) e
         by_status (Input (Text fault)) e = not_comes (Input (Text fault)) (λ none. none) (λ same. cc) (λ same. cc) e
-        by_status (Input (TooFewNames names)) e = own_comes (Input (TooFewNames names)) tt e
-        by_status (Input (Shape relation)) e = own_comes (Input (Shape relation)) tt e
-        by_status (Input (TooFewRelations number)) e = own_comes (Input (TooFewRelations number)) tt e
-        by_status (Input (AboveBound relation)) e = own_comes (Input (AboveBound relation)) tt e
-        by_status (Limit kind d value) e = own_comes (Limit kind d value) tt e
-        by_status (Chains d value) e = own_comes (Chains d value) tt e
-        by_status (Products d value) e = own_comes (Products d value) tt e
         by_status ReadFault e = not_comes ReadFault (λ none. none) (λ same. cc) (λ same. cc) e
         by_status WriteFault e = inr (
           failed_writes job letters relations before after job.command own st is e,
           work_write job letters relations before after job.command e,
         )
         by_status NoMemory e = inr tt
+        by_status s e = own_comes s tt e
 
     due_comes : (status : Status) → Ends status → Comes own status
     due_comes status (inl h) = inr (ungiven_mishap status h.0)
@@ -115,20 +109,9 @@ module _ (job : Job) (law : HasOneReading) (some : 0 < job.modulus) (unread rest
 
   -- each cause
   pub caused_comes : (own status : Status) → Ends status → IsCaused job unread.left own → Comes own status
-  caused_comes Done status end c = due_comes Done c status end
-  caused_comes (Usage fault) status end c = due_comes (Usage fault) c status end
   caused_comes (Input TooLong) status end c = too_long status end c.0 c.1.0 c.1.1 c.1.2
   caused_comes (Input (Text fault)) status end c = faulty status end c.0 c.1.0 c.1.1 c.1.2 fault c.1.3
-  caused_comes (Input (TooFewNames names)) status end c = due_comes (Input (TooFewNames names)) c status end
-  caused_comes (Input (Shape relation)) status end c = due_comes (Input (Shape relation)) c status end
-  caused_comes (Input (TooFewRelations relations)) status end c = due_comes (Input (TooFewRelations relations)) c status end
-  caused_comes (Input (AboveBound relation)) status end c = due_comes (Input (AboveBound relation)) c status end
-  caused_comes (Limit kind d value) status end c = due_comes (Limit kind d value) c status end
-  caused_comes (Chains d value) status end c = due_comes (Chains d value) c status end
-  caused_comes (Products d value) status end c = due_comes (Products d value) c status end
-  caused_comes ReadFault status end c = due_comes ReadFault c status end
-  caused_comes WriteFault status end c = due_comes WriteFault c status end
-  caused_comes NoMemory status end c = due_comes NoMemory c status end
+  caused_comes own status end c = due_comes own c status end
 
 module _ (words : List (List ℕ)) (unread rest : SourceState) (before after : SinkState)
     (one : HasOneAnswer words) (job : Job) (is : IsJob words job) where
@@ -149,7 +132,7 @@ module _ (words : List (List ℕ)) (unread rest : SourceState) (before after : S
 
   pub job_completes : HasOneReading → (own status : Status) → End status → IsCaused job unread.left own →
       (status ≡ own) ⊎ IsMishap job.command own unread rest before after status
-  job_completes law own status end cause = caused_comes job law (listed_some job.modulus (listed words job is)) unread rest before after own status
+  job_completes law own status end cause = caused_comes job law (modulus_some job.modulus (listed words job is)) unread rest before after own status
       (ends_of status end) cause
 
 pub completes : (words : List (List ℕ)) (unread rest : SourceState) (before after : SinkState) → HasOneAnswer words → HasOneReading

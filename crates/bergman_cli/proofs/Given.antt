@@ -11,60 +11,42 @@ use Rattle.relation_reader.specs.Meaning.{FirstFault, HasOneReading, Reads, read
 use Rattle.command_words.specs.declared.job.Command.{Command}
 use Rattle.command_words.specs.declared.job.Command.TheVariants as commands
 use Rattle.command_words.specs.declared.job.Job.{Job}
-use Rattle.job_steps.specs.declared.status.InputProblem.TheVariants.{TooLong, Text, TooFewNames, Shape, TooFewRelations, AboveBound}
+use Rattle.job_steps.specs.declared.status.InputProblem.TheVariants.{TooLong, Text}
 use Rattle.job_steps.specs.declared.status.Status.{Status}
-use Rattle.job_steps.specs.declared.status.Status.TheVariants.{Done, Usage, Input, Limit, Chains, Products, ReadFault, WriteFault, NoMemory}
+use Rattle.job_steps.specs.declared.status.Status.TheVariants.{Input, ReadFault, NoMemory}
 use Rattle.job_steps.specs.Inputs.{IsInput, IsInputEnd}
 use Rattle.job_steps.specs.States.{SinkState, SourceState}
 use Rattle.bergman_cli.specs.Run.{IsGivenTo, IsMishap, IsToldTo, IsUngivenTo, ReadsSource}
 
 -- make, or a command that reads its source
 pub make_or_reads : (command : Command) → (command ≡ commands.Make) ⊎ ReadsSource command
-make_or_reads commands.Gb = inr tt
 make_or_reads commands.Make = inl refl
-make_or_reads commands.Module = inr tt
-make_or_reads commands.Chains = inr tt
-make_or_reads commands.Normal = inr tt
+make_or_reads command = inr tt
 
 pub make_reads_nothing : (command : Command) → command ≡ commands.Make → ReadsSource command → ⊥
 make_reads_nothing command is reads = subst ReadsSource is reads
 
 module _ (job : Job) (left now : Option (List ℕ)) (text : List ℕ) where
   pub given_input : (command : Command) → ReadsSource command → IsGivenTo command job left now text → IsInput left now text
-  given_input commands.Gb reads h = h
   given_input commands.Make reads h = absurd reads
-  given_input commands.Module reads h = h
-  given_input commands.Chains reads h = h
-  given_input commands.Normal reads h = h
+  given_input command reads h = h
 
   pub input_given : (command : Command) → ReadsSource command → IsInput left now text → IsGivenTo command job left now text
-  input_given commands.Gb reads h = h
   input_given commands.Make reads h = absurd reads
-  input_given commands.Module reads h = h
-  input_given commands.Chains reads h = h
-  input_given commands.Normal reads h = h
+  input_given command reads h = h
 
   pub told_input : (command : Command) → ReadsSource command → IsToldTo command job left text → (left ≡ Some text) × (length text ≤ 1048576)
-  told_input commands.Gb reads h = h
   told_input commands.Make reads h = absurd reads
-  told_input commands.Module reads h = h
-  told_input commands.Chains reads h = h
-  told_input commands.Normal reads h = h
+  told_input command reads h = h
 
 module _ (p : ℕ) (unread rest : SourceState) (status : Status) where
   pub ungiven_input : (command : Command) → ReadsSource command → IsUngivenTo command p unread rest status → IsInputEnd p unread rest status
-  ungiven_input commands.Gb reads h = h
   ungiven_input commands.Make reads h = absurd reads
-  ungiven_input commands.Module reads h = h
-  ungiven_input commands.Chains reads h = h
-  ungiven_input commands.Normal reads h = h
+  ungiven_input command reads h = h
 
   pub input_ungiven : (command : Command) → ReadsSource command → IsInputEnd p unread rest status → IsUngivenTo command p unread rest status
-  input_ungiven commands.Gb reads h = h
   input_ungiven commands.Make reads h = absurd reads
-  input_ungiven commands.Module reads h = h
-  input_ungiven commands.Chains reads h = h
-  input_ungiven commands.Normal reads h = h
+  input_ungiven command reads h = h
 
 -- a text that is told is the one that was read to the end
 told_text : (xs text : List ℕ) (now : Option (List ℕ)) → IsInput (Some xs) now text → xs ≡ text
@@ -85,11 +67,8 @@ told_long left now text n told h = lost_long text now n (subst (λ (l : Option (
 -- the text that is told is the one that is given
 pub given_is : (command : Command) (job : Job) (left now : Option (List ℕ)) (text own : List ℕ) → IsToldTo command job left text →
     IsGivenTo command job left now own → text ≡ own
-given_is commands.Gb job left now text own told h = input_is left now text own told.0 h
 given_is commands.Make job left now text own told h = told ∙ sym h
-given_is commands.Module job left now text own told h = input_is left now text own told.0 h
-given_is commands.Chains job left now text own told h = input_is left now text own told.0 h
-given_is commands.Normal job left now text own told h = input_is left now text own told.0 h
+given_is command job left now text own told h = input_is left now text own told.0 h
 
 outcome_readings : (l m : Letters) (rs ss : List (List Term)) → reading l rs ≡ reading m ss → (l ≡ m) × (rs ≡ ss)
 outcome_readings l m rs ss e = (cc, cc)
@@ -117,57 +96,30 @@ module _ (p : ℕ) (unread rest : SourceState) (before after : SinkState) (text 
   -- the text has a reading
   pub read_mishap : length text ≤ 1048576 → ((fault : InputFault) → FirstFault text p fault → ⊥) → (own status : Status) →
       IsInputEnd p unread rest status → IsMishap command own unread rest before after status
-  read_mishap short none own Done h = absurd h
-  read_mishap short none own (Usage fault) h = absurd h
   read_mishap short none own (Input TooLong) h = absurd (omega (arith, short, told_long unread.left rest.left text 1048577 told h))
   read_mishap short none own (Input (Text fault)) h = absurd (none fault
       (subst (λ (t : List ℕ). FirstFault t p fault) (sym (input_is unread.left rest.left text h.0 told h.1)) h.2))
-  read_mishap short none own (Input (TooFewNames names)) h = absurd h
-  read_mishap short none own (Input (Shape relation)) h = absurd h
-  read_mishap short none own (Input (TooFewRelations relations)) h = absurd h
-  read_mishap short none own (Input (AboveBound relation)) h = absurd h
-  read_mishap short none own (Limit kind d value) h = absurd h
-  read_mishap short none own (Chains d value) h = absurd h
-  read_mishap short none own (Products d value) h = absurd h
   read_mishap short none own ReadFault h = (reads, h)
-  read_mishap short none own WriteFault h = absurd h
   read_mishap short none own NoMemory h = tt
+  read_mishap short none own status h = absurd h
 
   -- the text is too long
   pub long_mishap : 1048576 < length text → (status : Status) → IsInputEnd p unread rest status →
       (status ≡ Input TooLong) ⊎ IsMishap command (Input TooLong) unread rest before after status
-  long_mishap long Done h = absurd h
-  long_mishap long (Usage fault) h = absurd h
   long_mishap long (Input TooLong) h = inl refl
   long_mishap long (Input (Text fault)) h = absurd (omega (arith, long, h.1.short, ap length (input_is unread.left rest.left text h.0 told h.1)))
-  long_mishap long (Input (TooFewNames names)) h = absurd h
-  long_mishap long (Input (Shape relation)) h = absurd h
-  long_mishap long (Input (TooFewRelations relations)) h = absurd h
-  long_mishap long (Input (AboveBound relation)) h = absurd h
-  long_mishap long (Limit kind d value) h = absurd h
-  long_mishap long (Chains d value) h = absurd h
-  long_mishap long (Products d value) h = absurd h
   long_mishap long ReadFault h = inr (reads, h)
-  long_mishap long WriteFault h = absurd h
   long_mishap long NoMemory h = inr tt
+  long_mishap long status h = absurd h
 
   -- the text has this first fault
   pub fault_mishap : HasOneReading → 0 < p → length text ≤ 1048576 → (fault : InputFault) → FirstFault text p fault → (status : Status) →
       IsInputEnd p unread rest status
       → (status ≡ Input (Text fault)) ⊎ IsMishap command (Input (Text fault)) unread rest before after status
-  fault_mishap law some short fault first Done h = absurd h
-  fault_mishap law some short fault first (Usage own) h = absurd h
   fault_mishap law some short fault first (Input TooLong) h = absurd (omega (arith, short, told_long unread.left rest.left text 1048577 told h))
   fault_mishap law some short fault first (Input (Text own)) h =
       inl (ap (λ (f : InputFault). Input (Text f)) (one_text_fault law text p some own fault
       (subst (λ (t : List ℕ). FirstFault t p own) (sym (input_is unread.left rest.left text h.0 told h.1)) h.2) first))
-  fault_mishap law some short fault first (Input (TooFewNames names)) h = absurd h
-  fault_mishap law some short fault first (Input (Shape relation)) h = absurd h
-  fault_mishap law some short fault first (Input (TooFewRelations relations)) h = absurd h
-  fault_mishap law some short fault first (Input (AboveBound relation)) h = absurd h
-  fault_mishap law some short fault first (Limit kind d value) h = absurd h
-  fault_mishap law some short fault first (Chains d value) h = absurd h
-  fault_mishap law some short fault first (Products d value) h = absurd h
   fault_mishap law some short fault first ReadFault h = inr (reads, h)
-  fault_mishap law some short fault first WriteFault h = absurd h
   fault_mishap law some short fault first NoMemory h = inr tt
+  fault_mishap law some short fault first status h = absurd h

@@ -1,6 +1,6 @@
 -- One status is due to a module, and what goes with it.
-use Rattle.std.proofs.Common.{◌≡◌, ◌≢◌, ◌⊎◌, ◌+◌, ◌-◌, ◌<◌, ℕ, false, List, [], All, refl, sym, ap, ◌∙◌, inl, inr, arith, subst}
-use Rattle.std.proofs.lemmas.Bool.{cases_lt, false≢true}
+use Rattle.std.proofs.Common.{◌≡◌, ◌≢◌, ◌+◌, ◌-◌, ◌<◌, ℕ, false, List, [], All, refl, sym, ap, ◌∙◌, inl, inr, arith, subst}
+use Rattle.std.proofs.lemmas.Bool.{false≢true}
 use Rattle.std.proofs.lemmas.List.{get_or-take, length-take}
 use Rattle.words.specs.Names.{Letters}
 use Rattle.free_poly.specs.declared.term.Term.{Term}
@@ -14,11 +14,12 @@ use Rattle.right_modules.specs.Laws.{IsModuleSetting}
 use Rattle.right_modules.specs.Module.{IsShaped}
 use Rattle.right_modules.specs.ModuleDimension.{IsModuleCoefficient}
 use Rattle.right_modules.proofs.ModuleDimensions.{dimension_of_products, dimension_to_ideal}
+use Rattle.relation_reader.proofs.Numbers.{neither_less}
 use Rattle.command_words.specs.declared.job.Command.TheVariants.{Module}
 use Rattle.command_words.specs.declared.job.Job.{Job}
-use Rattle.job_steps.specs.declared.status.InputProblem.TheVariants.{TooLong, Text, TooFewNames, Shape, TooFewRelations, AboveBound}
+use Rattle.job_steps.specs.declared.status.InputProblem.TheVariants.{TooFewNames, Shape}
 use Rattle.job_steps.specs.declared.status.Status.{Status}
-use Rattle.job_steps.specs.declared.status.Status.TheVariants.{Done, Usage, Input, Limit, Chains, Products, ReadFault, WriteFault, NoMemory}
+use Rattle.job_steps.specs.declared.status.Status.TheVariants.{Done, Input, Limit, Products}
 use Rattle.job_steps.specs.Progress.{IsReach, Task, refused, whole}
 use Rattle.job_steps.specs.Status.{PrintsNothing}
 use Rattle.job_steps.specs.Statuses.{IsOwn}
@@ -36,13 +37,7 @@ module _ (free : ℕ) (relations : List (List Term)) where
       (hb.before (a - 1) [] (omega (arith, lt, ha.from, ha.upto, hb.upto, size))))
 
   one_other : (a b : ℕ) → IsFirstOther free relations a → IsFirstOther free relations b → a ≡ b
-  one_other a b ha hb = elim (cases_lt a b) [
-    | inl less ↦ absurd (other_below a b ha hb less)
-    | inr le ↦ elim (cases_lt b a) [
-      | inl less ↦ absurd (other_below b a hb ha less)
-      | inr ge ↦ omega (arith, le, ge)
-    ]
-  ]
+  one_other a b ha hb = neither_less a b (other_below a b ha hb) (other_below b a hb ha)
 
   -- and where it stands not all are of one of the kinds
   other_not_shaped : (a : ℕ) → IsFirstOther free relations a → All (IsShaped free) relations → ⊥
@@ -100,13 +95,7 @@ module _ (job : Job) (letters : Letters) (relations : List (List Term)) where
         omega (arith, one_coefficient shaped d f.0 h.coefficient f.1 h.is_coefficient, f.2, h.large)
 
     one_large : Shaped → (d v e w : ℕ) → Large d v → Large e w → d ≡ e
-    one_large shaped d v e w hd he = elim (cases_lt d e) [
-      | inl less ↦ absurd (few_not_large shaped e d v he.before hd less)
-      | inr le ↦ elim (cases_lt e d) [
-        | inl less ↦ absurd (few_not_large shaped d e w hd.before he less)
-        | inr ge ↦ omega (arith, le, ge)
-      ]
-    ]
+    one_large shaped d v e w hd he = neither_less d e (few_not_large shaped e d v he.before hd) (few_not_large shaped d e w hd.before he)
 
     abbrev Refused : LimitKind → ℕ → ℕ → Type 0
     Refused kind d value = IsFirstRefused (ideal_over job.modulus letters.weights relations) (limits_of job.engine) job.bound kind d value
@@ -125,98 +114,44 @@ module _ (job : Job) (letters : Letters) (relations : List (List Term)) where
     done_not_limit a k d v (m, inl b) = none_or_refused a.1 k d v b
     done_not_limit a k d v (m, inr b) = few_not_large a.0.1 (job.bound + 1) d v a.2 b.1.2 (omega (arith, b.1.1))
 
-    -- the kinds of a status that is due
-    abbrev IsDone : Status → Type 0
-    IsDone status = (status ≡ Done) × Due Done
-
-    abbrev IsNames : Status → Type 0
-    IsNames status = (names : ℕ) × (status ≡ Input (TooFewNames names)) × Due (Input (TooFewNames names))
-
-    abbrev IsShape : Status → Type 0
-    IsShape status = (relation : ℕ) × (status ≡ Input (Shape relation)) × Due (Input (Shape relation))
-
-    abbrev IsLimit : Status → Type 0
-    IsLimit status = (k : LimitKind) × (d : ℕ) × (v : ℕ) × (status ≡ Limit k d v) × Due (Limit k d v)
-
-    abbrev IsKind : Status → Type 0
-    IsKind status = IsDone status ⊎ (IsNames status ⊎ (IsShape status ⊎ IsLimit status))
-
-    kind_of : (status : Status) → Due status → IsKind status
-    kind_of Done h = inl (refl, h)
-    kind_of (Usage fault) h = absurd h
-    kind_of (Input TooLong) h = absurd h
-    kind_of (Input (Text fault)) h = absurd h
-    kind_of (Input (TooFewNames names)) h = inr (inl (names, refl, h))
-    kind_of (Input (Shape relation)) h = inr (inr (inl (relation, refl, h)))
-    kind_of (Input (TooFewRelations relations)) h = absurd h
-    kind_of (Input (AboveBound relation)) h = absurd h
-    kind_of (Limit kind d value) h = inr (inr (inr (kind, d, value, refl, h)))
-    kind_of (Chains d value) h = absurd h
-    kind_of (Products d value) h = absurd h
-    kind_of ReadFault h = absurd h
-    kind_of WriteFault h = absurd h
-    kind_of NoMemory h = absurd h
-
-    one_kind : (s t : Status) → IsKind s → IsKind t → s ≡ t
-    one_kind s t (inl a) (inl b) = a.0 ∙ sym b.0
-    one_kind s t (inl a) (inr (inl b)) = absurd (omega (arith, a.1.0.0, b.2.0, b.2.1))
-    one_kind s t (inl a) (inr (inr (inl b))) = absurd (other_not_shaped free relations b.0 b.2.1 a.1.0.1)
-    one_kind s t (inl a) (inr (inr (inr b))) = absurd (done_not_limit a.1 b.0 b.1 b.2 b.4)
-    one_kind s t (inr (inl a)) (inl b) = absurd (omega (arith, b.1.0.0, a.2.0, a.2.1))
-    one_kind s t (inr (inl a)) (inr (inl b)) = a.1 ∙ ap (λ (n : ℕ). Input (TooFewNames n)) (a.2.1 ∙ sym b.2.1) ∙ sym b.1
-    one_kind s t (inr (inl a)) (inr (inr (inl b))) = absurd (omega (arith, b.2.0, a.2.0, a.2.1))
-    one_kind s t (inr (inl a)) (inr (inr (inr b))) = absurd (omega (arith, b.4.0.0, a.2.0, a.2.1))
-    one_kind s t (inr (inr (inl a))) (inl b) = absurd (other_not_shaped free relations a.0 a.2.1 b.1.0.1)
-    one_kind s t (inr (inr (inl a))) (inr (inl b)) = absurd (omega (arith, a.2.0, b.2.0, b.2.1))
-    one_kind s t (inr (inr (inl a))) (inr (inr (inl b))) = a.1 ∙ ap (λ (n : ℕ). Input (Shape n)) (one_other free relations a.0 b.0 a.2.1 b.2.1) ∙ sym b.1
-    one_kind s t (inr (inr (inl a))) (inr (inr (inr b))) = absurd (other_not_shaped free relations a.0 a.2.1 b.4.0.1)
-    one_kind s t (inr (inr (inr a))) (inl b) = absurd (done_not_limit b.1 a.0 a.1 a.2 a.4)
-    one_kind s t (inr (inr (inr a))) (inr (inl b)) = absurd (omega (arith, a.4.0.0, b.2.0, b.2.1))
-    one_kind s t (inr (inr (inr a))) (inr (inr (inl b))) = absurd (other_not_shaped free relations b.0 b.2.1 a.4.0.1)
-    one_kind s t (inr (inr (inr a))) (inr (inr (inr b))) =
-        let same = one_limit a.0 b.0 a.1 a.2 b.1 b.2 a.4 b.4 in
-        a.3 ∙ (λ i. Limit (same.0 i) (same.1 i) (same.2 i)) ∙ sym b.3
-
     -- one status is due
     pub one_module_status : (status other : Status) → Due status → Due other → status ≡ other
-    one_module_status status other a b = one_kind status other (kind_of status a) (kind_of other b)
+    one_module_status Done Done a b = refl
+    one_module_status Done (Input (TooFewNames n)) a b = absurd (omega (arith, a.0.0, b.0, b.1))
+    one_module_status Done (Input (Shape r)) a b = absurd (other_not_shaped free relations r b.1 a.0.1)
+    one_module_status Done (Limit k d v) a b = absurd (done_not_limit a k d v b)
+    one_module_status (Input (TooFewNames m)) Done a b = absurd (omega (arith, b.0.0, a.0, a.1))
+    one_module_status (Input (TooFewNames m)) (Input (TooFewNames n)) a b = ap (λ (k : ℕ). Input (TooFewNames k)) (a.1 ∙ sym b.1)
+    one_module_status (Input (TooFewNames m)) (Input (Shape r)) a b = absurd (omega (arith, b.0, a.0, a.1))
+    one_module_status (Input (TooFewNames m)) (Limit k d v) a b = absurd (omega (arith, b.0.0, a.0, a.1))
+    one_module_status (Input (Shape q)) Done a b = absurd (other_not_shaped free relations q a.1 b.0.1)
+    one_module_status (Input (Shape q)) (Input (TooFewNames n)) a b = absurd (omega (arith, a.0, b.0, b.1))
+    one_module_status (Input (Shape q)) (Input (Shape r)) a b = ap (λ (n : ℕ). Input (Shape n)) (one_other free relations q r a.1 b.1)
+    one_module_status (Input (Shape q)) (Limit k d v) a b = absurd (other_not_shaped free relations q a.1 b.0.1)
+    one_module_status (Limit k d v) Done a b = absurd (done_not_limit b k d v a)
+    one_module_status (Limit k d v) (Input (TooFewNames n)) a b = absurd (omega (arith, a.0.0, b.0, b.1))
+    one_module_status (Limit k d v) (Input (Shape r)) a b = absurd (other_not_shaped free relations r b.1 a.0.1)
+    one_module_status (Limit k d v) (Limit l e w) a b = let same = one_limit k l d v e w a b in λ i. Limit (same.0 i) (same.1 i) (same.2 i)
+    one_module_status Done other a b = absurd b
+    one_module_status (Input (TooFewNames m)) other a b = absurd b
+    one_module_status (Input (Shape q)) other a b = absurd b
+    one_module_status (Limit k d v) other a b = absurd b
+    one_module_status status other a b = absurd a
 
   pub module_status_own : (status : Status) → Due status → IsOwn status
   module_status_own Done h = tt
-  module_status_own (Usage fault) h = absurd h
-  module_status_own (Input TooLong) h = absurd h
-  module_status_own (Input (Text fault)) h = absurd h
   module_status_own (Input (TooFewNames names)) h = tt
   module_status_own (Input (Shape relation)) h = tt
-  module_status_own (Input (TooFewRelations relations)) h = absurd h
-  module_status_own (Input (AboveBound relation)) h = absurd h
   module_status_own (Limit kind d value) h = tt
-  module_status_own (Chains d value) h = absurd h
-  module_status_own (Products d value) h = absurd h
-  module_status_own ReadFault h = absurd h
-  module_status_own WriteFault h = absurd h
-  module_status_own NoMemory h = absurd h
+  module_status_own status h = absurd h
 
   -- where nothing may be printed the text is empty
   pub module_quiet : (status : Status) (text : List ℕ) → IsTextWith job letters relations status text → PrintsNothing status → text ≡ []
   module_quiet Done text h none = absurd none
-  module_quiet (Usage fault) text h none = h
-  module_quiet (Input problem) text h none = h
-  module_quiet (Limit kind d value) text h none = h
-  module_quiet (Chains d value) text h none = h
-  module_quiet (Products d value) text h none = h
-  module_quiet ReadFault text h none = h
-  module_quiet WriteFault text h none = h
-  module_quiet NoMemory text h none = h
+  module_quiet status text h none = h
 
   -- a text that is not empty is that of the whole module
   pub module_writes : (status : Status) (text : List ℕ) → IsTextWith job letters relations status text → text ≢ [] → Writes Module status
   module_writes Done text h some = tt
-  module_writes (Usage fault) text h some = absurd (some h)
-  module_writes (Input problem) text h some = absurd (some h)
-  module_writes (Limit kind d value) text h some = absurd (some h)
-  module_writes (Chains d value) text h some = absurd (some h)
   module_writes (Products d value) text h some = tt
-  module_writes ReadFault text h some = absurd (some h)
-  module_writes WriteFault text h some = absurd (some h)
-  module_writes NoMemory text h some = absurd (some h)
+  module_writes status text h some = absurd (some h)

@@ -1,12 +1,12 @@
 -- The command normal ends in one way, with a status of its own.
-use Rattle.std.proofs.Common.{◌≡◌, ◌≢◌, ◌<◌, ◌≤◌, ℕ, List, [], length, refl, sym, ap, ◌∙◌, inl, inr, arith, subst, take}
-use Rattle.std.proofs.lemmas.Bool.{cases_lt}
+use Rattle.std.proofs.Common.{◌≡◌, ◌≢◌, ◌<◌, ◌≤◌, ℕ, List, [], length, refl, sym, ap, ◌∙◌, arith, subst, take}
 use Rattle.std.proofs.lemmas.List.Elements.{All-take}
 use Rattle.words.specs.Names.{Letters}
 use Rattle.free_poly.specs.declared.term.Term.{Term}
 use Rattle.ideal_laws.specs.Ideal.{ideal_over}
 use Rattle.ideal_laws.specs.declared.limits.LimitKind.{LimitKind}
 use Rattle.ideal_laws.specs.Laws.{IsRelation, IsSetting}
+use Rattle.relation_reader.proofs.Numbers.{neither_less}
 use Rattle.command_words.specs.declared.job.Command.TheVariants.{Normal}
 use Rattle.command_words.specs.declared.job.Job.{Job}
 use Rattle.job_steps.specs.declared.status.Status.{Status}
@@ -20,13 +20,7 @@ use Rattle.bergman_cli.specs.Outcomes.{Writes}
 
 -- one place is the first
 first_is_one : (P : List Term → Type 0) (fs : List (List Term)) (a b : ℕ) → IsFirstPlace P fs a → IsFirstPlace P fs b → a ≡ b
-first_is_one P fs a b h k = elim (cases_lt a b) [
-  | inl less ↦ absurd (k.before a less h.here)
-  | inr le ↦ elim (cases_lt b a) [
-    | inl less ↦ absurd (h.before b less k.here)
-    | inr ge ↦ let same : a ≡ b = omega (arith, le, ge) in same
-  ]
-]
+first_is_one P fs a b h k = neither_less a b (λ less. k.before a less h.here) (λ less. h.before b less k.here)
 
 none_has_first : (P : List Term → Type 0) (fs : List (List Term)) (a : ℕ) → HasNone P fs → IsFirstPlace P fs a → ⊥
 none_has_first P fs a none first = none a first.within first.here

@@ -8,7 +8,7 @@ use Rattle.ideal_laws.specs.declared.limits.LimitKind.{LimitKind}
 use Rattle.ideal_laws.specs.declared.limits.LimitKind.TheVariants.{PlainWords, Terms}
 use Rattle.ideal_laws.specs.Laws.{IsSetting}
 use Rattle.command_words.specs.declared.job.EngineKind.{EngineKind}
-use Rattle.command_words.specs.declared.job.EngineKind.TheVariants.{Race, Core, Seq, Plain}
+use Rattle.command_words.specs.declared.job.EngineKind.TheVariants.{Plain}
 use Rattle.command_words.specs.declared.job.Job.{Job}
 use Rattle.job_steps.specs.Reaches.{BoundsElements, IsPosed}
 use Rattle.job_steps.proofs.OneOutcome.{has_one_outcome}
@@ -16,10 +16,8 @@ use Rattle.bergman_cli.specs.Engines.{limits_of}
 use Rattle.bergman_cli.specs.Gb.{HasOneGbOutcome, gb_task}
 
 bounding : (engine : EngineKind) → (limit : LimitKind × ℕ) × Contains (limits_of engine) limit × BoundsElements limit.0 limit.1
-bounding Race = ((Terms, 16777216), (4, omega arith, refl), omega arith)
-bounding Core = ((Terms, 16777216), (4, omega arith, refl), omega arith)
-bounding Seq = ((Terms, 16777216), (4, omega arith, refl), omega arith)
 bounding Plain = ((PlainWords, 4096), (0, omega arith, refl), omega arith)
+bounding engine = ((Terms, 16777216), (4, omega arith, refl), omega arith)
 
 pub gb_posed : (job : Job) (letters : Letters) (relations : List (List Term)) → job.bound ≤ 64 → IsAlphabet letters →
     IsSetting (ideal_over job.modulus letters.weights relations) → IsPosed (gb_task job letters relations)

@@ -18,7 +18,7 @@ use Rattle.job_steps.specs.declared.print.Asked.{Asked}
 use Rattle.job_steps.specs.declared.print.PrintFault.{PrintFault}
 use Rattle.job_steps.specs.declared.print.PrintFault.TheVariants as stops
 use Rattle.job_steps.specs.declared.status.Status.{Status}
-use Rattle.job_steps.specs.declared.status.Status.TheVariants.{Done, Usage, Input, Limit, Chains, Products, ReadFault, WriteFault, NoMemory}
+use Rattle.job_steps.specs.declared.status.Status.TheVariants.{Done, Limit, WriteFault, NoMemory}
 use Rattle.job_steps.specs.Gains.{IsUndone}
 use Rattle.job_steps.specs.Printing.{task_of}
 use Rattle.job_steps.specs.Progress.{Task, ideal_of_task}
@@ -149,32 +149,22 @@ IsTraced status = ⊥
 module _ (job : Job) (letters : Letters) (relations : List (List Term)) (before after : SinkState) (trace : List ℕ) where
   gb_untraced : (status : Status) → (IsTraced status → ⊥) → IsWorkTraceOf commands.Gb job letters relations before after status trace → trace ≡ []
   gb_untraced Done none h = absurd (none tt)
-  gb_untraced (Usage fault) none h = absurd h
-  gb_untraced (Input problem) none h = absurd h
   gb_untraced (Limit kind d value) none h = absurd (none tt)
-  gb_untraced (Chains d value) none h = absurd h
-  gb_untraced (Products d value) none h = absurd h
-  gb_untraced ReadFault none h = absurd h
   gb_untraced WriteFault none h = absurd (none tt)
   gb_untraced NoMemory none h = absurd (none tt)
+  gb_untraced status none h = absurd h
 
   -- another status has none
   untraced : (command : Command) (status : Status) → (IsTraced status → ⊥) →
       IsWorkTraceOf command job letters relations before after status trace → trace ≡ []
   untraced commands.Gb status none h = gb_untraced status none h
-  untraced commands.Make status none h = h
-  untraced commands.Module status none h = h
-  untraced commands.Chains status none h = h
-  untraced commands.Normal status none h = h
+  untraced command status none h = h
 
   -- a command other than gb has none
   pub no_trace : (command : Command) (status : Status) → command ≢ commands.Gb → trace ≡ [] →
       IsWorkTraceOf command job letters relations before after status trace
   no_trace commands.Gb status other h = absurd (other refl)
-  no_trace commands.Make status other h = h
-  no_trace commands.Module status other h = h
-  no_trace commands.Chains status other h = h
-  no_trace commands.Normal status other h = h
+  no_trace command status other h = h
 
 -- nothing is told of its work
 pub untold : (job : Job) (letters : Letters) (relations : List (List Term)) (before after : SinkState) (status : Status) → job.command ≢ commands.Gb →
@@ -212,11 +202,7 @@ module _ (words : List (List ℕ)) (left now : Option (List ℕ)) (before after 
 
     pub work_trace : (status : Status) → IsWorkTrace job letters relations before after status trace → Traces status trace
     work_trace Done h = given_trace Done h
-    work_trace (Usage fault) h = none_of (Usage fault) (λ none. none) h
-    work_trace (Input problem) h = none_of (Input problem) (λ none. none) h
     work_trace (Limit kind d value) h = given_trace (Limit kind d value) h
-    work_trace (Chains d value) h = none_of (Chains d value) (λ none. none) h
-    work_trace (Products d value) h = none_of (Products d value) (λ none. none) h
-    work_trace ReadFault h = none_of ReadFault (λ none. none) h
     work_trace WriteFault h = given_trace WriteFault h
     work_trace NoMemory h = inr (given_trace NoMemory h)
+    work_trace status h = none_of status (λ none. none) h

@@ -44,10 +44,8 @@ module _ (job : Job) (letters : Letters) (relations : List (List Term)) where
   -- an outcome has the status that is due
   pub outcome_due : (command : Command) (status : Status) (text : List ℕ) → Outcome command status text → Due command status
   outcome_due Gb status text h = task_outcome_status (gb_task job letters relations) status text h
-  outcome_due Make status text h = h.0
-  outcome_due Module status text h = h.0
-  outcome_due Chains status text h = h.0
   outcome_due Normal status text h = (h.0, h.1, h.2)
+  outcome_due command status text h = h.0
 
   pub due_own : (command : Command) (status : Status) → Due command status → IsOwn status
   due_own Gb status h = task_status_own (gb_task job letters relations) status h
@@ -67,26 +65,14 @@ module _ (job : Job) (letters : Letters) (relations : List (List Term)) where
 
   gb_writes : (status : Status) → IsTaskStatus (gb_task job letters relations) status → Writes Gb status
   gb_writes statuses.Done h = tt
-  gb_writes (statuses.Usage fault) h = absurd h
-  gb_writes (statuses.Input problem) h = absurd h
   gb_writes (statuses.Limit kind d value) h = tt
-  gb_writes (statuses.Chains d value) h = absurd h
-  gb_writes (statuses.Products d value) h = absurd h
-  gb_writes statuses.ReadFault h = absurd h
-  gb_writes statuses.WriteFault h = absurd h
-  gb_writes statuses.NoMemory h = absurd h
+  gb_writes status h = absurd h
 
   make_writes : (status : Status) (text : List ℕ) → IsTaskStatus (make_task job letters relations) status →
       IsMakeText job letters relations status text → text ≢ [] → Writes Make status
   make_writes statuses.Done text due h some = tt
-  make_writes (statuses.Usage fault) text due h some = absurd due
-  make_writes (statuses.Input problem) text due h some = absurd due
   make_writes (statuses.Limit kind d value) text due h some = some h
-  make_writes (statuses.Chains d value) text due h some = absurd due
-  make_writes (statuses.Products d value) text due h some = absurd due
-  make_writes statuses.ReadFault text due h some = absurd due
-  make_writes statuses.WriteFault text due h some = absurd due
-  make_writes statuses.NoMemory text due h some = absurd due
+  make_writes status text due h some = absurd due
 
   -- a text that is not empty is written
   pub some_writes : (command : Command) (status : Status) (text : List ℕ) → Outcome command status text → text ≢ [] → Writes command status
@@ -104,42 +90,30 @@ module _ (job : Job) (letters : Letters) (relations : List (List Term)) where
     pub answer_ends : (command : Command) → command ≢ Gb → command ≢ Normal → (own : Status) (text : List ℕ) → Outcome command own text → (status : Status) →
         IsAnswered (IsThis own text) before after status → Ends command status
     answer_ends Gb degrees questions own text is status h = absurd (degrees refl)
-    answer_ends Make degrees questions own text is status h = answered_by (Outcome Make) before after own text is status h
-    answer_ends Module degrees questions own text is status h = answered_by (Outcome Module) before after own text is status h
-    answer_ends Chains degrees questions own text is status h = answered_by (Outcome Chains) before after own text is status h
     answer_ends Normal degrees questions own text is status h = absurd (questions refl)
+    answer_ends command degrees questions own text is status h = answered_by (Outcome command) before after own text is status h
 
     -- work that ended by itself has gained the text of an outcome
     pub work_gained : (command : Command) (status : Status) → Ends command status → IsOwn status → HasGained before after (Outcome command status)
     work_gained Gb status h own = task_gained (gb_task job letters relations) before after status h own
-    work_gained Make status h own = answered_gained (Outcome Make) before after status h own
-    work_gained Module status h own = answered_gained (Outcome Module) before after status h own
-    work_gained Chains status h own = answered_gained (Outcome Chains) before after status h own
     work_gained Normal status h own = answered_gained (Outcome Normal) before after status
         (of_parts (Outcome Normal) before after status (λ is. subst IsOwn is own) h) own
+    work_gained command status h own = answered_gained (Outcome command) before after status h own
 
     pub work_write : (command : Command) → Ends command statuses.WriteFault → Rose before.faults after.faults
     work_write Gb h = h.0
-    work_write Make h = h.0
-    work_write Module h = h.0
-    work_write Chains h = h.0
-    work_write Normal h = h.0
+    work_write command h = h.0
 
     module _ (posed : IsPosed (gb_task job letters relations)) where
       pub work_part : (command : Command) → Ends command statuses.WriteFault → HasWrittenPartOf command job letters relations before after
       work_part Gb h = (outcome_part (gb_task job letters relations) posed before after h.1, h.1)
-      work_part Make h = h.1
-      work_part Module h = h.1
-      work_part Chains h = h.1
-      work_part Normal h = h.1
+      work_part command h = h.1
 
       pub work_memory : (command : Command) → Ends command statuses.NoMemory →
           Appends before.held after.held [] ⊎ HasWrittenSomeOf command job letters relations before after
       work_memory Gb h = inr (outcome_some (gb_task job letters relations) posed before after h, h)
-      work_memory Make h = inl h
-      work_memory Module h = inl h
-      work_memory Chains h = inl h
       work_memory Normal h = h
+      work_memory command h = inl h
 
     part_writes : (command : Command) (own : Status) → IsSetting (ideal_over job.modulus letters.weights relations) → Due command own →
         HasGainedPart before after (Outcome command) → Writes command own
@@ -151,22 +125,15 @@ module _ (job : Job) (letters : Letters) (relations : List (List Term)) where
     pub failed_writes : (command : Command) (own : Status) → IsSetting (ideal_over job.modulus letters.weights relations) → Due command own →
         Ends command statuses.WriteFault → Writes command own
     failed_writes Gb own st due h = gb_writes own due
-    failed_writes Make own st due h = part_writes Make own st due h.1
-    failed_writes Module own st due h = part_writes Module own st due h.1
-    failed_writes Chains own st due h = part_writes Chains own st due h.1
-    failed_writes Normal own st due h = part_writes Normal own st due h.1
+    failed_writes command own st due h = part_writes command own st due h.1
 
     gb_never : (status : Status) → (IsOwn status → ⊥) → status ≢ statuses.WriteFault → status ≢ statuses.NoMemory →
         IsTaskEnd (gb_task job letters relations) before after status → ⊥
     gb_never statuses.Done own write memory h = own tt
-    gb_never (statuses.Usage fault) own write memory h = h
-    gb_never (statuses.Input problem) own write memory h = h
     gb_never (statuses.Limit kind d value) own write memory h = own tt
-    gb_never (statuses.Chains d value) own write memory h = h
-    gb_never (statuses.Products d value) own write memory h = h
-    gb_never statuses.ReadFault own write memory h = h
     gb_never statuses.WriteFault own write memory h = write refl
     gb_never statuses.NoMemory own write memory h = memory refl
+    gb_never status own write memory h = h
 
     gained_own : (command : Command) (status : Status) → HasGained before after (Outcome command status) → IsOwn status
     gained_own command status h = due_own command status (outcome_due command status h.0 h.1)
@@ -186,8 +153,6 @@ module _ (job : Job) (letters : Letters) (relations : List (List Term)) where
     -- a status that the work does not end with
     pub never : (command : Command) (status : Status) → (IsOwn status → ⊥) → status ≢ statuses.WriteFault → status ≢ statuses.NoMemory → Ends command status → ⊥
     never Gb status own write memory h = gb_never status own write memory h
-    never Make status own write memory h = answered_never Make status own write memory h
-    never Module status own write memory h = answered_never Module status own write memory h
-    never Chains status own write memory h = answered_never Chains status own write memory h
     never Normal status own write memory h = answered_never Normal status own write memory
         (of_parts (Outcome Normal) before after status memory h)
+    never command status own write memory h = answered_never command status own write memory h

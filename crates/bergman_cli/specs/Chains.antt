@@ -50,16 +50,10 @@ pub record HasChainText (T : List ℕ → Type 0) (letters : Letters) (job : Job
   pub few : length chains ≤ most_chains
   pub printed : text ≡ chain_text letters.names job.list chains
 
--- the chain text of the chains up to the bound
-pub record IsChainList (job : Job) (letters : Letters) (relations : List (List Term)) (text : List ℕ) : Type 0 where
-  pub chains : List Chain
-  pub listed : AreListed (IsMinimal (ideal_over job.modulus letters.weights relations)) (length letters.weights)
-      letters.weights job.bound chains
-  pub printed : text ≡ chain_text letters.names job.list chains
-
 -- what is printed where the command ends so: the chain text, or nothing at a limit
 abbrev pub IsChainsText : Job → Letters → List (List Term) → Status → List ℕ → Type 0
-IsChainsText job letters relations Done text = IsChainList job letters relations text
+IsChainsText job letters relations Done text =
+    HasChainText (IsMinimal (ideal_over job.modulus letters.weights relations)) letters job text
 IsChainsText job letters relations status text = text ≡ []
 
 -- an end of the command, with its text

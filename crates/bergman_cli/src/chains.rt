@@ -16,7 +16,7 @@ use ideal_laws::{Basis, DegreeEngine, Presentation, lower_law, run, setting_law}
 use job_steps::{Answer, Status};
 use std::alloc::{AllocError, Global};
 use std::thread::Threads;
-use words::{Alphabet, Items, NoMemory};
+use words::{Alphabet, NoMemory};
 
 /// So many chains are listed at most.
 const MOST_CHAINS: u32 = 1_048_576;
@@ -42,17 +42,11 @@ pub fn chains_answer<R: Threads + Sync, E: DegreeEngine>(
         Err(fault) => return Answer::stopped(alloc, fault),
     };
     match chain_lines(alloc, job, &given.alphabet, &basis) {
-        Ok(text) => Ok(Answer {
-            status: Status::Done,
-            text: Items::from_vec(text),
-        }),
-        Err(ChainFault::TooMany { degree }) => Ok(Answer {
-            status: Status::Chains {
-                degree,
-                value: u64::from(MOST_CHAINS) + 1,
-            },
-            text: Items::from_vec(Vec::new(alloc)),
-        }),
+        Ok(text) => Ok(Answer::done(text)),
+        Err(ChainFault::TooMany { degree }) => {
+            let value = u64::from(MOST_CHAINS) + 1;
+            Ok(Answer::without_text(alloc, Status::Chains { degree, value }))
+        }
         Err(ChainFault::NoMemory) => Err(AllocError),
     }
 }

@@ -11,10 +11,10 @@ use ideal_laws::{
     Basis, DegreeEngine, LimitKind, Limits, Presentation, lower_law, run, setting_law,
 };
 use itoa::Buffer;
-use job_steps::{Answer, Status};
+use job_steps::Answer;
 use std::alloc::{AllocError, Global};
 use std::thread::Threads;
-use words::{Items, NoMemory};
+use words::NoMemory;
 
 /// The command `make`: the summary of the basis and of the last coefficient.
 pub fn make_answer<R: Threads + Sync, E: DegreeEngine>(
@@ -47,10 +47,7 @@ pub fn make_answer<R: Threads + Sync, E: DegreeEngine>(
             let coefficient = numbers[job.bound as usize];
             let relations = given.relations.as_slice().len();
             let text = summary_text(alloc, job, relations, &basis, coefficient)?;
-            Ok(Answer {
-                status: Status::Done,
-                text: Items::from_vec(text),
-            })
+            Ok(Answer::done(text))
         }
         Err(SeriesFault::Limit { degree, value, .. }) => {
             Ok(Answer::limit(alloc, LimitKind::NormalWords, degree, value))
@@ -110,7 +107,7 @@ fn coefficients_in(terms: &[Term]) -> u128
     sum
 }
 
-pub(crate) fn push_line(text: &mut Vec<u8>, name: &[u8], number: u128) -> Result<(), NoMemory>
+fn push_line(text: &mut Vec<u8>, name: &[u8], number: u128) -> Result<(), NoMemory>
     ensures { IfOk result (λ _. text.new.items ≡ text.old.items ++ number_line name.now number) }
 {
     text.extend_from_slice(name)?;
@@ -119,7 +116,7 @@ pub(crate) fn push_line(text: &mut Vec<u8>, name: &[u8], number: u128) -> Result
     text.extend_from_slice(b"\n")
 }
 
-pub(crate) fn push_number(text: &mut Vec<u8>, number: u128) -> Result<(), NoMemory>
+fn push_number(text: &mut Vec<u8>, number: u128) -> Result<(), NoMemory>
     ensures { IfOk result (λ _. text.new.items ≡ text.old.items ++ decimal number) }
 {
     let mut digits = Buffer::new();

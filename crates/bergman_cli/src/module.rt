@@ -1,20 +1,18 @@
 ghost use Rattle.std.specs.Prelude.{◌≡◌, ◌++◌, ◌≤◌, [], IfOk, length};
-ghost use Rattle.job_steps.specs.declared.status.Status.TheVariants.{Input};
 ghost use Rattle.right_modules.specs.Answered.{AreModuleDegrees, AreModuleNumbers};
 ghost use Rattle.bergman_cli.specs.Jobs.{IsAsked};
 ghost use Rattle.bergman_cli.specs.Module.{IsModuleBasisText, IsModuleOutcome, IsModuleText, free_of};
 ghost use Rattle.bergman_cli.specs.Module.{module_series_text};
 
-use crate::make::{push_line, push_number};
 use command_words::{Command, Job, Show};
 use field_table::Field;
 use ideal_laws::{DegreeEngine, Limits, Presentation, setting_law};
 use job_steps::{Answer, InputProblem, Status};
-use poly_writer::degree_text;
+use poly_writer::{degree_text, push_series};
 use right_modules::{ModuleBasis, ModuleDegree, ModuleFault, module_basis};
 use std::alloc::{AllocError, Global};
 use std::thread::Threads;
-use words::{Items, NoMemory};
+use words::NoMemory;
 
 /// The command `module`: the reduced basis of a right module and its coefficients, as far as the job shows them.
 pub fn module_answer<R: Threads + Sync, E: DegreeEngine>(
@@ -32,7 +30,8 @@ pub fn module_answer<R: Threads + Sync, E: DegreeEngine>(
 {
     let names = given.alphabet.len();
     if names < job.gens {
-        return Ok(refused(alloc, InputProblem::TooFewNames { names }));
+        let status = Status::Input(InputProblem::TooFewNames { names });
+        return Ok(Answer::without_text(alloc, status));
     }
     setting_law(field, given);
     let limits = Limits::standard();
@@ -41,13 +40,11 @@ pub fn module_answer<R: Threads + Sync, E: DegreeEngine>(
     ) {
         Ok(computed) => {
             let text = module_text(alloc, job, field, given, &computed)?;
-            Ok(Answer {
-                status: Status::Done,
-                text: Items::from_vec(text),
-            })
+            Ok(Answer::done(text))
         }
         Err(ModuleFault::Shape { relation }) => {
-            Ok(refused(alloc, InputProblem::Shape { relation }))
+            let status = Status::Input(InputProblem::Shape { relation });
+            Ok(Answer::without_text(alloc, status))
         }
         Err(
             ModuleFault::Limit {
@@ -57,16 +54,6 @@ pub fn module_answer<R: Threads + Sync, E: DegreeEngine>(
             },
         ) => Ok(Answer::limit(alloc, kind, degree, value)),
         Err(ModuleFault::NoMemory) => Err(AllocError),
-    }
-}
-
-/// The command can't work on the input, and there is no text.
-pub fn refused(alloc: Global, problem: InputProblem) -> Answer
-    ensures { result ≡ record { status = Input problem; text = [] } }
-{
-    Answer {
-        status: Status::Input(problem),
-        text: Items::from_vec(Vec::new(alloc)),
     }
 }
 
@@ -128,9 +115,6 @@ fn series_text(alloc: Global, numbers: &[u64]) -> Result<Vec<u8>, NoMemory>
     ensures { IfOk result (λ text. text.items ≡ module_series_text numbers.now) }
 {
     let mut text = Vec::from_slice(alloc, b"% module series\n")?;
-    for (degree, number) in numbers.iter().enumerate() {
-        push_number(&mut text, degree as u128)?;
-        push_line(&mut text, b"", u128::from(*number))?;
-    }
+    push_series(&mut text, numbers)?;
     Ok(text)
 }

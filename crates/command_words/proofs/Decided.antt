@@ -1,25 +1,23 @@
 -- Each text is a value of a key or none, and each word has a key of a row or none.
-use Rattle.std.proofs.Common.{◌≡◌, ◌≢◌, ◌⊎◌, ℕ, List, [], ◌∷◌, ◌++◌, true, false, refl, sym, ◌∙◌, inl, inr, arith, subst, ◌==◌, append_assoc, bytes_eq}
+use Rattle.std.proofs.Common.{◌≡◌, ◌≢◌, ◌⊎◌, ℕ, List, [], ◌∷◌, ◌++◌, refl, sym, ap, ◌∙◌, inl, inr, arith, subst, ◌==◌, append_assoc, bytes_eq}
 use Rattle.std.specs.Prelude.{Contains, codes}
 use Rattle.std.specs.List.{list_any}
 use Rattle.std.proofs.lemmas.Bool.{cases_Bool, cases_lt, eqb-false, eqb-true, true≢false}
 use Rattle.std.proofs.lemmas.Slice.Eq.{bytes_eq-Decides}
 use Rattle.field_table.specs.Residues.{listed_moduli}
 use Rattle.command_words.specs.declared.job.Command.{Command}
-use Rattle.command_words.specs.declared.job.Command.TheVariants as commands
 use Rattle.command_words.specs.declared.job.Key.{Key}
 use Rattle.command_words.specs.declared.job.Key.TheVariants as keys
-use Rattle.command_words.specs.declared.job.Show.TheVariants as shows
-use Rattle.command_words.specs.declared.job.EngineKind.TheVariants as engines
+use Rattle.command_words.specs.declared.value.Value.{Value}
 use Rattle.command_words.specs.declared.value.Value.TheVariants.{Count, Shown, Answer, Kind}
 use Rattle.command_words.specs.Keys.{command_name, name_of}
-use Rattle.command_words.specs.Values.{IsAnswer, IsEngine, IsModulus, IsNumberFrom, IsShow, IsValue}
+use Rattle.command_words.specs.Values.{IsAnswer, IsEngine, IsModulus, IsNumberFrom, IsShow, IsValue, answer_name, engine_name, show_name}
 use Rattle.command_words.specs.Refusals.{HasKey, Says}
 use Rattle.command_words.proofs.Digits.{listed_says, number_or_not, one_number, says_listed}
-use Rattle.words.proofs.Members.{Contains-cases, Contains-more}
+use Rattle.command_words.proofs.Members.{among_or_not}
+use Rattle.command_words.proofs.Named.{answer_of, answer_of-name, command_of, command_of-name, engine_of, engine_of-name, show_of, show_of-name}
 use Rattle.command_words.proofs.OneKey.{one_text}
 use Rattle.command_words.proofs.Parts.{Decided}
-use Rattle.command_words.proofs.Values.{no_answer, no_command, no_engine, no_show}
 
 text_or_not : (s t : List ℕ) → (s ≡ t) ⊎ (s ≢ t)
 text_or_not s t = elim (cases_Bool (bytes_eq s t)) [
@@ -27,59 +25,32 @@ text_or_not s t = elim (cases_Bool (bytes_eq s t)) [
   | inr e ↦ inr (λ same. true≢false (sym ((bytes_eq-Decides s t).1 same) ∙ e))
 ]
 
+-- a text is how something is written, or nothing is written so
+named_or_not : {A : Type 0} (name : A → List ℕ) (read : List ℕ → A) → ((a : A) → read (name a) ≡ a) → (text : List ℕ) → Decided (λ (a : A). text ≡ name a)
+named_or_not name read back text = elim (text_or_not text (name (read text))) [
+  | inl e ↦ inl (read text, e)
+  | inr other ↦ inr (λ a is. other (is ∙ ap name (sym (ap read is ∙ back a))))
+]
+
 pub command_or_not : (word : List ℕ) → Decided (λ (command : Command). word ≡ command_name command)
-command_or_not word = elim (text_or_not word (codes "gb")) [
-  | inl e ↦ inl (commands.Gb, e)
-  | inr a ↦ elim (text_or_not word (codes "make")) [
-    | inl e ↦ inl (commands.Make, e)
-    | inr b ↦ elim (text_or_not word (codes "module")) [
-      | inl e ↦ inl (commands.Module, e)
-      | inr c ↦ elim (text_or_not word (codes "chains")) [
-        | inl e ↦ inl (commands.Chains, e)
-        | inr d ↦ elim (text_or_not word (codes "normal")) [
-          | inl e ↦ inl (commands.Normal, e)
-          | inr e ↦ inr (no_command word a b c d e)
-        ]
-      ]
-    ]
-  ]
+command_or_not = named_or_not command_name command_of command_of-name
+
+-- and so it is a value of its kind, or none
+kind_or_not : {A : Type 0} (name : A → List ℕ) (read : List ℕ → A) → ((a : A) → read (name a) ≡ a) → (make : A → Value) (text : List ℕ) →
+    Decided (λ (v : Value). (a : A) × (text ≡ name a) × (v ≡ make a))
+kind_or_not name read back make text = elim (named_or_not name read back text) [
+  | inl is ↦ inl (make is.0, (is.0, is.1, refl))
+  | inr none ↦ inr (λ v h. none h.0 h.1)
 ]
 
 show_or_not : (text : List ℕ) → Decided (IsShow text)
-show_or_not text = elim (text_or_not text (codes "basis")) [
-  | inl e ↦ inl (Shown shows.Basis, (shows.Basis, e, refl))
-  | inr a ↦ elim (text_or_not text (codes "series")) [
-    | inl e ↦ inl (Shown shows.Series, (shows.Series, e, refl))
-    | inr b ↦ elim (text_or_not text (codes "both")) [
-      | inl e ↦ inl (Shown shows.Both, (shows.Both, e, refl))
-      | inr c ↦ inr (λ v h. no_show text a b c h.0 h.1)
-    ]
-  ]
-]
+show_or_not = kind_or_not show_name show_of show_of-name Shown
 
 answer_or_not : (text : List ℕ) → Decided (IsAnswer text)
-answer_or_not text = elim (text_or_not text (codes "yes")) [
-  | inl e ↦ inl (Answer true, (true, e, refl))
-  | inr a ↦ elim (text_or_not text (codes "no")) [
-    | inl e ↦ inl (Answer false, (false, e, refl))
-    | inr b ↦ inr (λ v h. no_answer text a b h.0 h.1)
-  ]
-]
+answer_or_not = kind_or_not answer_name answer_of answer_of-name Answer
 
 engine_or_not : (text : List ℕ) → Decided (IsEngine text)
-engine_or_not text = elim (text_or_not text (codes "race")) [
-  | inl e ↦ inl (Kind engines.Race, (engines.Race, e, refl))
-  | inr a ↦ elim (text_or_not text (codes "core")) [
-    | inl e ↦ inl (Kind engines.Core, (engines.Core, e, refl))
-    | inr b ↦ elim (text_or_not text (codes "seq")) [
-      | inl e ↦ inl (Kind engines.Seq, (engines.Seq, e, refl))
-      | inr c ↦ elim (text_or_not text (codes "plain")) [
-        | inl e ↦ inl (Kind engines.Plain, (engines.Plain, e, refl))
-        | inr d ↦ inr (λ v h. no_engine text a b c d h.0 h.1)
-      ]
-    ]
-  ]
-]
+engine_or_not = kind_or_not engine_name engine_of engine_of-name Kind
 
 count_or_not : (low high : ℕ) (text : List ℕ) → Decided (IsNumberFrom low high text)
 count_or_not low high text = elim (number_or_not text) [
@@ -142,12 +113,4 @@ has_key_or_not key word = elim (front_or_not (name_of key ++ codes "=") word) [
 ]
 
 pub key_or_not : (row : List Key) (word : List ℕ) → Decided (λ (key : Key). Contains row key × HasKey key word)
-key_or_not [] word = inr (λ key h. omega (arith, h.0.1))
-key_or_not (k ∷ row) word = elim (has_key_or_not k word) [
-  | inl has ↦ inl (k, ((0, omega arith, refl), has))
-  | inr other ↦ elim (key_or_not row word) [
-    | inl m ↦ inl (m.0, (Contains-more k row m.0 m.1.0, m.1.1))
-    | inr none ↦ inr (λ key h. elim (Contains-cases k row key h.0)
-        [ inl e ↦ other (subst (λ (l : Key). HasKey l word) (sym e) h.1) | inr m ↦ none key (m, h.1) ])
-  ]
-]
+key_or_not row word = among_or_not (λ key. HasKey key word) (λ key. has_key_or_not key word) row

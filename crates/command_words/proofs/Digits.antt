@@ -38,9 +38,15 @@ says_listed m xs h = list_any-from_Any (λ y. y == m) xs (h.0, m, h.1, h.2, same
 le_says : (m n : ℕ) → nat_le m n ≡ true → m ≤ n
 le_says m n e = grind (arith, nat_tests)
 
--- the listed moduli are at most 1000003
+-- the listed moduli are from 2 to 1000003
 listed_small : All (λ p. p ≤ 1000003) listed_moduli
 listed_small k d within = le_says (get_or listed_moduli k d) 1000003 (AllPass-from_list_all (λ p. nat_le p 1000003) listed_moduli refl k d within)
+
+pub modulus_some : (p : ℕ) → Contains listed_moduli p → 0 < p
+modulus_some p m =
+    let two = All-contains (λ n. 2 ≤ n) listed_moduli p (λ k d within. le_says 2 (get_or listed_moduli k d)
+    (AllPass-from_list_all (λ n. nat_le 2 n) listed_moduli refl k d within)) m in
+    omega (arith, two)
 
 pub modulus_below : (p : ℕ) → Contains listed_moduli p → p ≤ 1000003
 modulus_below p m = All-contains (λ n. n ≤ 1000003) listed_moduli p listed_small m

@@ -8,7 +8,7 @@ use Rattle.std.proofs.lemmas.List.Elements.{Contains-append_cases, Contains-appe
 use Rattle.command_words.specs.declared.job.Command.{Command}
 use Rattle.command_words.specs.declared.job.Key.{Key}
 use Rattle.command_words.specs.declared.job.UsageFault.{UsageFault}
-use Rattle.command_words.specs.declared.job.UsageFault.TheVariants.{NoCommand, UnknownCommand, UnknownKey, RepeatedKey, BadValue, MissingKey}
+use Rattle.command_words.specs.declared.job.UsageFault.TheVariants.{UnknownKey, RepeatedKey, BadValue}
 use Rattle.command_words.specs.declared.value.Value.{Value}
 use Rattle.command_words.specs.Refusals.{HasKey, IsRefused, Says, Stands}
 use Rattle.command_words.specs.JobOf.{AreTaken, IsTold}
@@ -49,8 +49,6 @@ module _ (command : Command) (words : List (List ℕ)) (values : List (Option Va
   -- what the draft refuses is refused
   pub refused_so : (word : List ℕ) (number : ℕ) (fault : UsageFault) → number ≡ length words + 2 →
       IsRefusal command values word number fault → IsRefused command words word fault
-  refused_so word number NoCommand e r = r
-  refused_so word number UnknownCommand e r = r
   refused_so word number (UnknownKey n) e r = (r.0 ∙ e, r.1)
   refused_so word number (RepeatedKey n) e r = (
     r.0 ∙ e,
@@ -71,7 +69,7 @@ module _ (command : Command) (words : List (List ℕ)) (values : List (Option Va
       no_value = r.1.no_value;
     },
   )
-  refused_so word number (MissingKey key) e r = r
+  refused_so word number fault e r = r
 
   module _ (new : List (Option Value)) (word : List ℕ) (takes : Takes command values new word) where
     same_key : (key : Key) → HasKey key word → key ≡ takes.key
@@ -79,12 +77,10 @@ module _ (command : Command) (words : List (List ℕ)) (values : List (Option Va
 
     -- what is taken is not refused
     not_refused : (fault : UsageFault) → IsRefused command words word fault → ⊥
-    not_refused NoCommand r = r
-    not_refused UnknownCommand r = r
     not_refused (UnknownKey n) r = r.1 takes.key takes.of_command (key_said takes.key word takes.value takes.says)
     not_refused (RepeatedKey n) r = unkept takes.key takes.first (subst (Stands words) (same_key r.1.key r.1.has_key) r.1.stands)
     not_refused (BadValue n) r = r.1.no_value takes.value (subst (λ (key : Key). Says key word takes.value) (sym (same_key r.1.key r.1.has_key)) takes.says)
-    not_refused (MissingKey key) r = r
+    not_refused fault r = r
 
     taken_more : AreTaken command (words ++ word ∷ [])
     taken_more fault h = elim (split_last words word h.before h.word h.after h.words_are) [

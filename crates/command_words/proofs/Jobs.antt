@@ -31,45 +31,30 @@ has_text words key (Some v) h = (h.says.text, h.says.is_value)
 pub are_values : (command : Command) (words : List (List ℕ)) (values : List (Option Value)) → IsDraft command words values → AreValues values
 are_values command words values draft key = has_text words key (kept values key) (draft.told key)
 
--- what is read of a value of its kind, or the default
+-- what is read of a value of its kind, which a text says, or the default
 value_is : {A : Type 0} (make : A → Value) (read : Option Value → A → A) → ((a d : A) → read (Some (make a)) d ≡ a) → ((d : A) → read None d ≡ d) →
-    (o : Option Value) (d a : A) → a ≡ read o d → IfSome o (λ v. (b : A) × (v ≡ make b)) → make a ≡ unwrap_or o (make d)
-value_is make read of none None d a e h = ap make (e ∙ none d)
-value_is make read of none (Some v) d a e h =
-    let own = e ∙ ap (λ (w : Value). read (Some w) d) h.1 ∙ of h.0 d in
-    ap make own ∙ sym h.1
+    (Is : List ℕ → Value → Type 0) → ((text : List ℕ) (v : Value) → Is text v → (a : A) × (v ≡ make a)) → (o : Option Value) (d a : A) → a ≡ read o d →
+    IfSome o (λ v. (text : List ℕ) × Is text v) → make a ≡ unwrap_or o (make d)
+value_is make read of none Is kind None d a e h = ap make (e ∙ none d)
+value_is make read of none Is kind (Some v) d a e h =
+    let own = kind h.0 v h.1 in
+    ap make (e ∙ ap (λ (w : Value). read (Some w) d) own.1 ∙ of own.0 d) ∙ sym own.1
 
-count_is : (o : Option Value) (d n : ℕ) → n ≡ count_in o d → IfSome o (λ v. (m : ℕ) × (v ≡ Count m)) → Count n ≡ unwrap_or o (Count d)
-count_is = value_is Count count_in (λ a d. refl) (λ d. refl)
+count_is : (low high : ℕ) (o : Option Value) (d n : ℕ) → n ≡ count_in o d → IfSome o (λ v. (text : List ℕ) × IsNumberFrom low high text v) →
+    Count n ≡ unwrap_or o (Count d)
+count_is low high = value_is Count count_in (λ a d. refl) (λ d. refl) (IsNumberFrom low high) (λ text v is. (is.number, is.value_is))
 
-answer_is : (o : Option Value) (d b : Bool) → b ≡ answer_in o d → IfSome o (λ v. (c : Bool) × (v ≡ Answer c)) → Answer b ≡ unwrap_or o (Answer d)
-answer_is = value_is Answer answer_in (λ a d. refl) (λ d. refl)
+modulus_is : (o : Option Value) (d n : ℕ) → n ≡ count_in o d → IfSome o (λ v. (text : List ℕ) × IsModulus text v) → Count n ≡ unwrap_or o (Count d)
+modulus_is = value_is Count count_in (λ a d. refl) (λ d. refl) IsModulus (λ text v is. (is.number, is.value_is))
 
-show_is : (o : Option Value) (d b : Show) → b ≡ show_in o d → IfSome o (λ v. (c : Show) × (v ≡ Shown c)) → Shown b ≡ unwrap_or o (Shown d)
-show_is = value_is Shown show_in (λ a d. refl) (λ d. refl)
+answer_is : (o : Option Value) (d b : Bool) → b ≡ answer_in o d → IfSome o (λ v. (text : List ℕ) × IsAnswer text v) → Answer b ≡ unwrap_or o (Answer d)
+answer_is = value_is Answer answer_in (λ a d. refl) (λ d. refl) IsAnswer (λ text v is. (is.0, is.2))
 
-engine_is : (o : Option Value) (d b : EngineKind) → b ≡ engine_in o d → IfSome o (λ v. (c : EngineKind) × (v ≡ Kind c)) → Kind b ≡ unwrap_or o (Kind d)
-engine_is = value_is Kind engine_in (λ a d. refl) (λ d. refl)
+show_is : (o : Option Value) (d b : Show) → b ≡ show_in o d → IfSome o (λ v. (text : List ℕ) × IsShow text v) → Shown b ≡ unwrap_or o (Shown d)
+show_is = value_is Shown show_in (λ a d. refl) (λ d. refl) IsShow (λ text v is. (is.0, is.2))
 
-is_count : (low high : ℕ) (o : Option Value) → IfSome o (λ v. (text : List ℕ) × IsNumberFrom low high text v) → IfSome o (λ v. (m : ℕ) × (v ≡ Count m))
-is_count low high None h = tt
-is_count low high (Some v) h = (h.1.number, h.1.value_is)
-
-is_modulus : (o : Option Value) → IfSome o (λ v. (text : List ℕ) × IsModulus text v) → IfSome o (λ v. (m : ℕ) × (v ≡ Count m))
-is_modulus None h = tt
-is_modulus (Some v) h = (h.1.number, h.1.value_is)
-
-is_answer : (o : Option Value) → IfSome o (λ v. (text : List ℕ) × IsAnswer text v) → IfSome o (λ v. (c : Bool) × (v ≡ Answer c))
-is_answer None h = tt
-is_answer (Some v) h = (h.1.0, h.1.2)
-
-is_show : (o : Option Value) → IfSome o (λ v. (text : List ℕ) × IsShow text v) → IfSome o (λ v. (c : Show) × (v ≡ Shown c))
-is_show None h = tt
-is_show (Some v) h = (h.1.0, h.1.2)
-
-is_engine : (o : Option Value) → IfSome o (λ v. (text : List ℕ) × IsEngine text v) → IfSome o (λ v. (c : EngineKind) × (v ≡ Kind c))
-is_engine None h = tt
-is_engine (Some v) h = (h.1.0, h.1.2)
+engine_is : (o : Option Value) (d b : EngineKind) → b ≡ engine_in o d → IfSome o (λ v. (text : List ℕ) × IsEngine text v) → Kind b ≡ unwrap_or o (Kind d)
+engine_is = value_is Kind engine_in (λ a d. refl) (λ d. refl) IsEngine (λ text v is. (is.0, is.2))
 
 -- the fields of a job are what is kept
 pub record AreFields (values : List (Option Value)) (job : Job) : Type 0 where
@@ -88,19 +73,18 @@ pub record AreFields (values : List (Option Value)) (job : Job) : Type 0 where
 
 module _ (values : List (Option Value)) (job : Job) (are : AreValues values) (fields : AreFields values job) where
   pub field_is : (key : Key) → value_at key job ≡ unwrap_or (kept values key) (default_of key)
-  field_is keys.Mod = count_is (kept values keys.Mod) 0 job.modulus fields.modulus (is_modulus (kept values keys.Mod) (are keys.Mod))
-  field_is keys.Deg = count_is (kept values keys.Deg) 0 job.bound fields.bound (is_count 1 64 (kept values keys.Deg) (are keys.Deg))
-  field_is keys.Workers = count_is (kept values keys.Workers) 1 job.workers fields.workers (is_count 1 64 (kept values keys.Workers) (are keys.Workers))
-  field_is keys.Show = show_is (kept values keys.Show) shows.Both job.show fields.show (is_show (kept values keys.Show) (are keys.Show))
-  field_is keys.Trace = answer_is (kept values keys.Trace) false job.trace fields.trace (is_answer (kept values keys.Trace) (are keys.Trace))
-  field_is keys.Engine = engine_is (kept values keys.Engine) engines.Race job.engine fields.engine (is_engine (kept values keys.Engine) (are keys.Engine))
-  field_is keys.Schedule = count_is (kept values keys.Schedule) 0 job.schedule fields.schedule
-      (is_count 0 4294967295 (kept values keys.Schedule) (are keys.Schedule))
-  field_is keys.Number = count_is (kept values keys.Number) 0 job.number fields.number (is_count 0 4294967295 (kept values keys.Number) (are keys.Number))
-  field_is keys.Vars = count_is (kept values keys.Vars) 0 job.letters fields.letters (is_count 2 33 (kept values keys.Vars) (are keys.Vars))
-  field_is keys.Gens = count_is (kept values keys.Gens) 0 job.gens fields.gens (is_count 1 64 (kept values keys.Gens) (are keys.Gens))
-  field_is keys.List = answer_is (kept values keys.List) false job.list fields.list (is_answer (kept values keys.List) (are keys.List))
-  field_is keys.Ask = count_is (kept values keys.Ask) 0 job.ask fields.ask (is_count 1 4096 (kept values keys.Ask) (are keys.Ask))
+  field_is keys.Mod = modulus_is (kept values keys.Mod) 0 job.modulus fields.modulus (are keys.Mod)
+  field_is keys.Deg = count_is 1 64 (kept values keys.Deg) 0 job.bound fields.bound (are keys.Deg)
+  field_is keys.Workers = count_is 1 64 (kept values keys.Workers) 1 job.workers fields.workers (are keys.Workers)
+  field_is keys.Show = show_is (kept values keys.Show) shows.Both job.show fields.show (are keys.Show)
+  field_is keys.Trace = answer_is (kept values keys.Trace) false job.trace fields.trace (are keys.Trace)
+  field_is keys.Engine = engine_is (kept values keys.Engine) engines.Race job.engine fields.engine (are keys.Engine)
+  field_is keys.Schedule = count_is 0 4294967295 (kept values keys.Schedule) 0 job.schedule fields.schedule (are keys.Schedule)
+  field_is keys.Number = count_is 0 4294967295 (kept values keys.Number) 0 job.number fields.number (are keys.Number)
+  field_is keys.Vars = count_is 2 33 (kept values keys.Vars) 0 job.letters fields.letters (are keys.Vars)
+  field_is keys.Gens = count_is 1 64 (kept values keys.Gens) 0 job.gens fields.gens (are keys.Gens)
+  field_is keys.List = answer_is (kept values keys.List) false job.list fields.list (are keys.List)
+  field_is keys.Ask = count_is 1 4096 (kept values keys.Ask) 0 job.ask fields.ask (are keys.Ask)
 
 value_in_words : (words : List (List ℕ)) (key : Key) (o : Option Value) (v : Value) →
     MatchOption o (Stands words key → ⊥) (IsTold words key) → v ≡ unwrap_or o (default_of key) → IsValueIn words key v

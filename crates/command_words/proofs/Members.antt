@@ -1,5 +1,5 @@
 -- Splits of lists, and members of a row of keys.
-use Rattle.std.proofs.Common.{◌≡◌, ◌≢◌, ◌⊎◌, List, [], ◌∷◌, ◌++◌, refl, sym, ap, inl, inr, arith, ◌==◌}
+use Rattle.std.proofs.Common.{◌≡◌, ◌≢◌, ◌⊎◌, List, [], ◌∷◌, ◌++◌, refl, sym, ap, inl, inr, arith, subst, ◌==◌}
 use Rattle.std.specs.Prelude.{Contains}
 use Rattle.std.proofs.lemmas.Bool.{cases_Bool, eqb-false, eqb-true}
 use Rattle.std.proofs.lemmas.List.Elements.{Contains-append_right}
@@ -7,6 +7,7 @@ use Rattle.words.proofs.Members.{Contains-cases, Contains-more}
 use Rattle.command_words.specs.declared.job.Key.{Key}
 use Rattle.command_words.specs.Draft.{place_of}
 use Rattle.command_words.proofs.OneKey.{one_place}
+use Rattle.command_words.proofs.Parts.{Decided}
 
 module _ {X : Type 0} where
   -- two splits of one list are one, or one is before the other
@@ -36,12 +37,19 @@ same_or_not a b = elim (cases_Bool (place_of a == place_of b)) [
   | inr f ↦ inr (λ e. eqb-false (place_of a) (place_of b) f (ap place_of e))
 ]
 
-pub member_or_not : (row : List Key) (key : Key) → Contains row key ⊎ (Contains row key → ⊥)
-member_or_not [] key = inr (λ m. omega (arith, m.1))
-member_or_not (k ∷ row) key = elim (same_or_not k key) [
-  | inl e ↦ inl (0, omega arith, e)
-  | inr other ↦ elim (member_or_not row key) [
-    | inl m ↦ inl (Contains-more k row key m)
-    | inr none ↦ inr (λ m. elim (Contains-cases k row key m) [ inl e ↦ other e | inr n ↦ none n ])
+-- a key of the row is of a kind, or none is
+pub among_or_not : (P : Key → Type 0) → ((key : Key) → P key ⊎ (P key → ⊥)) → (row : List Key) → Decided (λ (key : Key). Contains row key × P key)
+among_or_not P decide [] = inr (λ key h. omega (arith, h.0.1))
+among_or_not P decide (k ∷ row) = elim (decide k) [
+  | inl is ↦ inl (k, ((0, omega arith, refl), is))
+  | inr other ↦ elim (among_or_not P decide row) [
+    | inl m ↦ inl (m.0, (Contains-more k row m.0 m.1.0, m.1.1))
+    | inr none ↦ inr (λ key h. elim (Contains-cases k row key h.0) [ inl e ↦ other (subst P (sym e) h.1) | inr m ↦ none key (m, h.1) ])
   ]
+]
+
+pub member_or_not : (row : List Key) (key : Key) → Contains row key ⊎ (Contains row key → ⊥)
+member_or_not row key = elim (among_or_not (λ k. k ≡ key) (λ k. same_or_not k key) row) [
+  | inl m ↦ inl (subst (Contains row) m.1.1 m.1.0)
+  | inr none ↦ inr (λ m. none key (m, refl))
 ]

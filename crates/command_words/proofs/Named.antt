@@ -19,17 +19,14 @@ second_command : List ℕ → Command
 second_command [] = commands.Make
 second_command (b ∷ bs) = if b == 97 then commands.Make else commands.Module
 
-command_of : List ℕ → Command
+pub command_of : List ℕ → Command
 command_of [] = commands.Gb
 command_of (b ∷ bs) = if b == 103 then commands.Gb else if b == 99 then commands.Chains else if b == 110 then commands.Normal else second_command bs
 
-command_of-name : (command : Command) → command_of (command_name command) ≡ command
+pub command_of-name : (command : Command) → command_of (command_name command) ≡ command
 unfolding command_of second_command
 command_of-name commands.Gb = refl
-command_of-name commands.Make = refl
-command_of-name commands.Module = refl
-command_of-name commands.Chains = refl
-command_of-name commands.Normal = refl
+command_of-name command = refl
 
 pub one_command : (a b : Command) → command_name a ≡ command_name b → a ≡ b
 one_command = one_by command_name command_of command_of-name
@@ -38,32 +35,29 @@ second_show : List ℕ → Show
 second_show [] = shows.Basis
 second_show (b ∷ bs) = if b == 97 then shows.Basis else shows.Both
 
-show_of : List ℕ → Show
+pub show_of : List ℕ → Show
 show_of [] = shows.Basis
 show_of (b ∷ bs) = if b == 115 then shows.Series else second_show bs
 
-show_of-name : (show : Show) → show_of (show_name show) ≡ show
+pub show_of-name : (show : Show) → show_of (show_name show) ≡ show
 unfolding show_of second_show
 show_of-name shows.Basis = refl
-show_of-name shows.Series = refl
-show_of-name shows.Both = refl
+show_of-name show = refl
 
-engine_of : List ℕ → EngineKind
+pub engine_of : List ℕ → EngineKind
 engine_of [] = engines.Race
 engine_of (b ∷ bs) = if b == 114 then engines.Race else if b == 99 then engines.Core else if b == 115 then engines.Seq else engines.Plain
 
-engine_of-name : (engine : EngineKind) → engine_of (engine_name engine) ≡ engine
+pub engine_of-name : (engine : EngineKind) → engine_of (engine_name engine) ≡ engine
 unfolding engine_of
 engine_of-name engines.Race = refl
-engine_of-name engines.Core = refl
-engine_of-name engines.Seq = refl
-engine_of-name engines.Plain = refl
+engine_of-name engine = refl
 
-answer_of : List ℕ → Bool
+pub answer_of : List ℕ → Bool
 answer_of [] = false
 answer_of (b ∷ bs) = b == 121
 
-answer_of-name : (answer : Bool) → answer_of (answer_name answer) ≡ answer
+pub answer_of-name : (answer : Bool) → answer_of (answer_name answer) ≡ answer
 unfolding answer_of
 answer_of-name true = refl
 answer_of-name false = refl

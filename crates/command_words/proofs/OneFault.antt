@@ -1,18 +1,18 @@
 -- Words after a command have at most one fault.
-use Rattle.std.proofs.Common.{◌≡◌, ◌⊎◌, ℕ, List, refl, sym, ap, ◌∙◌, inl, inr, subst}
-use Rattle.std.specs.Prelude.{Contains}
+use Rattle.std.proofs.Common.{◌≡◌, ℕ, List, sym, ap, ◌∙◌, inl, inr, subst}
+use Rattle.std.specs.Prelude.{All, Contains}
 use Rattle.std.proofs.lemmas.List.Elements.{All-contains}
 use Rattle.command_words.specs.declared.job.Command.{Command}
 use Rattle.command_words.specs.declared.job.Key.{Key}
 use Rattle.command_words.specs.declared.job.UsageFault.{UsageFault}
-use Rattle.command_words.specs.declared.job.UsageFault.TheVariants.{NoCommand, UnknownCommand, UnknownKey, RepeatedKey, BadValue, MissingKey}
+use Rattle.command_words.specs.declared.job.UsageFault.TheVariants.{UnknownKey, RepeatedKey, BadValue, MissingKey}
 use Rattle.command_words.specs.Keys.{required_of}
 use Rattle.command_words.specs.Refusals.{IsRefused, Stands}
 use Rattle.command_words.specs.JobOf.{AreTaken, IsFaultOf, IsFirstMissing, IsFirstRefusal}
 use Rattle.command_words.proofs.OneKey.{one_key}
 use Rattle.command_words.proofs.Members.{compare_splits, middle}
 
-pub one_missing : (row : List Key) (words : List (List ℕ)) (k l : Key) → IsFirstMissing row words k → IsFirstMissing row words l → k ≡ l
+one_missing : (row : List Key) (words : List (List ℕ)) (k l : Key) → IsFirstMissing row words k → IsFirstMissing row words l → k ≡ l
 one_missing row words k l p q = elim (compare_splits p.earlier k p.later q.earlier l q.later (sym p.keys_are ∙ q.keys_are)) [
   | inl e ↦ e.1
   | inr r ↦ elim r [
@@ -51,27 +51,18 @@ one_refusal command words f g p q = elim (compare_splits p.before p.word p.after
   ]
 ]
 
-pub not_taken : (command : Command) (words : List (List ℕ)) (f : UsageFault) → IsFirstRefusal command words f → AreTaken command words → ⊥
+not_taken : (command : Command) (words : List (List ℕ)) (f : UsageFault) → IsFirstRefusal command words f → AreTaken command words → ⊥
 not_taken command words f p taken = taken f (record { before = p.before; word = p.word; after = p.after; words_are = p.words_are; refused = p.refused })
 
--- a fault after the command is a missing key or a refused word
-pub fault_kind : (command : Command) (words : List (List ℕ)) (f : UsageFault) → IsFaultOf command words f
-    → ((key : Key) × (f ≡ MissingKey key) × AreTaken command words × IsFirstMissing (required_of command) words key) ⊎ IsFirstRefusal command words f
-fault_kind command words (MissingKey key) p = inl (key, refl, p.0, p.1)
-fault_kind command words NoCommand p = inr p
-fault_kind command words UnknownCommand p = inr p
-fault_kind command words (UnknownKey n) p = inr p
-fault_kind command words (RepeatedKey n) p = inr p
-fault_kind command words (BadValue n) p = inr p
-
 pub one_fault_of : (command : Command) (words : List (List ℕ)) (f g : UsageFault) → IsFaultOf command words f → IsFaultOf command words g → f ≡ g
-one_fault_of command words f g p q = elim (fault_kind command words f p) [
-  | inl s ↦ elim (fault_kind command words g q) [
-    | inl t ↦ s.1 ∙ ap MissingKey (one_missing (required_of command) words s.0 t.0 s.3 t.3) ∙ sym t.1
-    | inr t ↦ absurd (not_taken command words g t s.2)
-  ]
-  | inr s ↦ elim (fault_kind command words g q) [
-    | inl t ↦ absurd (not_taken command words f s t.2)
-    | inr t ↦ one_refusal command words f g s t
-  ]
-]
+one_fault_of command words (MissingKey k) (MissingKey l) p q = ap MissingKey (one_missing (required_of command) words k l p.1 q.1)
+one_fault_of command words (MissingKey k) g p q = absurd (not_taken command words g q p.0)
+one_fault_of command words f (MissingKey l) p q = absurd (not_taken command words f p q.0)
+one_fault_of command words f g p q = one_refusal command words f g p q
+
+-- where all words are taken and all required keys stand there is none
+pub no_fault_of : (command : Command) (words : List (List ℕ)) → AreTaken command words → All (Stands words) (required_of command) → (f : UsageFault) →
+    IsFaultOf command words f → ⊥
+no_fault_of command words taken all (MissingKey key) p = p.1.missing (All-contains (Stands words) (required_of command) key all
+    (subst (λ (ks : List Key). Contains ks key) (sym p.1.keys_are) (middle p.1.earlier key p.1.later)))
+no_fault_of command words taken all f p = not_taken command words f p taken

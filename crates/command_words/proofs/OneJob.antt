@@ -1,17 +1,14 @@
 -- Words have at most one job.
-use Rattle.std.proofs.Common.{◌≡◌, ◌+◌, ◌<◌, ℕ, List, Bool, length, get_or, take, refl, sym, ap, ◌∙◌, inl, inr, arith, subst, length-take, get_or-take}
+use Rattle.std.proofs.Common.{◌≡◌, ◌+◌, ◌<◌, ℕ, List, length, get_or, take, refl, sym, ap, ◌∙◌, inl, inr, arith, subst, length-take, get_or-take}
 use Rattle.std.specs.Prelude.{Contains}
-use Rattle.std.proofs.lemmas.Bool.{cases_lt}
+use Rattle.std.proofs.lemmas.Bool.{cases_order}
 use Rattle.std.proofs.lemmas.List.{get_or_default}
 use Rattle.command_words.specs.declared.job.Command.{Command}
-use Rattle.command_words.specs.declared.job.EngineKind.{EngineKind}
 use Rattle.command_words.specs.declared.job.Key.{Key}
 use Rattle.command_words.specs.declared.job.Key.TheVariants as keys
 use Rattle.command_words.specs.declared.job.Job.{Job}
-use Rattle.command_words.specs.declared.job.Show.{Show}
 use Rattle.command_words.specs.declared.job.UsageFault.TheVariants.{UnknownKey, RepeatedKey}
 use Rattle.command_words.specs.declared.value.Value.{Value}
-use Rattle.command_words.specs.declared.value.Value.TheVariants.{Count, Shown, Answer, Kind}
 use Rattle.command_words.specs.Keys.{command_name, keys_of}
 use Rattle.command_words.specs.Values.{IsValue, value_at}
 use Rattle.command_words.specs.Refusals.{HasKey, Stands}
@@ -53,14 +50,10 @@ module _ (command : Command) (words : List (List ℕ)) (taken : AreTaken command
       ]
 
   one_word : (v w : List ℕ) → HasKey key v → HasKey key w → Contains words v → Contains words w → v ≡ w
-  one_word v w p q m n = elim (cases_lt m.0 n.0) [
-    | inl lt ↦ absurd (later v w m.0 n.0 p q lt n.1 m.2 n.2)
-    | inr ge ↦ elim (cases_lt n.0 m.0) [
-      | inl lt ↦ absurd (later w v n.0 m.0 q p lt m.1 n.2 m.2)
-      | inr le ↦ (
-          let same : m.0 ≡ n.0 = omega (arith, ge, le) in
-          sym m.2 ∙ ap (λ (k : ℕ). get_or words k v) same ∙ get_or_default words n.0 v w n.1 ∙ n.2)
-    ]
+  one_word v w p q m n = elim (cases_order m.0 n.0) [
+    | inl same ↦ sym m.2 ∙ ap (λ (k : ℕ). get_or words k v) same ∙ get_or_default words n.0 v w n.1 ∙ n.2
+    | inr (inl lt) ↦ absurd (later v w m.0 n.0 p q lt n.1 m.2 n.2)
+    | inr (inr lt) ↦ absurd (later w v n.0 m.0 q p lt m.1 n.2 m.2)
   ]
 
   one_value_in : (v w : Value) → IsValueIn words key v → IsValueIn words key w → v ≡ w
@@ -78,33 +71,21 @@ module _ (command : Command) (words : List (List ℕ)) (taken : AreTaken command
     ]
   ]
 
-same_count : (m n : ℕ) → Count m ≡ Count n → m ≡ n
-same_count m n e = cc e
-
-same_shown : (m n : Show) → Shown m ≡ Shown n → m ≡ n
-same_shown m n e = cc e
-
-same_answered : (m n : Bool) → Answer m ≡ Answer n → m ≡ n
-same_answered m n e = cc e
-
-same_kind : (m n : EngineKind) → Kind m ≡ Kind n → m ≡ n
-same_kind m n e = cc e
-
 -- a job is its command and its values
 same_job : (j k : Job) → j.command ≡ k.command → ((key : Key) → value_at key j ≡ value_at key k) → j ≡ k
 same_job j k c h =
-    let modulus = same_count j.modulus k.modulus (h keys.Mod) in
-    let bound = same_count j.bound k.bound (h keys.Deg) in
-    let workers = same_count j.workers k.workers (h keys.Workers) in
-    let show = same_shown j.show k.show (h keys.Show) in
-    let trace = same_answered j.trace k.trace (h keys.Trace) in
-    let engine = same_kind j.engine k.engine (h keys.Engine) in
-    let schedule = same_count j.schedule k.schedule (h keys.Schedule) in
-    let number = same_count j.number k.number (h keys.Number) in
-    let letters = same_count j.letters k.letters (h keys.Vars) in
-    let gens = same_count j.gens k.gens (h keys.Gens) in
-    let list = same_answered j.list k.list (h keys.List) in
-    let ask = same_count j.ask k.ask (h keys.Ask) in
+    let modulus : j.modulus ≡ k.modulus = cc (h keys.Mod) in
+    let bound : j.bound ≡ k.bound = cc (h keys.Deg) in
+    let workers : j.workers ≡ k.workers = cc (h keys.Workers) in
+    let show : j.show ≡ k.show = cc (h keys.Show) in
+    let trace : j.trace ≡ k.trace = cc (h keys.Trace) in
+    let engine : j.engine ≡ k.engine = cc (h keys.Engine) in
+    let schedule : j.schedule ≡ k.schedule = cc (h keys.Schedule) in
+    let number : j.number ≡ k.number = cc (h keys.Number) in
+    let letters : j.letters ≡ k.letters = cc (h keys.Vars) in
+    let gens : j.gens ≡ k.gens = cc (h keys.Gens) in
+    let list : j.list ≡ k.list = cc (h keys.List) in
+    let ask : j.ask ≡ k.ask = cc (h keys.Ask) in
     λ i. record {
       command = c i;
       modulus = modulus i;

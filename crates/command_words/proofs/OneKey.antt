@@ -32,17 +32,7 @@ key_of (b ∷ bs) =
 key_of-word : (key : Key) (text : List ℕ) → key_of (name_of key ++ (codes "=" ++ text)) ≡ key
 unfolding key_of second_of
 key_of-word keys.Mod text = refl
-key_of-word keys.Deg text = refl
-key_of-word keys.Workers text = refl
-key_of-word keys.Show text = refl
-key_of-word keys.Trace text = refl
-key_of-word keys.Engine text = refl
-key_of-word keys.Schedule text = refl
-key_of-word keys.Number text = refl
-key_of-word keys.Vars text = refl
-key_of-word keys.Gens text = refl
-key_of-word keys.List text = refl
-key_of-word keys.Ask text = refl
+key_of-word key text = refl
 
 pub one_key : (a b : Key) (word s t : List ℕ) → IsWordOf a s word → IsWordOf b t word → a ≡ b
 one_key a b word s t p q = sym (key_of-word a s) ∙ ap key_of (sym p ∙ q) ∙ key_of-word b t
@@ -71,31 +61,11 @@ key_at n =
 key_at-place : (key : Key) → key_at (place_of key) ≡ key
 unfolding key_at
 key_at-place keys.Mod = refl
-key_at-place keys.Deg = refl
-key_at-place keys.Workers = refl
-key_at-place keys.Show = refl
-key_at-place keys.Trace = refl
-key_at-place keys.Engine = refl
-key_at-place keys.Schedule = refl
-key_at-place keys.Number = refl
-key_at-place keys.Vars = refl
-key_at-place keys.Gens = refl
-key_at-place keys.List = refl
-key_at-place keys.Ask = refl
+key_at-place key = refl
 
 pub one_place : (a b : Key) → place_of a ≡ place_of b → a ≡ b
 one_place = one_by place_of key_at key_at-place
 
 pub place_below : (key : Key) → place_of key < 12
 place_below keys.Mod = lit< tt
-place_below keys.Deg = lit< tt
-place_below keys.Workers = lit< tt
-place_below keys.Show = lit< tt
-place_below keys.Trace = lit< tt
-place_below keys.Engine = lit< tt
-place_below keys.Schedule = lit< tt
-place_below keys.Number = lit< tt
-place_below keys.Vars = lit< tt
-place_below keys.Gens = lit< tt
-place_below keys.List = lit< tt
-place_below keys.Ask = lit< tt
+place_below key = lit< tt

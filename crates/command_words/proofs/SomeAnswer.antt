@@ -145,10 +145,7 @@ module _ (command : Command) where
 usage_fault : (words : List (List ℕ)) (fault : UsageFault) → HasFault words fault → IsUsageFault words fault
 usage_fault words NoCommand h = absurd h.fault_is.refused
 usage_fault words UnknownCommand h = absurd h.fault_is.refused
-usage_fault words (UnknownKey n) h = h
-usage_fault words (RepeatedKey n) h = h
-usage_fault words (BadValue n) h = h
-usage_fault words (MissingKey key) h = h
+usage_fault words fault h = h
 
 -- an answer to words
 abbrev Answered : List (List ℕ) → Type 0

@@ -14,3 +14,4 @@ mod value;
 pub use job::{Command, EngineKind, Job, Key, Show, UsageFault};
 pub use laws::words_law;
 pub use read::read_words;
+pub use table::key_name;

@@ -1,4 +1,4 @@
-ghost use Rattle.std.specs.Prelude.{◌≡◌, ◌≢◌, ◌++◌, ℕ, List, MatchOption, Contains, codes};
+ghost use Rattle.std.specs.Prelude.{◌≡◌, ◌≢◌, ◌≤◌, ℕ, List, MatchOption, Contains, length};
 ghost use Rattle.command_words.specs.declared.job.Command.{Command};
 ghost use Rattle.command_words.specs.declared.value.Value.{Value};
 ghost use Rattle.command_words.specs.Keys.{command_name, keys_of, name_of, required_of};
@@ -85,22 +85,14 @@ pub fn command_in(word: &[u8]) -> Option<Command>
     ensures { MatchOption result ((command : Command) → word.now ≢ command_name command)
         (λ command. word.now ≡ command_name command) }
 {
-    if word == b"gb".as_slice() {
-        return Some(Command::Gb);
+    match word {
+        b"gb" => Some(Command::Gb),
+        b"make" => Some(Command::Make),
+        b"module" => Some(Command::Module),
+        b"chains" => Some(Command::Chains),
+        b"normal" => Some(Command::Normal),
+        _ => None,
     }
-    if word == b"make".as_slice() {
-        return Some(Command::Make);
-    }
-    if word == b"module".as_slice() {
-        return Some(Command::Module);
-    }
-    if word == b"chains".as_slice() {
-        return Some(Command::Chains);
-    }
-    if word == b"normal".as_slice() {
-        return Some(Command::Normal);
-    }
-    None
 }
 
 /// The key of the command that the word has.
@@ -130,25 +122,27 @@ pub fn value_said(key: Key, word: &[u8]) -> Option<Value>
 fn text_behind(key: Key, word: &[u8]) -> Option<&[u8]>
     ensures { MatchOption result (HasKey key word.now → ⊥) (λ text. IsWordOf key text.now word.now) }
 {
-    word.strip_prefix(front_of(key))
+    word.strip_prefix(key_name(key))?
+        .strip_prefix(b"=".as_slice())
 }
 
-/// The key and its `=`.
-fn front_of(key: Key) -> &'static [u8]
-    ensures { result.now ≡ name_of key ++ codes "=" }
+/// How the key is written.
+pub fn key_name(key: Key) -> &'static [u8]
+    ensures text { result.now ≡ name_of key }
+    ensures short { length result.now ≤ 8 }
 {
     match key {
-        Key::Mod => b"mod=",
-        Key::Deg => b"deg=",
-        Key::Workers => b"workers=",
-        Key::Show => b"show=",
-        Key::Trace => b"trace=",
-        Key::Engine => b"engine=",
-        Key::Schedule => b"schedule=",
-        Key::Number => b"number=",
-        Key::Vars => b"vars=",
-        Key::Gens => b"gens=",
-        Key::List => b"list=",
-        Key::Ask => b"ask=",
+        Key::Mod => b"mod",
+        Key::Deg => b"deg",
+        Key::Workers => b"workers",
+        Key::Show => b"show",
+        Key::Trace => b"trace",
+        Key::Engine => b"engine",
+        Key::Schedule => b"schedule",
+        Key::Number => b"number",
+        Key::Vars => b"vars",
+        Key::Gens => b"gens",
+        Key::List => b"list",
+        Key::Ask => b"ask",
     }
 }

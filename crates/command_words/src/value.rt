@@ -94,44 +94,32 @@ fn number_in(text: &[u8], most: u32) -> Option<u32>
 fn show_in(text: &[u8]) -> Option<Value>
     ensures { MatchOption result ((value : Value) → IsShow text.now value → ⊥) (IsShow text.now) }
 {
-    if text == b"basis".as_slice() {
-        return Some(Value::Shown(Show::Basis));
+    match text {
+        b"basis" => Some(Value::Shown(Show::Basis)),
+        b"series" => Some(Value::Shown(Show::Series)),
+        b"both" => Some(Value::Shown(Show::Both)),
+        _ => None,
     }
-    if text == b"series".as_slice() {
-        return Some(Value::Shown(Show::Series));
-    }
-    if text == b"both".as_slice() {
-        return Some(Value::Shown(Show::Both));
-    }
-    None
 }
 
 fn answer_in(text: &[u8]) -> Option<Value>
     ensures { MatchOption result ((value : Value) → IsAnswer text.now value → ⊥) (IsAnswer text.now) }
 {
-    if text == b"yes".as_slice() {
-        return Some(Value::Answer(true));
+    match text {
+        b"yes" => Some(Value::Answer(true)),
+        b"no" => Some(Value::Answer(false)),
+        _ => None,
     }
-    if text == b"no".as_slice() {
-        return Some(Value::Answer(false));
-    }
-    None
 }
 
 fn engine_in(text: &[u8]) -> Option<Value>
     ensures { MatchOption result ((value : Value) → IsEngine text.now value → ⊥) (IsEngine text.now) }
 {
-    if text == b"race".as_slice() {
-        return Some(Value::Kind(EngineKind::Race));
+    match text {
+        b"race" => Some(Value::Kind(EngineKind::Race)),
+        b"core" => Some(Value::Kind(EngineKind::Core)),
+        b"seq" => Some(Value::Kind(EngineKind::Seq)),
+        b"plain" => Some(Value::Kind(EngineKind::Plain)),
+        _ => None,
     }
-    if text == b"core".as_slice() {
-        return Some(Value::Kind(EngineKind::Core));
-    }
-    if text == b"seq".as_slice() {
-        return Some(Value::Kind(EngineKind::Seq));
-    }
-    if text == b"plain".as_slice() {
-        return Some(Value::Kind(EngineKind::Plain));
-    }
-    None
 }

@@ -30,10 +30,6 @@ pub if_err : {T E : Type 0} (r : Result T E) (a x : E) (P : E → Type 0) → r 
 if_err (Ok v) a x P e s h = tt
 if_err (Err y) a x P e s h = let is : y ≡ a = cc e in subst P (sym (is ∙ s)) h
 
-pub is_shown : (shows : Bool) → not shows ≡ false → shows ≡ true
-is_shown true e = refl
-is_shown false e = cc e
-
 pub is_hidden : (shows : Bool) → not shows ≡ true → shows ≡ false
 is_hidden true e = cc e
 is_hidden false e = refl

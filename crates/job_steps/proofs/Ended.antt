@@ -1,5 +1,6 @@
 -- A task ends with its series, or without it.
 use Rattle.std.proofs.Common.{◌≡◌, ◌-◌, ℕ, Bool, true, false, List, [], ◌++◌, refl, sym, inl, inr, arith, subst}
+use Rattle.std.proofs.lemmas.Bool.{both_ways}
 use Rattle.std.proofs.lemmas.List.{append-nil}
 use Rattle.std.proofs.KnownBytes.{Appends-trans}
 use Rattle.ideal_laws.specs.Laws.{IsSetting}
@@ -19,14 +20,11 @@ shown shows P x is h = subst (λ (b : Bool). IsPart b P x) (sym is) h
 hidden : (shows : Bool) (P : List ℕ → Type 0) → shows ≡ false → IsPart shows P []
 hidden shows P is = subst (λ (b : Bool). IsPart b P []) (sym is) refl
 
-not_both : (b : Bool) → b ≡ false → b ≡ true → ⊥
-not_both b e f = cc
-
 module _ (t : Task) (text : List ℕ) (so_far : IsBasisSoFar t t.bound text) where
   -- no series is shown
   pub done_with_basis : (a c : SinkState) → t.shows_series ≡ false → GainsAll a c text → HasPrinted t whole a c
   done_with_basis a c hides w = record {
-    is_reach = (so_far.passes_none, λ shows. absurd (not_both t.shows_series hides shows));
+    is_reach = (so_far.passes_none, λ shows. absurd (both_ways t.shows_series hides shows));
     text = text;
     is_text = record {
       basis = text;

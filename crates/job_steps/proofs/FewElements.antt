@@ -13,7 +13,7 @@ use Rattle.free_poly.proofs.NormalForms.{letterwise-trans}
 use Rattle.free_poly.proofs.Totals.{letterwise-apart}
 use Rattle.ideal_laws.specs.Ideal.{Ideal}
 use Rattle.ideal_laws.specs.declared.limits.LimitKind.{LimitKind}
-use Rattle.ideal_laws.specs.declared.limits.LimitKind.TheVariants.{PlainWords, Rows, Columns, Entries, Cells, Terms, NormalWords}
+use Rattle.ideal_laws.specs.declared.limits.LimitKind.TheVariants.{PlainWords, Terms}
 use Rattle.ideal_laws.specs.Basis.{HasGreaterLead, IsReduced, IsReducedBasis}
 use Rattle.ideal_laws.specs.Engine.{Elements}
 use Rattle.ideal_laws.specs.Laws.{IsSetting}
@@ -99,14 +99,10 @@ module _ (ideal : Ideal) (st : IsSetting ideal) (d : ℕ) (below : Elements) (ba
   few_by : (kind : LimitKind) (number : ℕ) → BoundsElements kind number → (q : ℕ) → IsQuantity ideal below d kind q → q ≤ number →
       length basis ≤ 16777216
   few_by PlainWords number bounds q h le = omega (arith, few_leads, h, le, bounds)
-  few_by Rows number bounds q h le = absurd bounds
-  few_by Columns number bounds q h le = absurd bounds
-  few_by Entries number bounds q h le = absurd bounds
-  few_by Cells number bounds q h le = absurd bounds
   few_by Terms number bounds q h le =
       let same = bases_are_one ideal d basis h.0 is_basis h.1 in
       omega (arith, some_terms basis (λ f m. ((is_basis.exactly f).0 m).monic), ap terms_in same, h.2, le, bounds)
-  few_by NormalWords number bounds q h le = absurd bounds
+  few_by kind number bounds q h le = absurd bounds
 
   pub few_elements : (limits : List (LimitKind × ℕ)) (l : LimitKind × ℕ) → Contains limits l → BoundsElements l.0 l.1 →
       NonePasses (IsQuantity ideal below d) limits → length basis ≤ 16777216

@@ -1,8 +1,7 @@
 -- Relations, obstruction rows and reducers of a degree have words of this degree alone.
-use Rattle.std.proofs.Common.{◌≡◌, ◌⊎◌, ◌+◌, ◌*◌, ◌-◌, ◌<◌, ◌==◌, ℕ, Bool, true, false, cond, List, [], ◌∷◌, ◌++◌, length, take, drop, refl, sym, ap, ◌∙◌, inl}
+use Rattle.std.proofs.Common.{◌≡◌, ◌⊎◌, ◌+◌, ◌*◌, ◌-◌, ◌<◌, ℕ, List, [], ◌∷◌, ◌++◌, length, take, drop, sym, ap, ◌∙◌, inl}
 use Rattle.std.proofs.Common.{inr, arith, subst, append_assoc, Some}
 use Rattle.std.specs.List.{Contains}
-use Rattle.std.proofs.lemmas.Bool.{eqb-true}
 use Rattle.std.proofs.lemmas.List.{drop-drop, take-append-drop}
 use Rattle.std.proofs.lemmas.List.Elements.{All-append, All-cons, All-contains, All-head, All-map, All-nil}
 use Rattle.std.proofs.lemmas.Option.{get_or_from_slice_get, slice_get_within}
@@ -10,7 +9,7 @@ use Rattle.words.specs.Order.{IsLetterwiseGreater}
 use Rattle.words.specs.Words.{IsOver, degree_of, words_of_degree}
 use Rattle.words.proofs.Degrees.{lists_words}
 use Rattle.words.proofs.Weights.{degree_of-append}
-use Rattle.words.proofs.Members.{AllPairs-first, All-from_members, Contains-cases, Contains-first, Contains-map_cases, Contains-more, Contains-none}
+use Rattle.words.proofs.Members.{AllPairs-first, All-from_members, Contains-cases, Contains-map_cases, Contains-none}
 use Rattle.free_poly.specs.declared.term.Term.{Term}
 use Rattle.free_poly.specs.Poly.{IsPolynomial, lead_of}
 use Rattle.free_poly.specs.Terms.{HasDegree, HasOneDegree, UsesLetters, product, scaled}
@@ -22,7 +21,7 @@ use Rattle.ideal_laws.specs.Kept.{IsBelow, lead_degree}
 use Rattle.ideal_laws.specs.Laws.{IsRelation, IsSetting}
 use Rattle.ideal_laws.proofs.Closed.{lead-product}
 use Rattle.ideal_laws.proofs.Factors.{All-back, All-front}
-use Rattle.ideal_laws.proofs.Lower.{lists_lower}
+use Rattle.ideal_laws.proofs.Lower.{lists_lower, of_degree-says}
 use Rattle.job_steps.proofs.Closures.{words_in}
 use Rattle.job_steps.proofs.Reducers.{some_word}
 
@@ -44,20 +43,6 @@ has_degree weights d [] one is = All-nil (λ t. degree_of weights t.word ≡ d)
 has_degree weights d (t ∷ f) one is = All-cons (λ s. degree_of weights s.word ≡ d) t f is (All-from_members (λ s. degree_of weights s.word ≡ d) f
     (λ s m. sym (All-contains (λ (u : Term). degree_of weights t.word ≡ degree_of weights u.word) f s
     (AllPairs-first (λ (a b : Term). degree_of weights a.word ≡ degree_of weights b.word) t f one) m) ∙ is))
-
-degree_member : (weights : List ℕ) (d : ℕ) (fs : List (List Term)) (f : List Term) → Contains (of_degree weights d fs) f →
-    Contains fs f × (lead_degree weights f ≡ d)
-degree_member weights d [] f m = absurd (Contains-none f m)
-degree_member weights d ([] ∷ fs) f m = let r = degree_member weights d fs f m in (Contains-more [] fs f r.0, r.1)
-degree_member weights d ((t ∷ g) ∷ fs) f m = by_test (degree_of weights t.word == d) refl m (λ n. degree_member weights d fs f n)
-  where
-    by_test : (b : Bool) → (degree_of weights t.word == d) ≡ b → Contains (cond b ((t ∷ g) ∷ of_degree weights d fs) (of_degree weights d fs)) f →
-        (Contains (of_degree weights d fs) f → Contains fs f × (lead_degree weights f ≡ d)) → Contains ((t ∷ g) ∷ fs) f × (lead_degree weights f ≡ d)
-    by_test true e n rest = elim (Contains-cases (t ∷ g) (of_degree weights d fs) f n) [
-      | inl is ↦ (subst (Contains ((t ∷ g) ∷ fs)) is (Contains-first (t ∷ g) fs), ap (lead_degree weights) (sym is) ∙ eqb-true (degree_of weights t.word) d e)
-      | inr k ↦ let r = rest k in (Contains-more (t ∷ g) fs f r.0, r.1)
-    ]
-    by_test false e n rest = let r = rest n in (Contains-more (t ∷ g) fs f r.0, r.1)
 
 module _ (ideal : Ideal) (st : IsSetting ideal) (d : ℕ) (below : Elements) (is_below : IsBelow ideal d below) where
   abbrev G : List (List Term)
@@ -97,7 +82,7 @@ module _ (ideal : Ideal) (st : IsSetting ideal) (d : ℕ) (below : Elements) (is
 
   pub relation_in : (f : List Term) → Contains (of_degree ideal.weights d ideal.relations) f → IsInDegree f
   relation_in f m =
-      let r = degree_member ideal.weights d ideal.relations f m in
+      let r = of_degree-says ideal.weights d ideal.relations f m in
       let h = All-contains (IsRelation ideal.modulus ideal.weights) ideal.relations f st.are_relations r.0 in
       in_degree f h.letters (has_degree ideal.weights d f h.one_degree r.1)
 

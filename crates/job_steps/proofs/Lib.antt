@@ -1,3 +1,4 @@
+pub mod FactorFree
 pub mod Gaining
 pub mod Printed
 pub mod Traced

@@ -2,7 +2,7 @@
 use Rattle.std.proofs.Common.{ℕ, List, refl}
 use Rattle.ideal_laws.specs.declared.limits.LimitKind.TheVariants.{NormalWords}
 use Rattle.job_steps.specs.declared.status.Status.{Status}
-use Rattle.job_steps.specs.declared.status.Status.TheVariants.{Done, Usage, Input, Limit, Chains, Products, ReadFault, WriteFault, NoMemory}
+use Rattle.job_steps.specs.declared.status.Status.TheVariants.{Done, Limit}
 use Rattle.job_steps.specs.Gains.{HasPrintedPart, HasPrintedSome}
 use Rattle.job_steps.specs.Progress.{IsBeginning, IsReach, IsTaskText, IsText, Reach, Task, crowded, ideal_of_task, refused, whole}
 use Rattle.job_steps.specs.Reaches.{HasOneOutcome, HasOneReach, HasOneText, IsPosed}
@@ -38,14 +38,8 @@ module _ (t : Task) where
   -- the text of an outcome is that of the task
   outcome_text : (status : Status) (text : List ℕ) → IsTaskOutcome t status text → IsTaskText t text
   outcome_text Done text h = (whole, h.0, h.1)
-  outcome_text (Usage fault) text h = absurd h
-  outcome_text (Input problem) text h = absurd h
   outcome_text (Limit kind d value) text h = (h.0, h.1, h.3)
-  outcome_text (Chains d value) text h = absurd h
-  outcome_text (Products d value) text h = absurd h
-  outcome_text ReadFault text h = absurd h
-  outcome_text WriteFault text h = absurd h
-  outcome_text NoMemory text h = absurd h
+  outcome_text status text h = absurd h
 
   module _ (posed : IsPosed t) where
     -- what was due begins the text of an outcome

@@ -2,7 +2,7 @@
 use Rattle.std.proofs.Common.{◌≡◌, ◌⊎◌, ◌+◌, ◌-◌, ◌<◌, ◌≤◌, ℕ, zero, suc, Bool, true, false, List, [], ◌∷◌, length, map, refl, sym}
 use Rattle.std.proofs.Common.{inl, inr, arith, subst}
 use Rattle.std.specs.List.{range_with_len}
-use Rattle.std.proofs.lemmas.Bool.{cases_lt}
+use Rattle.std.proofs.lemmas.Bool.{both_ways, cases_lt}
 use Rattle.std.proofs.lemmas.List.FromFn.{length-map-range_with_len}
 use Rattle.free_poly.specs.declared.term.Term.{Term}
 use Rattle.ideal_laws.specs.Ideal.{Ideal, ideal_over}
@@ -146,10 +146,7 @@ module _ (t : Task) (st : IsSetting (ideal_of_task t)) (some : 0 < length t.lett
   ]
 
   with_series : (shows : Bool) → t.shows_series ≡ shows → PassesNone t t.bound → (reach : Reach) × IsReach t reach
-  with_series false hides none = (whole, (none, λ shows. absurd (apart t.shows_series hides shows)))
-    where
-      apart : (b : Bool) → b ≡ false → b ≡ true → ⊥
-      apart b e f = cc
+  with_series false hides none = (whole, (none, λ shows. absurd (both_ways t.shows_series hides shows)))
   with_series true shows none = elim (small_or_large (ideal_of_task t) st t.normal_words (t.bound + 1)) [
     | inl small ↦ (whole, (none, λ _. small))
     | inr large ↦ (crowded large.0 large.1, (none, shows, omega (arith, large.2), large.3))

@@ -18,6 +18,7 @@ use Rattle.ideal_laws.proofs.OneQuantity.{one_quantity}
 use Rattle.ideal_laws.proofs.Search.{same_lists}
 use Rattle.poly_writer.specs.Outputs.{IsBasisText, IsSeriesText}
 use Rattle.poly_writer.specs.Texts.{basis_text, degree_texts, series_text}
+use Rattle.relation_reader.proofs.Numbers.{neither_less}
 use Rattle.job_steps.specs.declared.print.PrintFault.{PrintFault}
 use Rattle.job_steps.specs.declared.print.PrintFault.TheVariants.{Limit, WriteFault, NoMemory}
 use Rattle.job_steps.specs.Gains.{GainsPart, GainsSome, HasPrintedPart, HasPrintedSome, IsUndone}
@@ -78,13 +79,7 @@ module _ (ideal : Ideal) (st : IsSetting ideal) where
       omega (arith, s.2, large.large, one_coefficient d s.0 large.coefficient s.1 large.is_coefficient)
 
   first_large : (limit d e v w : ℕ) → IsFirstLargeCoefficient ideal limit d v → IsFirstLargeCoefficient ideal limit e w → d ≡ e
-  first_large limit d e v w a b = elim (cases_lt d e) [
-    | inl less ↦ absurd (small_and_large limit d e v b.before a less)
-    | inr le ↦ elim (cases_lt e d) [
-      | inl less ↦ absurd (small_and_large limit e d w a.before b less)
-      | inr ge ↦ let same : d ≡ e = omega (arith, le, ge) in same
-    ]
-  ]
+  first_large limit d e v w a b = neither_less d e (small_and_large limit d e v b.before a) (small_and_large limit e d w a.before b)
 
 -- what passes is not at most its limit
 none_and_first : (Q : Quantities) (limits : List (LimitKind × ℕ)) → ((kind : LimitKind) (q r : ℕ) → Q kind q → Q kind r → q ≡ r) →
@@ -120,13 +115,8 @@ module _ (t : Task) (st : IsSetting (ideal_of_task t)) where
 
   first_refused : (d e v w : ℕ) (k l : LimitKind) → IsFirstRefused (ideal_of_task t) t.limits t.bound k d v →
       IsFirstRefused (ideal_of_task t) t.limits t.bound l e w → d ≡ e
-  first_refused d e v w k l a b = elim (cases_lt d e) [
-    | inl less ↦ absurd (none_and_refused d (e - 1) v k b.before a (omega (arith, less)))
-    | inr le ↦ elim (cases_lt e d) [
-      | inl less ↦ absurd (none_and_refused e (d - 1) w l a.before b (omega (arith, less)))
-      | inr ge ↦ let same : d ≡ e = omega (arith, le, ge) in same
-    ]
-  ]
+  first_refused d e v w k l a b = neither_less d e (λ less. none_and_refused d (e - 1) v k b.before a (omega (arith, less)))
+      (λ less. none_and_refused e (d - 1) w l a.before b (omega (arith, less)))
 
   -- with its kind and value
   refused_one : (d v w : ℕ) (k l : LimitKind) → IsFirstRefused (ideal_of_task t) t.limits t.bound k d v →

@@ -2,6 +2,7 @@
 use Rattle.std.proofs.Common.{◌≡◌, ◌+◌, ◌≤◌, ℕ, Bool, true, false, List, [], ◌∷◌, ◌++◌, length, refl, sym, ap, ◌∙◌, arith, subst, append_assoc, length-append}
 use Rattle.std.proofs.lemmas.List.{append-nil}
 use Rattle.std.specs.Io.KnownBytes.{Appends}
+use Rattle.std.proofs.lemmas.Bool.{both_ways}
 use Rattle.std.proofs.KnownBytes.{Appends-nil, Appends-trans}
 use Rattle.bg_io.specs.Ends.{Rose}
 use Rattle.words.specs.Names.{Letters}
@@ -57,15 +58,12 @@ module _ (May : Accounts) (t : Task) where
   part_next true e text account h one = trace_next e text account h one
   part_next false e text account h one = ap (λ (l : List ℕ). l ++ []) h
 
-apart : (b : Bool) → b ≡ false → b ≡ true → ⊥
-apart b e f = cc
-
 pub tells_none : (a : TellerState) → Tells a a []
 tells_none a = record {
   later = omega arith;
   silent = λ is. (is, Appends-nil a.err.held);
   whole = λ is still. Appends-nil a.err.held;
-  part = λ is fails. absurd (apart a.failed is fails);
+  part = λ is fails. absurd (both_ways a.failed is fails);
 }
 
 some_then_none : (a c d : SinkState) (x y : List ℕ) → GainsSome a c x → Appends c.held d.held [] → GainsSome a d (x ++ y)
@@ -83,7 +81,7 @@ module _ (a b c : TellerState) (x y : List ℕ) (w : Tells a b x) (v : Tells b c
   by_middle true is = record {
     later = omega (arith, w.later, v.later);
     silent = λ begun. ((v.silent is).0, Appends-trans a.err.held b.err.held c.err.held [] [] (w.silent begun).1 (v.silent is).1);
-    whole = λ begun still. absurd (apart c.failed still (v.silent is).0);
+    whole = λ begun still. absurd (both_ways c.failed still (v.silent is).0);
     part = λ begun fails. (
       rose_kept a.err.faults b.err.faults c.err.faults (w.part begun is).0 v.later,
       some_then_none a.err b.err c.err x y (w.part begun is).1 (v.silent is).1,
@@ -91,7 +89,7 @@ module _ (a b c : TellerState) (x y : List ℕ) (w : Tells a b x) (v : Tells b c
   }
   by_middle false is = record {
     later = omega (arith, w.later, v.later);
-    silent = λ begun. absurd (apart b.failed is (w.silent begun).0);
+    silent = λ begun. absurd (both_ways b.failed is (w.silent begun).0);
     whole = λ begun still. Appends-trans a.err.held b.err.held c.err.held x y (w.whole begun is) (v.whole is still);
     part = λ begun fails. (
       rose_behind a.err.faults b.err.faults c.err.faults w.later (v.part is fails).0,

@@ -1,6 +1,6 @@
 ghost use Rattle.std.specs.Prelude.{◌≡◌, ◌≢◌, []};
 ghost use Rattle.bg_io.specs.Ends.{CountsGained};
-ghost use Rattle.job_steps.specs.declared.status.Status.TheVariants.{Limit};
+ghost use Rattle.job_steps.specs.declared.status.Status.TheVariants.{Done, Limit};
 ghost use Rattle.job_steps.specs.States.{state_of};
 ghost use Rattle.job_steps.specs.Answers.{IsStopped};
 ghost use Rattle.job_steps.specs.Statuses.{IsAnswered, IsOwn, IsThis};
@@ -19,18 +19,36 @@ pub struct Answer {
 }
 
 impl Answer {
+    /// The work is done, and has this text.
+    pub fn done(text: Vec<u8>) -> Answer
+        ensures { result ≡ record { status = Done; text = text.items } }
+    {
+        Answer {
+            status: Status::Done,
+            text: Items::from_vec(text),
+        }
+    }
+
+    /// The work ends with this status, and there is no text.
+    pub fn without_text(alloc: Global, status: Status) -> Answer
+        ensures { result ≡ record { status = status; text = [] } }
+    {
+        Answer {
+            status,
+            text: Items::from_vec(Vec::new(alloc)),
+        }
+    }
+
     /// A limit stops the work, and there is no text.
     pub fn limit(alloc: Global, kind: LimitKind, degree: u32, value: u64) -> Answer
         ensures { result ≡ record { status = Limit kind degree value; text = [] } }
     {
-        Answer {
-            status: Status::Limit {
-                kind,
-                degree,
-                value,
-            },
-            text: Items::from_vec(Vec::new(alloc)),
-        }
+        let status = Status::Limit {
+            kind,
+            degree,
+            value,
+        };
+        Answer::without_text(alloc, status)
     }
 
     /// The engine has given up: at a limit, or for want of memory.

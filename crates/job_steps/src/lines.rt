@@ -1,10 +1,9 @@
 ghost use Rattle.std.specs.Prelude.{◌≡◌, ◌+◌, ◌≤◌, ◌++◌, ◌∷◌, [], codes, decimal, length};
-ghost use Rattle.command_words.specs.Keys.{name_of};
 ghost use Rattle.job_steps.specs.Lines.{counted, fault_line, input_text, kind_text, limit_text, line};
 ghost use Rattle.job_steps.specs.Lines.{problem_text, usage_text, want_text};
 
 use crate::status::{InputProblem, Status};
-use command_words::{Key, UsageFault};
+use command_words::{UsageFault, key_name};
 use ideal_laws::LimitKind;
 use itoa::Buffer;
 use relation_reader::{InputFault, Want};
@@ -223,26 +222,6 @@ fn counted_line(number: u32, back: &[u8]) -> Line
     line.push_text(back);
     line.push_text(b"\n");
     line
-}
-
-fn key_name(key: Key) -> &'static [u8]
-    ensures text { result.now ≡ name_of key }
-    ensures short { length result.now ≤ 30 }
-{
-    match key {
-        Key::Mod => b"mod",
-        Key::Deg => b"deg",
-        Key::Workers => b"workers",
-        Key::Show => b"show",
-        Key::Trace => b"trace",
-        Key::Engine => b"engine",
-        Key::Schedule => b"schedule",
-        Key::Number => b"number",
-        Key::Vars => b"vars",
-        Key::Gens => b"gens",
-        Key::List => b"list",
-        Key::Ask => b"ask",
-    }
 }
 
 fn expected_name(what: Want) -> &'static [u8]

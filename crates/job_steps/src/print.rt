@@ -289,10 +289,7 @@ fn write_element<K: Sink>(
     ensures calls { CountsWrites (state_of K.Sink out.old) (state_of K.Sink out.new) result }
 {
     let line = element_line(alloc, alphabet, field, element)?;
-    match write_text(out, line.as_slice()) {
-        Ok(()) => Ok(()),
-        Err(fault) => Err(fault),
-    }
+    write_text(out, line.as_slice())
 }
 
 /// Writes the series of a reduced basis.
@@ -352,10 +349,7 @@ fn write_series<K: Sink>(alloc: Global, numbers: &[u64], out: &mut K) -> Result<
     ensures calls { CountsWrites (state_of K.Sink out.old) (state_of K.Sink out.new) result }
 {
     let text = series_text(alloc, numbers)?;
-    match write_text(out, text.as_slice()) {
-        Ok(()) => Ok(()),
-        Err(fault) => Err(fault),
-    }
+    write_text(out, text.as_slice())
 }
 
 fn write_text<K: Sink>(out: &mut K, text: &[u8]) -> Result<(), PrintFault>

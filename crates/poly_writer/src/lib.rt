@@ -13,5 +13,5 @@ pub use element::{
     balanced_size, degree_text, element_line, head_line, poly_text, push_size, push_term,
 };
 pub use piece::{push_number, push_word};
-pub use series::series_text;
+pub use series::{push_series, series_text};
 pub use trace::trace_text;

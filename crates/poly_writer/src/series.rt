@@ -1,5 +1,5 @@
 ghost use Rattle.std.specs.Prelude.{◌≡◌, ◌++◌, codes, decimal, IfOk};
-ghost use Rattle.poly_writer.specs.Texts.{line, series_text};
+ghost use Rattle.poly_writer.specs.Texts.{line, series_lines, series_text};
 
 use crate::piece::push_number;
 use std::alloc::Global;
@@ -10,10 +10,18 @@ pub fn series_text(alloc: Global, numbers: &[u64]) -> Result<Vec<u8>, NoMemory>
     ensures { IfOk result (λ v. v.items ≡ series_text numbers.now) }
 {
     let mut text = Vec::from_slice(alloc, b"% series\n")?;
-    for (degree, number) in numbers.iter().enumerate() {
-        push_number_of_degree(&mut text, degree, *number)?;
-    }
+    push_series(&mut text, numbers)?;
     Ok(text)
+}
+
+/// Adds the lines of the numbers to the text, without the line above them.
+pub fn push_series(text: &mut Vec<u8>, numbers: &[u64]) -> Result<(), NoMemory>
+    ensures { IfOk result (λ _. text.new.items ≡ text.old.items ++ series_lines 0 numbers.now) }
+{
+    for (degree, number) in numbers.iter().enumerate() {
+        push_number_of_degree(text, degree, *number)?;
+    }
+    Ok(())
 }
 
 fn push_number_of_degree(text: &mut Vec<u8>, degree: usize, number: u64) -> Result<(), NoMemory>

@@ -9,10 +9,10 @@ use Rattle.relation_reader.specs.Meaning.{is_among, letter_of}
 use Rattle.relation_reader.specs.Gathering.{known_letter}
 use Rattle.relation_reader.proofs.Declarations.{among}
 
-same_bytes : (x y : List ℕ) → x ≡ y → bytes_eq x y ≡ true
+pub same_bytes : (x y : List ℕ) → x ≡ y → bytes_eq x y ≡ true
 same_bytes x y e = (bytes_eq-Decides x y).1 e
 
-other_bytes : (x y : List ℕ) → x ≢ y → bytes_eq x y ≡ false
+pub other_bytes : (x y : List ℕ) → x ≢ y → bytes_eq x y ≡ false
 other_bytes x y ne = false_from_ne_true (bytes_eq x y) (λ e. ne ((bytes_eq-Decides x y).0 e))
 
 record IsFound (names : List (List ℕ)) (x : List ℕ) (k : ℕ) : Type 0 where

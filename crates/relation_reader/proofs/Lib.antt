@@ -1,3 +1,4 @@
+pub mod Numbers
 pub mod Bools
 pub mod Spans
 pub mod TextSplits

@@ -121,7 +121,7 @@ meanings-of p some names (r ∷ rs) =
     record { meanings = f.polynomial ∷ rest.meanings; are = (record { form = f.form; residues = f.residues; sum = f.sum }, rest.are) }
 
 -- where no fault has a place, no fault of tokens ends the text
-no-stop : (xs : List (Option InputFault)) (stop : Option InputFault) → first_of (xs ++ stop ∷ []) ≡ None → stop ≡ None
+pub no-stop : (xs : List (Option InputFault)) (stop : Option InputFault) → first_of (xs ++ stop ∷ []) ≡ None → stop ≡ None
 no-stop xs None none = refl
 no-stop xs (Some fault) none = absurd (let e : Some fault ≡ None = first_of-later xs (Some fault ∷ []) none in cc)
 

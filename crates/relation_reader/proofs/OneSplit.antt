@@ -3,7 +3,7 @@ use Rattle.std.proofs.Common.{ℕ, suc, ◌≡◌, ◌≢◌, ◌+◌, ◌-◌, 
 use Rattle.std.proofs.Common.{length, take, drop, get_or, bytes_eq, Option, Some, None, inl, inr, refl, sym, ap, subst, ◌∙◌, length-drop, arith}
 use Rattle.std.proofs.Math.Seq.{take-add}
 use Rattle.std.proofs.lemmas.List.{drop_more, drop-drop, take-append-drop, length-take}
-use Rattle.std.proofs.lemmas.Bool.{cases_Bool, cases_lt, eqb-true}
+use Rattle.std.proofs.lemmas.Bool.{cases_Bool, eqb-true}
 use Rattle.std.proofs.lemmas.Bool.Decides.{nat_tests}
 use Rattle.std.proofs.lemmas.Slice.Eq.{bytes_eq-Decides}
 use Rattle.relation_reader.specs.declared.token.Mark.{Mark}
@@ -15,6 +15,7 @@ use Rattle.relation_reader.specs.Tokens.{between, comment, broken, IsBadByte, Is
 use Rattle.relation_reader.specs.Tokens.{after_bytes, are_all, begins, goes_on, is_digit, is_letter, is_mark_byte, is_name_byte, is_text, span}
 use Rattle.relation_reader.specs.Tokens.{with_digits}
 use Rattle.relation_reader.specs.Scan.{IsFaultAt}
+use Rattle.relation_reader.proofs.Numbers.{neither_less}
 use Rattle.relation_reader.proofs.Spans.{after_bytes-append, are_all-append, begins-drop}
 use Rattle.relation_reader.proofs.TextSplits.{BreaksAt, same_number, whole}
 
@@ -64,13 +65,7 @@ no-earlier text from a b h k less =
     ∙ gap-ends (span text from a) (span text (a + 1) b) (get_or text a 0) h.gap.1 h.breaks)
 
 breaks-once : (text : List ℕ) (from a b : ℕ) → BreaksAt text from a → BreaksAt text from b → a ≡ b
-breaks-once text from a b h k = elim (cases_lt a b) [
-  | inl less ↦ absurd (no-earlier text from a b h k less)
-  | inr past ↦ elim (cases_lt b a) [
-    | inl less ↦ absurd (no-earlier text from b a k h less)
-    | inr behind ↦ omega arith
-  ]
-]
+breaks-once text from a b h k = neither_less a b (no-earlier text from a b h k) (no-earlier text from b a k h)
 
 and_first : (a b : Bool) → (a && b) ≡ true → a ≡ true
 and_first true b e = refl
@@ -121,15 +116,7 @@ mark_from k value = if k == 0 then marks.Name else if k == 1 then marks.Number v
 
 mark-is : (mark : Mark) → mark ≡ mark_from (kind mark) (value_of mark)
 mark-is marks.Name = refl
-mark-is (marks.Number value) = refl
-mark-is marks.Plus = refl
-mark-is marks.Minus = refl
-mark-is marks.Star = refl
-mark-is marks.Caret = refl
-mark-is marks.Comma = refl
-mark-is marks.Semicolon = refl
-mark-is marks.Colon = refl
-mark-is marks.End = refl
+mark-is mark = refl
 
 letter-kind : (b : ℕ) → is_letter b ≡ true → byte_kind b ≡ 0
 letter-kind b e = ap (λ t. if t then 0 else if is_digit b then 1 else if is_mark_byte b then b else 9) e
@@ -268,14 +255,8 @@ spells (marks.Number value) text s e h =
           sym (eqb-true (with_digits 0 x) value (and_second (begins is_digit x && are_all is_digit x) (with_digits 0 x == value) h));
       known = λ f. omega arith;
     }
-spells marks.Plus text s e h = spells-byte marks.Plus text s e h refl refl (λ f. omega arith)
-spells marks.Minus text s e h = spells-byte marks.Minus text s e h refl refl (λ f. omega arith)
-spells marks.Star text s e h = spells-byte marks.Star text s e h refl refl (λ f. omega arith)
-spells marks.Caret text s e h = spells-byte marks.Caret text s e h refl refl (λ f. omega arith)
-spells marks.Comma text s e h = spells-byte marks.Comma text s e h refl refl (λ f. omega arith)
-spells marks.Semicolon text s e h = spells-byte marks.Semicolon text s e h refl refl (λ f. omega arith)
-spells marks.Colon text s e h = spells-byte marks.Colon text s e h refl refl (λ f. omega arith)
 spells marks.End text s e h = absurd (let f : false ≡ true = h in cc)
+spells mark text s e h = spells-byte mark text s e h refl refl (λ f. omega arith)
 
 nothing-goes : (rest : List ℕ) → begins (λ b. false) rest ≡ false
 nothing-goes [] = refl
@@ -284,14 +265,7 @@ nothing-goes (b ∷ rest) = refl
 longest-of : (mark : Mark) (rest : List ℕ) → goes_on mark rest ≡ false → begins (goes (kind mark)) rest ≡ false
 longest-of marks.Name rest h = h
 longest-of (marks.Number value) rest h = h
-longest-of marks.Plus rest h = nothing-goes rest
-longest-of marks.Minus rest h = nothing-goes rest
-longest-of marks.Star rest h = nothing-goes rest
-longest-of marks.Caret rest h = nothing-goes rest
-longest-of marks.Comma rest h = nothing-goes rest
-longest-of marks.Semicolon rest h = nothing-goes rest
-longest-of marks.Colon rest h = nothing-goes rest
-longest-of marks.End rest h = nothing-goes rest
+longest-of mark rest h = nothing-goes rest
 
 no-shorter : (test : ℕ → Bool) (text : List ℕ) (a e f : ℕ) → a ≤ e → f ≤ length text → are_all test (span text a f) ≡ true →
     begins test (drop e text) ≡ false → e < f → ⊥
@@ -309,13 +283,8 @@ no-shorter test text a e f ordered within all longest less =
 ends-once : (test : ℕ → Bool) (text : List ℕ) (a e f : ℕ) → a ≤ e → a ≤ f → e ≤ length text → f ≤ length text →
     are_all test (span text a e) ≡ true → are_all test (span text a f) ≡ true → begins test (drop e text) ≡ false →
     begins test (drop f text) ≡ false → e ≡ f
-ends-once test text a e f i j k l all every longest last = elim (cases_lt e f) [
-  | inl less ↦ absurd (no-shorter test text a e f i l every longest less)
-  | inr past ↦ elim (cases_lt f e) [
-    | inl less ↦ absurd (no-shorter test text a f e j k all last less)
-    | inr behind ↦ omega arith
-  ]
-]
+ends-once test text a e f i j k l all every longest last =
+    neither_less e f (no-shorter test text a e f i l every longest) (no-shorter test text a f e j k all last)
 
 -- two marks that are spelled from one place on
 same-at : (text : List ℕ) (s : ℕ) (m n : Mark) (e f : ℕ) → e ≤ length text → f ≤ length text → is_text m (span text s e) ≡ true →

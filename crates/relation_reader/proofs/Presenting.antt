@@ -1,6 +1,6 @@
 -- From the declaration of a text without a fault that has a place, and the terms of its relations, to what the text
 -- says.
-use Rattle.std.proofs.Common.{ℕ, ◌≡◌, ◌-◌, ◌^◌, ◌<◌, ◌≤◌, List, [], ◌∷◌, ◌++◌, length, get_or, map, take, drop, Option, None, Some, false, inr, refl}
+use Rattle.std.proofs.Common.{ℕ, ◌≡◌, ◌-◌, ◌^◌, ◌<◌, ◌≤◌, List, [], length, get_or, map, take, drop, Option, None, Some, false, inr}
 use Rattle.std.proofs.Common.{sym, ap, ◌∙◌, arith, subst, All}
 use Rattle.std.proofs.lemmas.List.{get_or-map, length-drop, length-map, take_all}
 use Rattle.std.proofs.lemmas.List.Elements.{All-map, All-weaker}
@@ -16,7 +16,7 @@ use Rattle.relation_reader.specs.declared.place.Place.TheVariants as places
 use Rattle.relation_reader.specs.declared.token.Token.{Token}
 use Rattle.relation_reader.specs.Tokens.{SplitsFrom, span}
 use Rattle.relation_reader.specs.Grammar.{lexeme_of}
-use Rattle.relation_reader.specs.Meaning.{Reads, faults_from, first_of, letters_of, pieces_of, place_fault, placed_from}
+use Rattle.relation_reader.specs.Meaning.{Reads, faults_from, letters_of, pieces_of, place_fault, placed_from}
 use Rattle.relation_reader.specs.Answers.{IsReadError}
 use Rattle.relation_reader.specs.Gathering.{IsInside, Listed, fresh, gathered, lexemes_of, listed}
 use Rattle.relation_reader.specs.Elements.{AreElementsOf, AreSound, AreSummable, IsFirstError}
@@ -24,6 +24,7 @@ use Rattle.relation_reader.proofs.Bounds.{AreSmall, IsSmall, gathered-small}
 use Rattle.relation_reader.proofs.Gathers.{reduced_terms}
 use Rattle.relation_reader.proofs.Understood.{means-from, reduced-residues, understood}
 use Rattle.relation_reader.proofs.Walking.{token-within, tokens-few}
+use Rattle.relation_reader.proofs.OneReading.{no-stop}
 
 -- what holds of each value of a function holds of each of its arguments
 pub All-from_map : {X Y : Type 0} (P : Y → Type 0) (f : X → Y) (xs : List X) → All P (map f xs) → All (λ x. P (f x)) xs
@@ -145,12 +146,6 @@ module _ (text : List ℕ) (tokens : List Token) (none : place_fault (pieces_of 
           (subst (λ (ls : List (List Term)). AreElementsOf p ls h.elements) sums-are h.elements_are);
       first = h.first;
     })
-
-no-stop : (xs : List (Option InputFault)) (stop : Option InputFault) → first_of (xs ++ stop ∷ []) ≡ None → stop ≡ None
-no-stop [] None e = refl
-no-stop [] (Some fault) e = absurd (let f : Some fault ≡ None = e in cc)
-no-stop (None ∷ xs) stop e = no-stop xs stop e
-no-stop (Some fault ∷ xs) stop e = absurd (let f : Some fault ≡ None = e in cc)
 
 -- where no fault of a text has a place, there is none of tokens either
 pub unstopped : (text : List ℕ) (tokens : List Token) (stop : Option InputFault) → place_fault (pieces_of text tokens stop) stop ≡ None → stop ≡ None

@@ -42,7 +42,7 @@ gap-next gap text start end ordered within =
     ap (after_bytes gap) (span-next text start end ordered within)
     ∙ after_bytes-append gap (span text start end) (get_or text end 0 ∷ [])
 
-with_digits-append : (n : ℕ) (xs : List ℕ) (b : ℕ) → with_digits n (xs ++ b ∷ []) ≡ with_digits n xs * 10 + (b - 48)
+pub with_digits-append : (n : ℕ) (xs : List ℕ) (b : ℕ) → with_digits n (xs ++ b ∷ []) ≡ with_digits n xs * 10 + (b - 48)
 with_digits-append n [] b = refl
 with_digits-append n (x ∷ xs) b = with_digits-append (n * 10 + (x - 48)) xs b
 

@@ -69,14 +69,15 @@ record IsTail (x : Behind) (fs : List Factor) (ss : List Signed) (rs : List Rela
 record IsHead (x : Behind) (r : Relation) (rs : List Relation) : Type 0 where
   relation_is : x.relation ≡ r
   relations_are : x.relations ≡ rs
-  all_are : x.all ≡ r ∷ rs
+  all_are : x.all ≡ x.relation ∷ x.relations
 
--- before a summand
+-- before a summand, with which a relation without a sign begins
 record IsPart (x : Behind) (s : Summand) (ss : List Signed) (rs : List Relation) : Type 0 where
   summand_is : x.summand ≡ s
   signed_are : x.signed ≡ ss
   relations_are : x.relations ≡ rs
-  head : IsHead x (record { sign = None; first = s; others = ss }) rs
+  relation_is : x.relation ≡ record { sign = None; first = x.summand; others = x.signed }
+  all_are : x.all ≡ x.relation ∷ x.relations
 
 factor-part : (f : Factor) (rest : List Lexeme) (fs : List Factor) (ss : List Signed) (rs : List Relation) → IsTail (behind rest) fs ss rs →
     IsPart (behind (spelled_factor f ++ rest)) (record { first = f; others = fs }) ss rs
@@ -84,44 +85,22 @@ factor-part (constant value) rest fs ss rs tail = record {
   summand_is = λ i. record { first = constant value; others = tail.others_are i };
   signed_are = tail.signed_are;
   relations_are = tail.relations_are;
-  head = record {
-    relation_is = λ i. record { sign = None; first = record { first = constant value; others = tail.others_are i }; others = tail.signed_are i };
-    relations_are = tail.relations_are;
-    all_are = λ i. record { sign = None; first = record { first = constant value; others = tail.others_are i }; others = tail.signed_are i }
-        ∷ tail.relations_are i;
-  };
+  relation_is = refl;
+  all_are = refl;
 }
 factor-part (power letter (Some value)) rest fs ss rs tail = record {
   summand_is = λ i. record { first = power letter (Some value); others = tail.others_are i };
   signed_are = tail.signed_are;
   relations_are = tail.relations_are;
-  head = record {
-    relation_is = λ i. record { sign = None; first = record { first = power letter (Some value); others = tail.others_are i }; others = tail.signed_are i };
-    relations_are = tail.relations_are;
-    all_are = λ i. record {
-      sign = None;
-      first = record { first = power letter (Some value); others = tail.others_are i };
-      others = tail.signed_are i;
-    } ∷ tail.relations_are i;
-  };
+  relation_is = refl;
+  all_are = refl;
 }
 factor-part (power letter None) rest fs ss rs tail = record {
   summand_is = λ i. record { first = power letter (tail.exponent_is i); others = tail.others_are i };
   signed_are = tail.signed_are;
   relations_are = tail.relations_are;
-  head = record {
-    relation_is = λ i. record {
-      sign = None;
-      first = record { first = power letter (tail.exponent_is i); others = tail.others_are i };
-      others = tail.signed_are i;
-    };
-    relations_are = tail.relations_are;
-    all_are = λ i. record {
-      sign = None;
-      first = record { first = power letter (tail.exponent_is i); others = tail.others_are i };
-      others = tail.signed_are i;
-    } ∷ tail.relations_are i;
-  };
+  relation_is = refl;
+  all_are = refl;
 }
 
 others-tail : (fs : List Factor) (rest : List Lexeme) (ss : List Signed) (rs : List Relation) → IsTail (behind rest) [] ss rs →
@@ -169,16 +148,20 @@ signed-tail (s ∷ ss) rest rs tail =
 
 first-head : (sign : Option Sign) (ls : List Lexeme) (s : Summand) (ss : List Signed) (rs : List Relation) → IsPart (behind ls) s ss rs →
     IsHead (behind (spelled_first_sign sign ++ ls)) (record { sign = sign; first = s; others = ss }) rs
-first-head None ls s ss rs part = part.head
+first-head None ls s ss rs part = record {
+  relation_is = part.relation_is ∙ (λ i. record { sign = None; first = part.summand_is i; others = part.signed_are i });
+  relations_are = part.relations_are;
+  all_are = part.all_are;
+}
 first-head (Some positive) ls s ss rs part = record {
   relation_is = λ i. record { sign = Some positive; first = part.summand_is i; others = part.signed_are i };
   relations_are = part.relations_are;
-  all_are = λ i. record { sign = Some positive; first = part.summand_is i; others = part.signed_are i } ∷ part.relations_are i;
+  all_are = refl;
 }
 first-head (Some negative) ls s ss rs part = record {
   relation_is = λ i. record { sign = Some negative; first = part.summand_is i; others = part.signed_are i };
   relations_are = part.relations_are;
-  all_are = λ i. record { sign = Some negative; first = part.summand_is i; others = part.signed_are i } ∷ part.relations_are i;
+  all_are = refl;
 }
 
 relation-head : (r : Relation) (rest : List Lexeme) (rs : List Relation) → IsTail (behind rest) [] [] rs → IsHead (behind (spelled_relation r ++ rest)) r rs
@@ -204,8 +187,9 @@ further-tail (r ∷ rs) =
 relations-all : (rs : List Relation) → (behind (spelled_relations rs ++ ending)).all ≡ rs
 relations-all [] = refl
 relations-all (r ∷ rs) =
+    let head = relation-head r (commaed rs ++ ending) rs (further-tail rs) in
     ap (λ ls. (behind ls).all) (append_assoc (spelled_relation r) (commaed rs) ending)
-    ∙ (relation-head r (commaed rs ++ ending) rs (further-tail rs)).all_are
+    ∙ head.all_are ∙ (λ i. head.relation_is i ∷ head.relations_are i)
 
 -- what some lexemes of a declaration begin with: a number, a weight, an item, further items; and the relations behind
 -- it

@@ -1,6 +1,5 @@
-use Rattle.std.proofs.Common.{◌≡◌, Bool, Err, List, ℕ, arith, length, subst, sym, ap, ◌∙◌}
-use Rattle.std.specs.declared.result.Result.{Result}
-use Rattle.std.proofs.lemmas.Result.{err_from_is_err_and}
+use Rattle.std.proofs.Common.{Bool, Err, List, ℕ, arith, length, subst, sym, ap, ◌∙◌}
+use Rattle.words.proofs.Faults.{same_fault}
 use Rattle.ideal_laws.specs.Ideal.{IsMinimal, ideal_over}
 use Rattle.anick_chains.specs.Listed.{AreListed}
 use Rattle.anick_chains.specs.Tallies.{count_text, count_total}
@@ -8,18 +7,14 @@ use Rattle.anick_chains.specs.Texts.{chain_text}
 use Rattle.anick_chains.proofs.CountBlocks.{count_text-is, counts_of-total}
 use Rattle.bergman_cli.proofs.chains.chain_lines.Goals as goal
 
-one_fault : {T E : Type 0} (r : Result T E) (a b : E) → r ≡ Err a → r ≡ Err b → a ≡ b
-one_fault r a b h k = cc
-
 pub returns-in_err-found-clause-many : goal.returns-in_err-found-clause-many
 returns-in_err-found-clause-many c = λ degree e.
-    let p = err_from_is_err_and c.from_residual.result c.from_residual.ensures.1 in
-    c.in_err-found.ensures.many degree (ap Err (sym p.2 ∙ one_fault c.from_residual.result _ _ p.1 e))
+    c.in_err-found.ensures.many degree (ap Err (same_fault c.from_residual.result _ _ c.from_residual.ensures.1 e))
 
 pub returns-in_err-counts-clause-many : goal.returns-in_err-counts-clause-many
 returns-in_err-counts-clause-many c = λ degree e.
-    let p = err_from_is_err_and c.from_residual-in_err-counts.result c.from_residual-in_err-counts.ensures.1 in
-    c.in_err-counts.ensures.many degree (ap Err (sym p.2 ∙ one_fault c.from_residual-in_err-counts.result _ _ p.1 e))
+    c.in_err-counts.ensures.many degree
+    (ap Err (same_fault c.from_residual-in_err-counts.result _ _ c.from_residual-in_err-counts.ensures.1 e))
 
 pub returns-clause-printed : goal.returns-clause-printed
 returns-clause-printed c = λ p relations st upto.

@@ -1,10 +1,10 @@
 use Rattle.std.proofs.Common.{◌+◌, ℕ, List, length, Err, refl, ap, arith, subst, ◌∙◌}
 use Rattle.std.proofs.lemmas.Grind.{get_or_default_zero}
 use Rattle.free_poly.specs.declared.term.Term.{Term}
-use Rattle.ideal_laws.specs.Ideal.{ideal_of}
 use Rattle.ideal_laws.specs.declared.limits.Limits.{Limits}
 use Rattle.hilbert.specs.Series.{AreCounts, IsFirstLarge}
 use Rattle.bergman_cli.specs.Make.{summary_text}
+use Rattle.job_steps.proofs.FactorFree.{factor_free_upto}
 use Rattle.job_steps.proofs.Stopped.{stopped_is}
 use Rattle.bergman_cli.proofs.Made.{crowded_outcome, refused_outcome, summary_outcome}
 use Rattle.bergman_cli.proofs.make.make_answer.Goals as goal
@@ -15,13 +15,8 @@ returns-in-Err g c = stopped_is _ c.in-Err.fault c.stopped.result c.stopped.ensu
     c.requires.modulus _ kind d value refl (c.in-Err.ensures.limit kind d value (ap Err is)))
 
 pub series-requires-clause-factor_free : goal.series-requires-clause-factor_free
-series-requires-clause-factor_free g c = c.lower_law.ensures.factors (ideal_of c.args.field.now c.args.given.now) c.setting_law.ensures (c.in-Ok.basis.done + 1)
-    c.in-Ok.basis (record {
-      kept = c.in-Ok.ensures.kept;
-      next = refl;
-      same_weights = c.in-Ok.ensures.weights;
-      reduced = c.in-Ok.ensures.reduced;
-    })
+series-requires-clause-factor_free g c = factor_free_upto c.lower_law.ensures.factors c.args.field.now c.args.given.now c.in-Ok.basis
+    c.setting_law.ensures c.in-Ok.ensures.kept c.in-Ok.ensures.weights c.in-Ok.ensures.reduced
 
 pub returns-in-Ok-series : goal.returns-in-Ok-series
 returns-in-Ok-series g c =
@@ -32,9 +27,9 @@ returns-in-Ok-series g c =
     (ap (λ (l : Limits). l.normal_words) c.standard.ensures.value) c.in-Ok-series.ensures.counts in
     summary_outcome c.args.job.now c.args.given.now.alphabet c.args.given.now.relations _ c.requires.limits c.args.field.now
     c.requires.modulus c.count_law.ensures c.setting_law.ensures
-    basis run.weights run.kept run.reduced run.done run.within _ numbers c.index-coefficient.result.now c.from_vec.result counts
-    (c.index-coefficient.ensures ∙ get_or_default_zero numbers c.args.job.now.bound c.index-coefficient.result.now (omega (arith, counts.size))) refl
-    (c.from_vec.ensures ∙ c.in_ok-text-in-Ok-series.ensures ∙ ap (λ (rs : List (List Term)). summary_text c.args.job.now.number (length rs)
+    basis run.weights run.kept run.reduced run.done run.within c.done.result numbers c.index-coefficient.result.now _ counts
+    (c.index-coefficient.ensures ∙ get_or_default_zero numbers c.args.job.now.bound c.index-coefficient.result.now (omega (arith, counts.size))) c.done.ensures
+    (c.in_ok-text-in-Ok-series.ensures ∙ ap (λ (rs : List (List Term)). summary_text c.args.job.now.number (length rs)
     basis.elements c.args.job.now.bound c.index-coefficient.result.now) c.as_slice-relations.ensures)
 
 pub returns-in-Err-Limit : goal.returns-in-Err-Limit

@@ -1,6 +1,5 @@
-use Rattle.std.proofs.Common.{◌≤◌, Err, ap, arith, length, refl, subst, sym}
+use Rattle.std.proofs.Common.{◌≤◌, Err, ap, arith, length}
 use Rattle.ideal_laws.specs.declared.limits.Limits.{Limits}
-use Rattle.bergman_cli.specs.Module.{IsModuleText}
 use Rattle.bergman_cli.proofs.ModuleOutcomes.{limit_outcome, whole_outcome}
 use Rattle.bergman_cli.proofs.module.module_answer.Goals as goal
 
@@ -11,9 +10,8 @@ returns-in_ok-text-in-Ok g c =
     let found = c.in-Ok.ensures in
     let names : job.gens ≤ length given.alphabet.weights = omega (arith, c.if-names-job.false, c.len-names.ensures.count) in
     let standard = ap (λ (l : Limits). l.normal_words) c.standard-limits.ensures.value in
-    whole_outcome job given _ names found.shaped _ c.requires.asked.limits c.args.field.now c.requires.asked.modulus c.setting_law.ensures _ standard
-    c.from_vec.result c.in-Ok.computed.numbers refl found.within found.numbers found.few
-    (subst (IsModuleText job given.alphabet given.relations) (sym c.from_vec.ensures) c.in_ok-text-in-Ok.ensures)
+    whole_outcome job given c.done.result names found.shaped _ c.requires.asked.limits c.args.field.now c.requires.asked.modulus c.setting_law.ensures _
+    standard _ c.in-Ok.computed.numbers c.done.ensures found.within found.numbers found.few c.in_ok-text-in-Ok.ensures
 
 pub returns-in-Err-Limit : goal.returns-in-Err-Limit
 returns-in-Err-Limit g c =

@@ -1,25 +1,20 @@
-use Rattle.std.proofs.Common.{◌≡◌, ◌∙◌, ◌+◌, ◌<◌, ◌≤◌, [], ℕ, Err, List, ap, arith, inl, inr, refl, subst, sym}
+use Rattle.std.proofs.Common.{◌≡◌, ◌∙◌, ◌+◌, ◌<◌, ◌≤◌, [], ℕ, Err, List, ap, arith, inl, inr, subst, sym}
 use Rattle.std.specs.Prelude.{slice_index_or}
 use Rattle.std.proofs.lemmas.Bool.{cases_lt}
 use Rattle.std.proofs.lemmas.List.{get_or_default}
-use Rattle.ideal_laws.specs.Ideal.{ideal_of}
 use Rattle.ideal_laws.specs.Kept.{lead_degree}
 use Rattle.job_steps.specs.declared.status.Status.TheVariants.{Products}
 use Rattle.job_steps.specs.Gains.{GainsAll, GainsPart}
 use Rattle.job_steps.specs.States.{state_of}
+use Rattle.job_steps.proofs.FactorFree.{factor_free_upto}
 use Rattle.job_steps.proofs.Gaining.{all_behind}
 use Rattle.bergman_cli.specs.Normal.{HasManyTriples, most_triples}
 use Rattle.bergman_cli.proofs.Answering.{begun, cut_off, next_answer, some_written}
 use Rattle.bergman_cli.proofs.normal.write_answers.Goals as goal
 
 pub index_of-requires : goal.index_of-requires
-index_of-requires g c = c.lower_law.ensures.factors (ideal_of c.args.field.now c.args.ideal.now)
-    c.setting_law.ensures (c.args.basis.now.done + 1) c.args.basis.now (record {
-      kept = c.done-done.ensures.kept;
-      next = refl;
-      same_weights = c.requires.weights;
-      reduced = c.requires.reduced;
-    })
+index_of-requires g c = factor_free_upto c.lower_law.ensures.factors c.args.field.now c.args.ideal.now c.args.basis.now c.setting_law.ensures
+    c.done-done.ensures.kept c.requires.weights c.requires.reduced
 
 small_degree : (n done degree : ℕ) → n ≡ degree → (done < n → ⊥) → done ≤ 64 → degree ≤ 64
 small_degree n done degree same within few = elim (cases_lt done n) [

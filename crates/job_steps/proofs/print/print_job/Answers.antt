@@ -1,12 +1,13 @@
 use Rattle.std.proofs.Common.{ℕ, subst}
 use Rattle.std.proofs.lemmas.Result.{err_from_is_err_and}
 use Rattle.ideal_laws.specs.Limits.{standard_limits}
+use Rattle.relation_reader.proofs.Bools.{not_false}
 use Rattle.job_steps.specs.Gains.{IsUndone}
 use Rattle.job_steps.specs.Printing.{IsSeriesUndone, IsWholeSeries, task_of}
 use Rattle.job_steps.specs.States.{state_of, teller_state}
 use Rattle.job_steps.specs.Traces.{OfTrace, Tells}
 use Rattle.job_steps.proofs.Ended.{done_with_series, undone_series}
-use Rattle.job_steps.proofs.DegreeLines.{if_err, is_shown}
+use Rattle.job_steps.proofs.DegreeLines.{if_err}
 use Rattle.job_steps.proofs.Reaches.{undone_basis}
 use Rattle.job_steps.proofs.Writes.{counts_more}
 use Rattle.job_steps.proofs.print.print_job.Goals as goal
@@ -27,7 +28,7 @@ returns-in-Ok-clause-done g c =
     let series = c.in-Ok.ensures.printed in
     let whole = subst (λ (d : ℕ). IsWholeSeries c.args.field.now c.args.given.now.alphabet c.args.given.now.relations
     standard_limits.normal_words d series.0) c.in_ok-basis.ensures.done series.1 in
-    done_with_series task basis.0 basis.1 (is_shown c.args.asked.series c.if-not-asked.false) _ _ _ series.0 basis.2 whole series.2
+    done_with_series task basis.0 basis.1 (not_false c.args.asked.series c.if-not-asked.false) _ _ _ series.0 basis.2 whole series.2
 
 pub returns-clause-undone : goal.returns-clause-undone
 returns-clause-undone g c =
@@ -40,7 +41,7 @@ returns-clause-undone g c =
     let undone = subst (λ (d : ℕ). IsSeriesUndone c.args.field.now c.args.given.now.alphabet c.args.given.now.relations
     standard_limits.normal_words d (state_of g.K.Sink c.print_basis.new.out) (state_of g.K.Sink c.print_series.new.out) c.in-Err.fault)
     c.in_ok-basis.ensures.done c.in-Err.ensures.undone in
-    undone_series task basis.0 basis.1 (is_shown c.args.asked.series c.if-not-asked.false) c.setting_law.ensures _ (state_of g.K.Sink c.print_basis.new.out)
+    undone_series task basis.0 basis.1 (not_false c.args.asked.series c.if-not-asked.false) c.setting_law.ensures _ (state_of g.K.Sink c.print_basis.new.out)
     (state_of g.K.Sink c.print_series.new.out) Holds
     c.in-Err.fault told basis.2 undone
 

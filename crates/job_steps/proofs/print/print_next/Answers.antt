@@ -3,12 +3,13 @@ use Rattle.std.proofs.KnownBytes.{Appends-nil}
 use Rattle.ideal_laws.specs.Ideal.{ideal_of}
 use Rattle.ideal_laws.specs.Kept.{IsBelow}
 use Rattle.ideal_laws.specs.Quantities.{IsFirstPassing, IsQuantity}
+use Rattle.relation_reader.proofs.Bools.{not_false}
 use Rattle.job_steps.specs.Printing.{task_of}
 use Rattle.job_steps.specs.States.{state_of, teller_state}
 use Rattle.job_steps.specs.Traces.{Tells, trace_of}
 use Rattle.job_steps.proofs.Gaining.{all_none}
 use Rattle.job_steps.proofs.Traced.{tells_none}
-use Rattle.job_steps.proofs.DegreeLines.{hidden_next, is_hidden, is_shown, limit_moved, residues_of, shown_next, undone_shown}
+use Rattle.job_steps.proofs.DegreeLines.{hidden_next, is_hidden, limit_moved, residues_of, shown_next, undone_shown}
 use Rattle.job_steps.proofs.print.print_next.Goals as goal
 
 pub returns-in-Err-Limit-clause-undone : goal.returns-in-Err-Limit-clause-undone
@@ -54,7 +55,7 @@ returns-in-Ok-write_degree-clause-printed g c =
     let next = c.in-Ok.ensures in
     shown_next (task_of c.args.field.now c.args.given.now (g.E.DegreeEngine.kinds c.args.engine.now) c.args.asked)
     c.args.basis.now c.advance.new.basis c.requires.next.same_weights next.weights next.done next.reduced next.within
-    _ _ (is_shown c.args.asked.basis c.if-not-asked.false) c.in-Ok-write_degree.ensures.written
+    _ _ (not_false c.args.asked.basis c.if-not-asked.false) c.in-Ok-write_degree.ensures.written
 
 pub returns-clause-undone : goal.returns-clause-undone
 returns-clause-undone g c =
@@ -64,6 +65,6 @@ returns-clause-undone g c =
     (c.done-d.ensures.value ∙ next.done) c.in_ok-tell_degree-in-Ok.ensures.told in
     undone_shown (task_of c.args.field.now c.args.given.now (g.E.DegreeEngine.kinds c.args.engine.now) c.args.asked)
     c.args.basis.now c.advance.new.basis c.requires.next.same_weights next.weights next.done next.reduced next.within
-    (state_of g.K.Sink c.args.out.now) (state_of g.K.Sink c.write_degree.new.out) _ _ c.in-Err.fault (is_shown c.args.asked.basis c.if-not-asked.false)
+    (state_of g.K.Sink c.args.out.now) (state_of g.K.Sink c.write_degree.new.out) _ _ c.in-Err.fault (not_false c.args.asked.basis c.if-not-asked.false)
     (c.in-Ok.account, next.account, told)
     c.in-Err.ensures.unwritten

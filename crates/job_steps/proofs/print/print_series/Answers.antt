@@ -1,20 +1,15 @@
-use Rattle.std.proofs.Common.{◌+◌, Err, refl, ap, lit<, inl, inr}
-use Rattle.ideal_laws.specs.Ideal.{ideal_of}
+use Rattle.std.proofs.Common.{Err, refl, ap, lit<, inl, inr}
 use Rattle.ideal_laws.specs.declared.limits.Limits.{Limits}
 use Rattle.ideal_laws.specs.Limits.{standard_limits}
 use Rattle.poly_writer.specs.Texts.{series_text}
 use Rattle.job_steps.specs.States.{state_of}
 use Rattle.job_steps.proofs.Counted.{cut_told, undone_from_unwritten, whole_told}
+use Rattle.job_steps.proofs.FactorFree.{factor_free_upto}
 use Rattle.job_steps.proofs.print.print_series.Goals as goal
 
 pub series-requires-clause-factor_free : goal.series-requires-clause-factor_free
-series-requires-clause-factor_free g c = c.lower_law.ensures.factors (ideal_of c.args.field.now c.args.given.now) c.setting_law.ensures
-    (c.args.basis.now.done + 1) c.args.basis.now (record {
-      kept = c.done.ensures.kept;
-      next = refl;
-      same_weights = c.requires.weights;
-      reduced = c.requires.reduced;
-    })
+series-requires-clause-factor_free g c = factor_free_upto c.lower_law.ensures.factors c.args.field.now c.args.given.now c.args.basis.now
+    c.setting_law.ensures c.done.ensures.kept c.requires.weights c.requires.reduced
 
 pub returns-in-Ok-write_series-clause-printed : goal.returns-in-Ok-write_series-clause-printed
 returns-in-Ok-write_series-clause-printed g c =

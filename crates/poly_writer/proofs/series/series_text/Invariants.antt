@@ -1,6 +1,0 @@
-use Rattle.std.proofs.Common.{◌≡◌, ◌++◌, codes, take}
-use Rattle.poly_writer.specs.Texts.{line, series_lines}
-use Rattle.poly_writer.proofs.series.series_text.Given as goal
-
-abbrev pub invariant-loop-degree : goal.invariant-loop-degree
-invariant-loop-degree l = l.text.items ≡ line (codes "% series") ++ series_lines 0 (take l.degree l.numbers)
