@@ -1,19 +1,19 @@
 -- The words of all last letters are the normal module words of the degree.
-use Rattle.std.proofs.Common.{◌≡◌, ◌≢◌, ◌+◌, ◌-◌, ◌==◌, ◌++◌, ◌<◌, ◌≤◌, ◌∙◌, ℕ, Bool, true, false, cond, ltb, List, [], ◌∷◌, AllPairs, ap, arith}
+use Rattle.std.proofs.Common.{All, ◌≡◌, ◌≢◌, ◌+◌, ◌-◌, ◌==◌, ◌++◌, ◌<◌, ◌≤◌, ◌∙◌, ℕ, Bool, true, false, cond, ltb, List, [], ◌∷◌, AllPairs, ap, arith}
 use Rattle.std.proofs.Common.{eq-eqb, get_or, inl, inr, length, refl, subst, sym}
 use Rattle.std.specs.List.{Contains, flat_map, range_with_len}
 use Rattle.std.proofs.lemmas.Bool.{cases_lt, eqb-true, le-ltb, lt-ltb, ltb-false, ltb-true}
-use Rattle.std.proofs.lemmas.List.{get_or_past}
+use Rattle.std.proofs.lemmas.List.{get_or_default, get_or_past}
 use Rattle.std.proofs.lemmas.List.Elements.{All-append, All-cons, All-head, All-nil}
-use Rattle.std.proofs.lemmas.List.Kept.{AllPairs-cons}
 use Rattle.words.specs.Words.{AreWeights, IsOver, degree_of, weight_of}
 use Rattle.words.proofs.Degrees.{Contains-range, range-bounds, range-rising}
-use Rattle.words.proofs.Members.{AllPairs-flat_map, AllPairs-nil, Contains-flat_map, Contains-flat_map_cases, Contains-none}
-use Rattle.words.proofs.Weights.{degree_of-append, degree_of-positive, weight_of-bounds}
+use Rattle.words.proofs.Members.{AllPairs-flat_map, AllPairs-nil, All-from_members, Contains-flat_map, Contains-flat_map_cases, Contains-none}
+use Rattle.words.proofs.Weights.{degree_of-append, degree_of-positive, length-le-degree_of, weight_of-bounds}
 use Rattle.ideal_laws.proofs.Factors.{All-back, All-front}
 use Rattle.ideal_laws.proofs.Neighbours.{ended}
 use Rattle.lead_index.specs.declared.lead.Lead.{Lead}
 use Rattle.lead_index.specs.Leads.{IsFree}
+use Rattle.normal_words.proofs.Blocks.{unless-pairs}
 use Rattle.right_modules.specs.Extended.{AreHeld, AreNormal, ending, extended, stands, unless_stands}
 use Rattle.right_modules.specs.Module.{IsModuleWord}
 use Rattle.right_modules.specs.ModuleDimension.{module_words}
@@ -147,10 +147,6 @@ module _ (weights : List ℕ) (aw : AreWeights weights) (free : ℕ) where
         (has_longer g r.front r.last (subst (IsModuleWord free) is mw) (subst (IsOver (length weights)) is over)
         (ap (degree_of weights) (sym is) ∙ e) (subst (IsFree leads) is f))
 
-    one_apart : (b : Bool) (v : List ℕ) → AllPairs Apart (cond b [] (v ∷ []))
-    one_apart true v = AllPairs-nil Apart
-    one_apart false v = AllPairs-cons Apart v [] (All-nil (Apart v)) (AllPairs-nil Apart)
-
     fronts-apart : (x : ℕ) → AllPairs Apart (fronts x)
     fronts-apart x = elim (cases_lt (weight_of weights x - 1) (length held)) [
       | inl lt ↦ (left x lt).normal.apart
@@ -159,7 +155,7 @@ module _ (weights : List ℕ) (aw : AreWeights weights) (free : ℕ) where
 
     extended-apart : (x : ℕ) → AllPairs Apart (extended leads x (fronts x))
     extended-apart x =
-        AllPairs-flat_map (λ u. unless_stands leads (u ++ x ∷ [])) Apart Apart (λ u. one_apart (stands leads (u ++ x ∷ [])) (u ++ x ∷ []))
+        AllPairs-flat_map (λ u. unless_stands leads (u ++ x ∷ [])) Apart Apart (λ u. unless-pairs Apart (stands leads (u ++ x ∷ [])) (u ++ x ∷ []))
         (λ a b u v other m n e.
         let s = unless_stands-says leads (a ++ x ∷ []) u m in
         let t = unless_stands-says leads (b ++ x ∷ []) v n in
@@ -171,7 +167,7 @@ module _ (weights : List ℕ) (aw : AreWeights weights) (free : ℕ) where
       where
         by_tests : (b c : Bool) → AllPairs Apart (cond b (extended leads x (fronts x)) (cond c (unless_stands leads (x ∷ [])) []))
         by_tests true c = extended-apart x
-        by_tests false true = one_apart (stands leads (x ∷ [])) (x ∷ [])
+        by_tests false true = unless-pairs Apart (stands leads (x ∷ [])) (x ∷ [])
         by_tests false false = AllPairs-nil Apart
 
     -- each word of a letter ends with it
@@ -196,3 +192,13 @@ module _ (weights : List ℕ) (aw : AreWeights weights) (free : ℕ) where
           omega (arith, lt, same))
           (range_with_len 0 (length weights)) (range-rising 0 (length weights));
     }
+
+    -- in degrees below 64 no word has 64 letters
+    pub held_short : d ≤ 64 → All (All (λ v. length v < 64)) held
+    held_short room k ds within =
+        let e : d - (k + 1) + k + 1 ≡ d = omega (arith, within, h.count) in
+        let normal = h.each k (d - (k + 1)) within e in
+        subst (All (λ v. length v < 64)) (get_or_default held k [] ds within)
+        (All-from_members (λ v. length v < 64) (get_or held k []) (λ v m.
+        let degree = (module_words-says weights aw free (d - (k + 1)) v ((normal.exactly v).0 m).0).1.1 in
+        omega (arith, room, e, degree, length-le-degree_of weights aw v)))
