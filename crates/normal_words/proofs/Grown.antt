@@ -4,7 +4,7 @@ use Rattle.std.proofs.Common.{refl, sym, ap, inl, inr, arith, length-append, All
 use Rattle.std.specs.List.{Contains, flat_map, range_with_len}
 use Rattle.std.proofs.lemmas.Bool.{cases_Bool, cases_lt, le-leb, leb-true}
 use Rattle.std.proofs.lemmas.List.{get_or_append_left, get_or_push, nil_from_length}
-use Rattle.std.proofs.lemmas.List.Elements.{All-append, All-cons, All-contains, All-head, All-nil, All-tail}
+use Rattle.std.proofs.lemmas.List.Elements.{All-push, All-cons, All-contains, All-head, All-nil, All-tail}
 use Rattle.std.proofs.lemmas.List.Kept.{AllPairs-cons}
 use Rattle.words.specs.Order.{HasSmallerFirst, IsLetterwiseGreater}
 use Rattle.words.specs.Words.{AreWeights, IsOver, OccursAt, degree_of, weight_of, words_of_degree}
@@ -14,7 +14,7 @@ use Rattle.words.proofs.OrderFacts.{letterwise_from_difference}
 use Rattle.words.proofs.Weights.{length-le-degree_of, weight_of-bounds}
 use Rattle.lead_index.specs.declared.lead.Lead.{Lead}
 use Rattle.lead_index.specs.Leads.{IsFree}
-use Rattle.normal_words.specs.Normal.{AreBefore, AreNormal, WordsOfDegree, next_of}
+use Rattle.normal_words.specs.Normal.{AreBefore, AreConsecutive, AreNormal, WordsOfDegree, next_of}
 use Rattle.normal_words.specs.Block.{block, block_at, words_at}
 use Rattle.normal_words.proofs.Blocks.{IsFree-cons, IsFree-tail, IsInBlock, begins_free, block-falling, block-says, free_of_begins, in_block}
 
@@ -147,28 +147,33 @@ start_normal weights leads some = record {
     free at = All-from_members (λ l. OccursAt l.word [] at → ⊥) leads
         (λ l m o. All-contains (λ k. k.word ≢ []) leads l some m (nil_from_length l.word (omega (arith, o.within))))
 
-next_of-push : (before : List WordsOfDegree) (n : WordsOfDegree) → n.degree ≡ next_of before → next_of (before ++ n ∷ []) ≡ next_of before + 1
+-- the degree after one more
+pub next_of-push : (before : List WordsOfDegree) (n : WordsOfDegree) → n.degree ≡ next_of before → next_of (before ++ n ∷ []) ≡ next_of before + 1
 next_of-push [] n same = omega (arith, same)
 next_of-push (m ∷ before) n same = omega (arith, length-append before (n ∷ []))
+
+-- the degree that follows consecutive ones goes behind them
+pub consecutive-push : (before : List WordsOfDegree) (n : WordsOfDegree) → AreConsecutive before → n.degree ≡ next_of before
+    → AreConsecutive (before ++ n ∷ [])
+consecutive-push before n h same i m lt =
+    let size = length-append before (n ∷ []) in
+    let next = next_of-push before n same in
+    elim (cases_lt i (length before)) [
+      | inl below ↦ omega (arith, size, next, h i m below, ap (λ (x : WordsOfDegree). x.degree) (get_or_append_left before (n ∷ []) m i below))
+      | inr from ↦
+          let last : length before ≡ i = omega (arith, size, lt, from) in
+          omega (arith, size, next, last, same, ap (λ (x : WordsOfDegree). x.degree) (get_or_push before n m i last))
+    ]
 
 -- the list with the degree that follows
 pub before-push : (weights : List ℕ) (leads : List Lead) (before : List WordsOfDegree) (n : WordsOfDegree) → AreBefore weights leads before
     → n.degree ≡ next_of before → AreNormal weights leads n.degree n.words
     → AreBefore weights leads (before ++ n ∷ [])
-before-push weights leads before n h same normal =
-    let size = length-append before (n ∷ []) in
-    let next = next_of-push before n same in
-    record {
-      some = omega (arith, size);
-      consecutive = λ i m lt. elim (cases_lt i (length before)) [
-        | inl below ↦ omega (arith, size, next, h.consecutive i m below, ap (λ (x : WordsOfDegree). x.degree) (get_or_append_left before (n ∷ []) m i below))
-        | inr from ↦
-            let last : length before ≡ i = omega (arith, size, lt, from) in
-            omega (arith, size, next, last, same, ap (λ (x : WordsOfDegree). x.degree) (get_or_push before n m i last))
-      ];
-      each = All-append (λ k. AreNormal weights leads k.degree k.words) before (n ∷ []) h.each
-          (All-cons (λ k. AreNormal weights leads k.degree k.words) n [] normal (All-nil (λ k. AreNormal weights leads k.degree k.words)));
-    }
+before-push weights leads before n h same normal = record {
+  some = omega (arith, length-append before (n ∷ []));
+  consecutive = consecutive-push before n h.consecutive same;
+  each = All-push (λ k. AreNormal weights leads k.degree k.words) before n h.each normal;
+}
 
 -- degree 0 alone
 pub before-start : (weights : List ℕ) (leads : List Lead) (n : WordsOfDegree) → n.degree ≡ 0 → n.words ≡ [] ∷ [] →

@@ -4,7 +4,7 @@ use Rattle.std.proofs.Common.{eq-eqb, get_or, inl, inr, length, refl, subst, sym
 use Rattle.std.specs.List.{Contains, flat_map, range_with_len}
 use Rattle.std.proofs.lemmas.Bool.{cases_lt, eqb-true, le-ltb, lt-ltb, ltb-false, ltb-true}
 use Rattle.std.proofs.lemmas.List.{get_or_default, get_or_past}
-use Rattle.std.proofs.lemmas.List.Elements.{All-append, All-cons, All-head, All-nil}
+use Rattle.std.proofs.lemmas.List.Elements.{All-push, All-cons, All-head, All-nil}
 use Rattle.words.specs.Words.{AreWeights, IsOver, degree_of, weight_of}
 use Rattle.words.proofs.Degrees.{Contains-range, range-bounds, range-rising}
 use Rattle.words.proofs.Members.{AllPairs-flat_map, AllPairs-nil, All-from_members, Contains-flat_map, Contains-flat_map_cases, Contains-none}
@@ -58,8 +58,7 @@ module _ (weights : List ℕ) (aw : AreWeights weights) (free : ℕ) where
         let l = left x (front_held x s.front s.among) in
         let a = (l.normal.exactly s.front).0 s.among in
         let b = module_words-says weights aw free (d - weight_of weights x) s.front a.0 in
-        let over = All-append (λ y. y < length weights) s.front (x ∷ []) b.1.0
-        (All-cons (λ y. y < length weights) x [] within (All-nil (λ y. y < length weights))) in
+        let over = All-push (λ y. y < length weights) s.front x b.1.0 within in
         let degree : degree_of weights (s.front ++ x ∷ []) ≡ d = omega (arith, degree_of-append weights s.front (x ∷ []), b.1.1, l.degree) in (
           subst (Contains (module_words weights free d)) s.is (module_words-has weights aw free d (s.front ++ x ∷ [])
               (IsModuleWord-push free s.front x b.0 lt) over degree),

@@ -2,7 +2,7 @@
 use Rattle.std.proofs.Common.{◌≡◌, ◌++◌, ◌<◌, ◌∙◌, ℕ, List, [], ◌∷◌, ap, arith, drop, length, length-append, refl, subst, take}
 use Rattle.std.specs.List.{Contains}
 use Rattle.std.proofs.lemmas.List.{drop-append-le, length-drop, take-append-le}
-use Rattle.std.proofs.lemmas.List.Elements.{All-append, All-cons, All-contains, All-nil}
+use Rattle.std.proofs.lemmas.List.Elements.{All-contains, All-push}
 use Rattle.words.specs.Words.{AreWeights, IsOver, OccursAt, degree_of, words_of_degree}
 use Rattle.words.proofs.Degrees.{listed_word, words_of_degree-says}
 use Rattle.words.proofs.Members.{All-from_members}
@@ -37,7 +37,7 @@ IsFree-front leads u v h at = All-from_members (λ l. OccursAt l.word u at → �
 -- a module word with a free letter behind it is one
 pub IsModuleWord-push : (free : ℕ) (u : List ℕ) (x : ℕ) → IsModuleWord free u → x < free → IsModuleWord free (u ++ x ∷ [])
 IsModuleWord-push free [] x h lt = absurd h
-IsModuleWord-push free (g ∷ u) x h lt = (h.0, All-append (λ y. y < free) u (x ∷ []) h.1 (All-cons (λ y. y < free) x [] lt (All-nil (λ y. y < free))))
+IsModuleWord-push free (g ∷ u) x h lt = (h.0, All-push (λ y. y < free) u x h.1 lt)
 
 module _ (weights : List ℕ) (aw : AreWeights weights) (free : ℕ) where
   -- what the module words of a degree are
