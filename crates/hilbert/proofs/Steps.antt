@@ -1,5 +1,5 @@
 -- One more degree: its number, and the degrees that are held.
-use Rattle.std.proofs.Common.{◌≡◌, ◌⊎◌, ◌+◌, ◌-◌, ◌<◌, ◌≤◌, ℕ, suc, List, [], ◌∷◌, ◌++◌, Result, Ok, Err, IfOk, length, drop, get_or}
+use Rattle.std.proofs.Common.{◌≡◌, ◌⊎◌, ◌+◌, ◌-◌, ◌<◌, ◌≤◌, ℕ, suc, List, [], ◌∷◌, ◌++◌, length, drop, get_or}
 use Rattle.std.proofs.Common.{refl, sym, ap, ◌∙◌, inl, inr, arith, All, subst, length-append}
 use Rattle.std.proofs.lemmas.Bool.{cases_lt}
 use Rattle.std.proofs.lemmas.List.{get_or_append_left, get_or_push}
@@ -10,10 +10,6 @@ use Rattle.lead_index.specs.declared.lead.Lead.{Lead}
 use Rattle.normal_words.specs.Normal.{AreConsecutive, AreNormal, WordsOfDegree, next_of}
 use Rattle.normal_words.proofs.Grown.{consecutive-push, next_of-push}
 use Rattle.hilbert.specs.Series.{AreCounts, AreHeld, IndexesLeads, IsCount, IsFirstLarge}
-
-pub if_ok : {T E : Type 0} (P Q : T → Type 0) (r : Result T E) → IfOk r P → ((v : T) → P v → Q v) → IfOk r Q
-if_ok P Q (Ok v) h f = f v h
-if_ok P Q (Err e) h f = h
 
 -- the normal words of the index are those of the elements
 pub normal_words_of : (weights : List ℕ) (G : List (List Term)) (leads : List Lead) (d : ℕ) (words : List (List ℕ)) → IndexesLeads G leads →

@@ -3,7 +3,7 @@ use Rattle.std.proofs.Common.{All, ◌≡◌, ◌≢◌, ◌+◌, ◌-◌, ◌==
 use Rattle.std.proofs.Common.{eq-eqb, get_or, inl, inr, length, refl, subst, sym}
 use Rattle.std.specs.List.{Contains, flat_map, range_with_len}
 use Rattle.std.proofs.lemmas.Bool.{cases_lt, eqb-true, le-ltb, lt-ltb, ltb-false, ltb-true}
-use Rattle.std.proofs.lemmas.List.{get_or_default, get_or_past}
+use Rattle.std.proofs.lemmas.List.{get_or_default, get_or_past, same_from_push}
 use Rattle.std.proofs.lemmas.List.Elements.{All-push, All-cons, All-head, All-nil}
 use Rattle.words.specs.Words.{AreWeights, IsOver, degree_of, weight_of}
 use Rattle.words.proofs.Degrees.{Contains-range, range-bounds, range-rising}
@@ -17,7 +17,7 @@ use Rattle.normal_words.proofs.Blocks.{unless-pairs}
 use Rattle.right_modules.specs.Extended.{AreHeld, AreNormal, ending, extended, stands, unless_stands}
 use Rattle.right_modules.specs.Module.{IsModuleWord}
 use Rattle.right_modules.specs.ModuleDimension.{module_words}
-use Rattle.right_modules.proofs.ModuleWords.{IsFree-front, IsModuleWord-push, module_words-has, module_words-says, same_ends}
+use Rattle.right_modules.proofs.ModuleWords.{IsFree-front, IsModuleWord-push, module_words-has, module_words-says}
 use Rattle.right_modules.proofs.Standing.{extended-has, extended-says, unless_stands-has, unless_stands-says}
 
 -- the words that end with each letter in turn
@@ -158,7 +158,7 @@ module _ (weights : List ℕ) (aw : AreWeights weights) (free : ℕ) where
         (λ a b u v other m n e.
         let s = unless_stands-says leads (a ++ x ∷ []) u m in
         let t = unless_stands-says leads (b ++ x ∷ []) v n in
-        other (same_ends a b x x (s.1 ∙ e ∙ sym t.1)).0)
+        other (same_from_push a b x x (s.1 ∙ e ∙ sym t.1)).0)
         (fronts x) (fronts-apart x)
 
     ending-apart : (x : ℕ) → AllPairs Apart (ending weights free leads d held x)
@@ -187,7 +187,7 @@ module _ (weights : List ℕ) (aw : AreWeights weights) (free : ℕ) where
           (λ x y u v lt m n e.
           let a = ends_with x u m in
           let b = ends_with y v n in
-          let same = (same_ends a.0 b.0 x y (a.1 ∙ e ∙ sym b.1)).1 in
+          let same = (same_from_push a.0 b.0 x y (a.1 ∙ e ∙ sym b.1)).1 in
           omega (arith, lt, same))
           (range_with_len 0 (length weights)) (range-rising 0 (length weights));
     }
