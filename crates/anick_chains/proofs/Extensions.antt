@@ -2,7 +2,7 @@
 use Rattle.std.proofs.Common.{◌≡◌, ◌≢◌, ◌<◌, ℕ, List, [], ◌∷◌, ◌++◌, length, refl, sym, ap, ◌∙◌, inl, inr, arith, subst, length-append, append-nil}
 use Rattle.std.specs.List.{Contains}
 use Rattle.std.proofs.lemmas.Bool.{cases_lt}
-use Rattle.std.proofs.lemmas.List.{same_from_push, append_assoc}
+use Rattle.std.proofs.lemmas.List.{nil_from_length, same_from_push, append_assoc}
 use Rattle.words.specs.Words.{IsOver}
 use Rattle.free_poly.proofs.FromWords.{listed}
 use Rattle.ideal_laws.proofs.Factors.{All-back}
@@ -69,7 +69,7 @@ module _ (T : List ℕ → Type 0) (tips : AreTips T) (names : ℕ) where
           let i = h.inside in
           let joined : c ++ r ≡ (c ++ i.before) ++ h.tip ++ i.after = ap (λ (y : List ℕ). c ++ y) i.joined ∙ simp append_assoc refl in
           let same : h.tip ≡ c ++ r = tips.apart h.tip (c ++ r) h.is_tip t (record { before = c ++ i.before; after = i.after; joined = joined }) in
-          more (none c (omega (
+          more (nil_from_length c (omega (
             arith,
             ap length same,
             ap length i.joined,
@@ -77,10 +77,6 @@ module _ (T : List ℕ → Type 0) (tips : AreTips T) (names : ℕ) where
             length-append i.before h.tip,
             length-append c r,
           )))
-        where
-          none : (c : List ℕ) → length c ≡ 0 → c ≡ []
-          none [] e = refl
-          none (y ∷ c) e = absurd (omega (arith, e))
 
 -- the words of a list of tips are tips
 pub are_tips : (names : ℕ) (tips : List (List ℕ)) → AreListedTips names tips → AreTips (Contains tips)
