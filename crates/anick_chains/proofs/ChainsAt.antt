@@ -30,7 +30,8 @@ pub continued-says : (front next c : List (List ℕ)) → Contains (continued fr
 continued-says front next c m = Contains-map_cases (λ r. front ++ r ∷ []) next c m
 
 continued-apart : (front next : List (List ℕ)) → AllPairs (λ r s. r ≢ s) next → AllPairs (λ a b. a ≢ b) (continued front next)
-continued-apart front next apart = AllPairs-map (λ r. front ++ r ∷ []) (λ r s. r ≢ s) (λ a b. a ≢ b) (λ r s ne e. ne (same_from_push front front r s e).1) next apart
+continued-apart front next apart = AllPairs-map (λ r. front ++ r ∷ []) (λ r s. r ≢ s) (λ a b. a ≢ b)
+    (λ r s ne e. ne (same_from_push front front r s e).1) next apart
 
 module _ (weights : List ℕ) (G : List (List Term)) (tips : AreListedTips (length weights) (leads_of G)) where
   abbrev T : List ℕ → Type 0

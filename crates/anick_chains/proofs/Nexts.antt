@@ -74,7 +74,8 @@ module _ (weights : List ℕ) (G : List (List Term)) (q : List ℕ) where
   -- what a tip gives is listed
   pub end_of-is : (before d k : ℕ) (r : List ℕ) → IsEnd before d k r → Contains (end_of weights G q before d k) r
   end_of-is before d k r h =
-      let front : take (length (drop before q)) (lead_word G k) ≡ drop before q = ap (take (length (drop before q))) h.tip_is ∙ take-append_seam (drop before q) r in
+      let front : take (length (drop before q)) (lead_word G k) ≡ drop before q =
+      ap (take (length (drop before q))) h.tip_is ∙ take-append_seam (drop before q) r in
       let rest : drop (length (drop before q)) (lead_word G k) ≡ r = ap (drop (length (drop before q))) h.tip_is ∙ drop-append_seam (drop before q) r in
       let on = goes_on-both weights G (drop before q) d k front h.degree in
       subst (λ (b : Bool). Contains (cond b (unless_stands (leads_of G) q (drop (length (drop before q)) (lead_word G k))) []) r) (sym on)

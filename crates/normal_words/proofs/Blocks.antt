@@ -108,7 +108,8 @@ module _ (leads : List Lead) (x : ℕ) where
   pub block-falling : (weights : List ℕ) → AreWeights weights → (tails : List (List ℕ)) → AllPairs IsLetterwiseGreater tails →
       AllPairs IsLetterwiseGreater (block leads x tails)
   block-falling weights aw tails h =
-      AllPairs-flat_map (λ v. unless_begins leads (x ∷ v)) IsLetterwiseGreater IsLetterwiseGreater (λ v. unless-pairs IsLetterwiseGreater (begins leads (x ∷ v)) (x ∷ v))
+      AllPairs-flat_map (λ v. unless_begins leads (x ∷ v)) IsLetterwiseGreater IsLetterwiseGreater
+      (λ v. unless-pairs IsLetterwiseGreater (begins leads (x ∷ v)) (x ∷ v))
       (λ a b u v g m n.
       let e = unless-says (begins leads (x ∷ a)) (x ∷ a) u m in
       let f = unless-says (begins leads (x ∷ b)) (x ∷ b) v n in

@@ -65,7 +65,8 @@ module _ (b : Elements) (kept : IsKept b) (free : IsFactorFree b.elements) (d : 
         ]
       ] in
       let lead : o.before ++ o.shared ≡ q.before ++ q.shared = sym lo.left_lead ∙ ap (lead_word G) left ∙ lq.left_lead in
-      let before : o.before ≡ q.before = sym (take-append_seam o.before o.shared) ∙ ap₂ (λ (n : ℕ) (w : List ℕ). take n w) size lead ∙ take-append_seam q.before q.shared in
+      let before : o.before ≡ q.before = sym (take-append_seam o.before o.shared) ∙ ap₂ (λ (n : ℕ) (w : List ℕ). take n w) size lead
+      ∙ take-append_seam q.before q.shared in
       let shared : o.shared ≡ q.shared = sym (drop-append_seam o.before o.shared) ∙ ap₂ (λ (n : ℕ) (w : List ℕ). drop n w) size lead
       ∙ drop-append_seam q.before q.shared in
       let behind : o.behind ≡ q.behind = append_cancel_left (q.before ++ q.shared) o.behind q.behind (ap (λ (w : List ℕ). w ++ o.behind) (sym lead) ∙ word) in

@@ -65,7 +65,8 @@ module _ (b : Elements) (kept : IsKept b) where
       record {
         left_element = λ f is. is ∙ ap (λ (i : ℕ). get_or G i f) left ∙ get_or_from_slice_get G o.left h.first f h.at_left;
         right_element = λ f is. is ∙ ap (λ (i : ℕ). get_or G i f) right ∙ get_or_from_slice_get G o.right h.second f h.at_right;
-        before = ap₂ (λ (n : ℕ) (w : List ℕ). take n w) front (word ∙ append_assoc o.before o.shared o.behind) ∙ take-append_seam o.before (o.shared ++ o.behind);
+        before =
+            ap₂ (λ (n : ℕ) (w : List ℕ). take n w) front (word ∙ append_assoc o.before o.shared o.behind) ∙ take-append_seam o.before (o.shared ++ o.behind);
         behind = ap₂ (λ (n : ℕ) (w : List ℕ). drop n w) (ap length lead) word ∙ drop-append_seam (o.before ++ o.shared) o.behind;
       }
 

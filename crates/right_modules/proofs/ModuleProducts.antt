@@ -31,7 +31,8 @@ has_module_words-is free (t ∷ f) h =
 first_passes : (free : ℕ) (f : List Term) → f ≢ [] → has_module_words free f ≡ true → All (λ t. is_module_word free t.word ≡ false) f → ⊥
 first_passes free [] ne e h = ne refl
 first_passes free (t ∷ f) ne e h =
-    (let a : is_module_word free t.word ≡ true = (and_parts _ _ e).0 in let b = All-head (λ (s : Term). is_module_word free s.word ≡ false) t f h in differ _ a b)
+    (let a : is_module_word free t.word ≡ true = (and_parts _ _ e).0 in
+    let b = All-head (λ (s : Term). is_module_word free s.word ≡ false) t f h in differ _ a b)
   where
     differ : (b : Bool) → b ≡ true → b ≡ false → ⊥
     differ b e f = cc
