@@ -1,17 +1,18 @@
 -- Chains depend on the tips up to their degree alone, and there the leading words of a reduced basis are the minimal
 -- words.
-use Rattle.std.proofs.Common.{◌≡◌, ◌+◌, ◌<◌, ◌≤◌, ℕ, List, [], ◌∷◌, ◌++◌, length, sym, ap, ◌∙◌, arith, subst, Some}
+use Rattle.std.proofs.Common.{◌≡◌, ◌+◌, ◌<◌, ◌≤◌, ℕ, List, [], ◌∷◌, ◌++◌, length, sym, ap, ◌∙◌, arith, subst}
 use Rattle.std.specs.List.{Contains}
 use Rattle.words.specs.Words.{degree_of}
 use Rattle.words.proofs.Members.{Contains-map, Contains-map_cases}
 use Rattle.words.proofs.Weights.{degree_of-append}
 use Rattle.free_poly.specs.declared.term.Term.{Term}
-use Rattle.free_poly.specs.Poly.{lead_of, lead_or_none}
+use Rattle.free_poly.specs.Poly.{lead_or_none}
 use Rattle.free_poly.proofs.Products.{degree_of-round}
 use Rattle.ideal_laws.specs.Ideal.{Ideal, IsMinimal}
 use Rattle.ideal_laws.specs.Laws.{IsSetting}
 use Rattle.ideal_laws.specs.Overlaps.{AreLower}
 use Rattle.ideal_laws.proofs.OneBasis.{minimal_led, monic-led}
+use Rattle.overlaps.proofs.Places.{lead-is}
 use Rattle.anick_chains.specs.BasisTips.{HasMinimalChains, leads_of}
 use Rattle.anick_chains.specs.Chains.{AreNext, EndsWithOnlyTip, HasTip, IsChain, IsNext, chain_degree}
 
@@ -62,23 +63,18 @@ module _ (weights : List ℕ) (names b : ℕ) (T U : List ℕ → Type 0) (to : 
     all-agree q rs le h.1,
   )
 
--- the leading word, where there is one
-pub lead_is : (g : List Term) (w : List ℕ) → lead_of g ≡ Some w → lead_or_none g ≡ w
-lead_is [] w e = cc e
-lead_is (t ∷ g) w e = cc e
-
 module _ (ideal : Ideal) (st : IsSetting ideal) (e : ℕ) (G : List (List Term)) (lower : AreLower ideal e G) where
   lead_minimal : (w : List ℕ) → Contains (leads_of G) w → IsMinimal ideal w
   lead_minimal w m =
       let g = Contains-map_cases lead_or_none G w m in
       let r = (lower g.0).0 g.1 in
       let l = monic-led g.0 r.2.monic in
-      subst (IsMinimal ideal) (sym (lead_is g.0 l.0 l.1) ∙ g.2) (r.2.minimal l.0 l.1)
+      subst (IsMinimal ideal) (sym (lead-is g.0 l.0 l.1) ∙ g.2) (r.2.minimal l.0 l.1)
 
   minimal_lead : (w : List ℕ) → degree_of ideal.weights w < e → IsMinimal ideal w → Contains (leads_of G) w
   minimal_lead w lt h =
       let g = minimal_led ideal st w h in
-      subst (Contains (leads_of G)) (lead_is g.0 w g.2) (Contains-map lead_or_none G g.0 ((lower g.0).1 (degree_of ideal.weights w, lt, g.1)))
+      subst (Contains (leads_of G)) (lead-is g.0 w g.2) (Contains-map lead_or_none G g.0 ((lower g.0).1 (degree_of ideal.weights w, lt, g.1)))
 
   -- chains over the leading words are chains over the minimal words
   pub to_minimal : (c : List (List ℕ)) → chain_degree ideal.weights c < e → IsChain (Contains (leads_of G)) (length ideal.weights) c →

@@ -5,6 +5,7 @@ use Rattle.std.specs.List.{Contains, flat_map, range_with_len}
 use Rattle.std.proofs.lemmas.Bool.{eqb-true}
 use Rattle.std.proofs.lemmas.List.Elements.{All-nil, Contains-append_cases, Contains-append_left, Contains-append_right}
 use Rattle.std.proofs.lemmas.List.Kept.{AllPairs-cons}
+use Rattle.std.proofs.lemmas.List.{same_from_push}
 use Rattle.words.specs.Words.{AreWeights, degree_of, weight_of}
 use Rattle.words.proofs.Degrees.{Contains-range, range-bounds, range-rising}
 use Rattle.words.proofs.Members.{AllPairs-append, AllPairs-map, AllPairs-nil, All-from_members, Contains-cases, Contains-first, Contains-flat_map}
@@ -16,7 +17,7 @@ use Rattle.anick_chains.specs.BasisTips.{leads_of}
 use Rattle.anick_chains.specs.Chains.{HasTip, IsChain, IsFirst, chain_degree}
 use Rattle.anick_chains.specs.Laws.{AreListedTips, IsExtension}
 use Rattle.anick_chains.specs.Walk.{chains_at, continued, free_letter, free_letters, last_piece, next_of, onward, stands}
-use Rattle.anick_chains.proofs.Ends.{IsEnded, same_ends}
+use Rattle.anick_chains.proofs.Ends.{IsEnded}
 use Rattle.anick_chains.proofs.Extensions.{are_tips, extension_to_next, next_to_extension}
 use Rattle.anick_chains.proofs.LastPieces.{chain_ended, last_piece-is}
 use Rattle.anick_chains.proofs.Mates.{IsLast, alone, after, chain_degree-ended, last_free, last_of_chain, letter_free, longer_chain}
@@ -29,7 +30,8 @@ pub continued-says : (front next c : List (List ℕ)) → Contains (continued fr
 continued-says front next c m = Contains-map_cases (λ r. front ++ r ∷ []) next c m
 
 continued-apart : (front next : List (List ℕ)) → AllPairs (λ r s. r ≢ s) next → AllPairs (λ a b. a ≢ b) (continued front next)
-continued-apart front next apart = AllPairs-map (λ r. front ++ r ∷ []) (λ r s. r ≢ s) (λ a b. a ≢ b) (λ r s ne e. ne (same_ends front front r s e).1) next apart
+continued-apart front next apart = AllPairs-map (λ r. front ++ r ∷ []) (λ r s. r ≢ s) (λ a b. a ≢ b)
+    (λ r s ne e. ne (same_from_push front front r s e).1) next apart
 
 module _ (weights : List ℕ) (G : List (List Term)) (tips : AreListedTips (length weights) (leads_of G)) where
   abbrev T : List ℕ → Type 0
@@ -179,10 +181,10 @@ module _ (weights : List ℕ) (G : List (List Term)) (tips : AreListedTips (leng
         (λ a b u v m n ne i j e.
         let r = continued-says a (next_of weights G d a) u i in
         let s = continued-says b (next_of weights G d b) v j in
-        ne (same_ends a b r.0 s.0 (r.2 ∙ e ∙ sym s.2)).0))
+        ne (same_from_push a b r.0 s.0 (r.2 ∙ e ∙ sym s.2)).0))
         (λ a m. All-from_members (λ b. a ≢ b) (flat_map (onward weights G d) below) (λ b n e.
         let r = continued-says [] (free_letters weights G d) a m in
         let k = Contains-flat_map_cases (onward weights G d) below b n in
         let s = continued-says k.0 (next_of weights G d k.0) b k.2 in
-        let none = (same_ends [] k.0 r.0 s.0 (r.2 ∙ e ∙ sym s.2)).0 in
+        let none = (same_from_push [] k.0 r.0 s.0 (r.2 ∙ e ∙ sym s.2)).0 in
         subst (IsChain T names) (sym none) ((exactly k.0).0 k.1).0))

@@ -183,21 +183,9 @@ rising_unique : (xs ys : List ChainCount) → AllPairs IsLower xs → AllPairs I
     SameSums xs ys → xs ≡ ys
 rising_unique [] [] up_x up_y some_x some_y same = refl
 rising_unique [] (b ∷ bs) up_x up_y some_x some_y same =
-    absurd (omega (
-      arith,
-      All-head (λ (k : ChainCount). 0 < k.count) b bs some_y,
-      same (at_one b),
-      sum_by-cons (count_weight (at_one b)) b bs,
-      own_weight b b refl refl,
-    ))
+    absurd (not_lower b bs [] (All-head (λ (k : ChainCount). 0 < k.count) b bs some_y) (λ f. sym (same f)) (All-nil (IsLower b)))
 rising_unique (a ∷ more_x) [] up_x up_y some_x some_y same =
-    absurd (omega (
-      arith,
-      All-head (λ (k : ChainCount). 0 < k.count) a more_x some_x,
-      same (at_one a),
-      sum_by-cons (count_weight (at_one a)) a more_x,
-      own_weight a a refl refl,
-    ))
+    absurd (not_lower a more_x [] (All-head (λ (k : ChainCount). 0 < k.count) a more_x some_x) same (All-nil (IsLower a)))
 rising_unique (a ∷ more_x) (b ∷ bs) up_x up_y some_x some_y same =
     by_order (rising_unique more_x bs (AllPairs-rest IsLower a more_x up_x) (AllPairs-rest IsLower b bs up_y)
     (All-tail (λ (k : ChainCount). 0 < k.count) a more_x some_x) (All-tail (λ (k : ChainCount). 0 < k.count) b bs some_y)) (order a b)

@@ -1,9 +1,8 @@
 -- The numbers of chains of each degree and length.
-use Rattle.std.proofs.Common.{ap₂, ◌≡◌, ◌+◌, ◌*◌, ◌<◌, ◌≤◌, ◌==◌, ℕ, Bool, true, false, cond, zero, suc, List, [], ◌∷◌, ◌++◌, All, length, refl, sym}
+use Rattle.std.proofs.Common.{add-mul, ap₂, ◌≡◌, ◌+◌, ◌*◌, ◌<◌, ◌≤◌, ◌==◌, ℕ, Bool, true, false, cond, zero, suc, List, [], ◌∷◌, ◌++◌, All, length, refl, sym}
 use Rattle.std.proofs.Common.{ap, ◌∙◌, inl, inr, arith}
 use Rattle.std.proofs.Common.{AllPairs, append-nil, eq-eqb}
 use Rattle.std.specs.List.{Contains, range_with_len, sum_by}
-use Rattle.std.proofs.Math.Nat.{mul-add, mul_comm}
 use Rattle.std.proofs.lemmas.Bool.{cases_lt}
 use Rattle.std.proofs.lemmas.List.Elements.{All-append, All-contains, All-head, All-nil, All-tail, All-weaker}
 use Rattle.std.proofs.lemmas.List.Kept.{AllPairs-cons}
@@ -17,9 +16,6 @@ use Rattle.anick_chains.specs.declared.tally.Tally.{Tally}
 use Rattle.anick_chains.specs.Tallies.{IsCounted, IsLower, Tells, count_of, count_weight, counts_at, number_of, tally_weight}
 use Rattle.anick_chains.proofs.Members.{AllPairs-joined}
 use Rattle.anick_chains.proofs.Sums.{sum_by-flat_map, sum_by-none, sum_by-plus, sum_by-same}
-
-plus-times : (a b g : ℕ) → (a + b) * g ≡ a * g + b * g
-plus-times a b g = mul_comm (a + b) g ∙ mul-add g a b ∙ ap₂ (λ (m n : ℕ). m + n) (mul_comm g a) (mul_comm g b)
 
 -- in a range of numbers one number stands once
 pick : (g : ℕ → ℕ) (m a n : ℕ) → a ≤ m → m < a + n → sum_by (λ k. cond (m == k) 1 0 * g k) (range_with_len a n) ≡ g m
@@ -54,7 +50,7 @@ columns d g (c ∷ cs) all =
     let split : sum_by (λ n. with_length (c ∷ cs) n * g n) (range_with_len 1 d) ≡ sum_by (λ n. one n + rest n) (range_with_len 1 d) =
     sum_by-same (λ (n : ℕ). with_length (c ∷ cs) n * g n) (λ (n : ℕ). one n + rest n) (range_with_len 1 d) (λ n m.
     ap (λ (k : ℕ). k * g n) (sum_by-cons (λ (x : Chain). cond (length x.pieces == n) 1 0) c cs)
-    ∙ plus-times (cond (length c.pieces == n) 1 0) (with_length cs n) (g n)) in
+    ∙ add-mul (cond (length c.pieces == n) 1 0) (with_length cs n) (g n)) in
     split ∙ sum_by-plus one rest (range_with_len 1 d)
     ∙ ap₂ (λ (m n : ℕ). m + n) (pick g (length c.pieces) 1 d (omega (arith, own.0)) (omega (arith, own.1)))
     (columns d g cs (All-tail (λ (x : Chain). (0 < length x.pieces) × (length x.pieces ≤ d)) c cs all))

@@ -1,5 +1,5 @@
 -- Lists by their last member.
-use Rattle.std.proofs.Common.{ap₂, ◌≡◌, ◌≢◌, List, [], ◌∷◌, ◌++◌, length, refl, sym, ap, ◌∙◌, arith, length-append, suc}
+use Rattle.std.proofs.Common.{◌≡◌, ◌≢◌, List, [], ◌∷◌, ◌++◌, refl, ap}
 
 module _ {X : Type 0} where
   -- the last member of a list that is not empty
@@ -21,22 +21,7 @@ module _ {X : Type 0} where
   no_end [] x e = cc e
   no_end (y ∷ xs) x e = cc e
 
-  -- the last members and the lists before them are the same
-  pub same_ends : (xs ys : List X) (x y : X) → xs ++ x ∷ [] ≡ ys ++ y ∷ [] → (xs ≡ ys) × (x ≡ y)
-  same_ends [] [] x y e = (refl, cc e)
-  same_ends [] (b ∷ ys) x y e = let t : [] ≡ ys ++ y ∷ [] = cc e in absurd (no_end ys y (sym t))
-  same_ends (a ∷ xs) [] x y e = let t : xs ++ x ∷ [] ≡ [] = cc e in absurd (no_end xs x t)
-  same_ends (a ∷ xs) (b ∷ ys) x y e =
-      let h : a ≡ b = cc e in
-      let t : xs ++ x ∷ [] ≡ ys ++ y ∷ [] = cc e in
-      let r = same_ends xs ys x y t in
-      (ap₂ (λ (c : X) (r : List X). c ∷ r) h r.0, r.1)
-
   -- what ends an empty list is empty
   pub append-none : (xs ys : List X) → xs ++ ys ≡ [] → ys ≡ []
   append-none [] ys e = e
   append-none (x ∷ xs) ys e = cc e
-
-  -- one member more
-  pub length-ended : (xs : List X) (x : X) → length (xs ++ x ∷ []) ≡ suc (length xs)
-  length-ended xs x = length-append xs (x ∷ []) ∙ omega arith

@@ -1,12 +1,13 @@
 -- A list whose members have mates of the other parity has as many even members as odd ones.
-use Rattle.std.proofs.Common.{◌≡◌, ◌≢◌, ◌⊎◌, ◌+◌, ◌≤◌, ◌%◌, ◌==◌, ℕ, Bool, true, false, cond, suc, List, [], ◌∷◌, ◌++◌, length, refl, sym, ap, ◌∙◌}
+use Rattle.std.proofs.Common.{◌≡◌, ◌≢◌, ◌⊎◌, ◌≤◌, ◌%◌, ◌==◌, ℕ, Bool, true, false, cond, suc, List, [], ◌∷◌, ◌++◌, length, sym, ap, ◌∙◌}
 use Rattle.std.proofs.Common.{inl, inr, arith, subst, length-append, AllPairs, count_by, eq-eqb, filter}
 use Rattle.std.specs.List.{Contains}
 use Rattle.std.proofs.lemmas.Bool.{eqb-true}
-use Rattle.std.proofs.lemmas.List.Elements.{All-contains, Contains-append_cases, Contains-append_left, Contains-append_right}
-use Rattle.words.proofs.Members.{AllPairs-first, AllPairs-nil, AllPairs-rest, All-from_members, Contains-cases, Contains-first, Contains-more, Contains-none}
-use Rattle.ideal_laws.proofs.Counts.{count_by-append}
-use Rattle.std.proofs.lemmas.List.Kept.{AllPairs-cons}
+use Rattle.std.proofs.lemmas.List.Elements.{All-contains, All-contains_itself, All-filter, filter_passes}
+use Rattle.std.proofs.lemmas.List.Elements.{Contains-append_cases, Contains-append_left, Contains-append_right}
+use Rattle.words.proofs.Members.{AllPairs-first, AllPairs-rest, Contains-cases, Contains-first, Contains-more, Contains-none}
+use Rattle.std.proofs.lemmas.List.Kept.{AllPairs-filter}
+use Rattle.std.proofs.lemmas.List.Sums.{length-filter}
 
 -- a member with what stands before and after it
 pub record IsPlaced {Y : Type 0} (ys : List Y) (y : Y) : Type 0 where
@@ -48,54 +49,25 @@ module _ {X Y : Type 0} (R : X → Y → Type 0) where
           ]
 
 module _ {X : Type 0} (f : X → Bool) where
-  -- the members where f is true
-  abbrev pub those : List X → List X
-  those xs = filter f xs
-
-  -- there are as many as are counted
-  pub length-those : (xs : List X) → length (those xs) ≡ count_by f xs
-  length-those [] = refl
-  length-those (x ∷ xs) = by_test (f x) (length-those xs) ∙ sym (count_by-append f (x ∷ []) xs ∙ omega arith)
-    where
-      by_test : (b : Bool) → length (those xs) ≡ count_by f xs → length (cond b (x ∷ those xs) (those xs)) ≡ cond b 1 0 + count_by f xs
-      by_test true e = omega (arith, e)
-      by_test false e = omega (arith, e)
-
-  -- a member where f is true is among them
-  pub in_those : (xs : List X) (x : X) → Contains xs x → f x ≡ true → Contains (those xs) x
-  in_those [] x m e = absurd (Contains-none x m)
-  in_those (y ∷ xs) x m e = elim (Contains-cases y xs x m) [
-    | inl is ↦ subst (λ (b : Bool). Contains (cond b (y ∷ those xs) (those xs)) x) (sym (ap f is ∙ e))
-        (subst (Contains (y ∷ those xs)) is (Contains-first y (those xs)))
-    | inr n ↦ by_test (f y) (in_those xs x n e)
+  -- a member where f is true is among those
+  pub in_filter : (xs : List X) (x : X) → Contains xs x → f x ≡ true → Contains (filter f xs) x
+  in_filter [] x m e = absurd (Contains-none x m)
+  in_filter (y ∷ xs) x m e = elim (Contains-cases y xs x m) [
+    | inl is ↦ subst (λ (b : Bool). Contains (cond b (y ∷ filter f xs) (filter f xs)) x) (sym (ap f is ∙ e))
+        (subst (Contains (y ∷ filter f xs)) is (Contains-first y (filter f xs)))
+    | inr n ↦ by_test (f y) (in_filter xs x n e)
   ]
     where
-      by_test : (b : Bool) → Contains (those xs) x → Contains (cond b (y ∷ those xs) (those xs)) x
-      by_test true n = Contains-more y (those xs) x n
+      by_test : (b : Bool) → Contains (filter f xs) x → Contains (cond b (y ∷ filter f xs) (filter f xs)) x
+      by_test true n = Contains-more y (filter f xs) x n
       by_test false n = n
 
   -- each of them is a member where f is true
-  pub those-says : (xs : List X) (x : X) → Contains (those xs) x → Contains xs x × (f x ≡ true)
-  those-says [] x m = absurd (Contains-none x m)
-  those-says (y ∷ xs) x m = by_test (f y) refl m (those-says xs x)
-    where
-      by_test : (b : Bool) → f y ≡ b → Contains (cond b (y ∷ those xs) (those xs)) x →
-          (Contains (those xs) x → Contains xs x × (f x ≡ true)) → Contains (y ∷ xs) x × (f x ≡ true)
-      by_test true e n on = elim (Contains-cases y (those xs) x n) [
-        | inl is ↦ (subst (Contains (y ∷ xs)) is (Contains-first y xs), sym (ap f is) ∙ e)
-        | inr k ↦ let r = on k in (Contains-more y xs x r.0, r.1)
-      ]
-      by_test false e n on = let r = on n in (Contains-more y xs x r.0, r.1)
-
-  -- they stand in the order of the list
-  pub AllPairs-those : (R : X → X → Type 0) (xs : List X) → AllPairs R xs → AllPairs R (those xs)
-  AllPairs-those R [] h = AllPairs-nil R
-  AllPairs-those R (y ∷ xs) h = by_test (f y) (AllPairs-those R xs (AllPairs-rest R y xs h))
-    where
-      by_test : (b : Bool) → AllPairs R (those xs) → AllPairs R (cond b (y ∷ those xs) (those xs))
-      by_test true r = AllPairs-cons R y (those xs) (All-from_members (R y) (those xs)
-          (λ z m. All-contains (R y) xs z (AllPairs-first R y xs h) (those-says xs z m).0)) r
-      by_test false r = r
+  pub filter-says : (xs : List X) (x : X) → Contains (filter f xs) x → Contains xs x × (f x ≡ true)
+  filter-says xs x m = (
+    All-contains (Contains xs) (filter f xs) x (All-filter f (Contains xs) xs (All-contains_itself xs)) m,
+    All-contains (λ y. f y ≡ true) (filter f xs) x (filter_passes f xs) m,
+  )
 
 -- of two numbers that differ by 1 one is even and one is odd
 pub parity : (m n : ℕ) → (m ≡ suc n) ⊎ (n ≡ suc m) → n % 2 ≡ 0 → m % 2 ≡ 1
@@ -114,20 +86,20 @@ module _ {X : Type 0} (M : X → X → Type 0) (key : X → ℕ) where
       (b : X) × Contains xs b × M a b × M b a × ((key b ≡ suc (key a)) ⊎ (key a ≡ suc (key b))))
       → ((a b c : X) → Contains xs a → M a b → M a c → b ≡ c) → count_by (λ a. key a % 2 == 0) xs ≡ count_by (λ a. key a % 2 == 1) xs
   as_many xs apart mate one =
-      let evens = those (λ a. key a % 2 == 0) xs in
-      let odds = those (λ a. key a % 2 == 1) xs in
-      let up : length evens ≤ length odds = no_longer T evens odds (AllPairs-those (λ a. key a % 2 == 0) (λ a b. a ≢ b) xs apart)
+      let evens = filter (λ a. key a % 2 == 0) xs in
+      let odds = filter (λ a. key a % 2 == 1) xs in
+      let up : length evens ≤ length odds = no_longer T evens odds (AllPairs-filter (λ a b. a ≢ b) (λ a. key a % 2 == 0) xs apart)
       (λ a m.
-      let s = those-says (λ a. key a % 2 == 0) xs a m in
+      let s = filter-says (λ a. key a % 2 == 0) xs a m in
       let r = mate a s.0 in
-      (r.0, in_those (λ a. key a % 2 == 1) xs r.0 r.1 (eq-eqb _ _ (parity (key r.0) (key a) r.4 (eqb-true _ _ s.1))), (r.1, r.3))) (λ a b y m n. same a b y) in
-      let down : length odds ≤ length evens = no_longer T odds evens (AllPairs-those (λ a. key a % 2 == 1) (λ a b. a ≢ b) xs apart)
+      (r.0, in_filter (λ a. key a % 2 == 1) xs r.0 r.1 (eq-eqb _ _ (parity (key r.0) (key a) r.4 (eqb-true _ _ s.1))), (r.1, r.3))) (λ a b y m n. same a b y) in
+      let down : length odds ≤ length evens = no_longer T odds evens (AllPairs-filter (λ a b. a ≢ b) (λ a. key a % 2 == 1) xs apart)
       (λ a m.
-      let s = those-says (λ a. key a % 2 == 1) xs a m in
+      let s = filter-says (λ a. key a % 2 == 1) xs a m in
       let r = mate a s.0 in
-      (r.0, in_those (λ a. key a % 2 == 0) xs r.0 r.1 (eq-eqb _ _ (parity_odd (key r.0) (key a) r.4 (eqb-true _ _ s.1))), (r.1, r.3)))
+      (r.0, in_filter (λ a. key a % 2 == 0) xs r.0 r.1 (eq-eqb _ _ (parity_odd (key r.0) (key a) r.4 (eqb-true _ _ s.1))), (r.1, r.3)))
       (λ a b y m n. same a b y) in
-      omega (arith, up, down, length-those (λ a. key a % 2 == 0) xs, length-those (λ a. key a % 2 == 1) xs)
+      omega (arith, up, down, length-filter (λ a. key a % 2 == 0) xs, length-filter (λ a. key a % 2 == 1) xs)
     where
       -- y is a member of which x is the mate
       T : X → X → Type 0

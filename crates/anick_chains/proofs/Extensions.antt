@@ -2,7 +2,7 @@
 use Rattle.std.proofs.Common.{◌≡◌, ◌≢◌, ◌<◌, ℕ, List, [], ◌∷◌, ◌++◌, length, refl, sym, ap, ◌∙◌, inl, inr, arith, subst, length-append, append-nil}
 use Rattle.std.specs.List.{Contains}
 use Rattle.std.proofs.lemmas.Bool.{cases_lt}
-use Rattle.std.proofs.lemmas.List.{append_assoc}
+use Rattle.std.proofs.lemmas.List.{nil_from_length, same_from_push, append_assoc}
 use Rattle.words.specs.Words.{IsOver}
 use Rattle.free_poly.proofs.FromWords.{listed}
 use Rattle.ideal_laws.proofs.Factors.{All-back}
@@ -10,7 +10,7 @@ use Rattle.ideal_laws.proofs.Meeting.{split}
 use Rattle.anick_chains.specs.Chains.{HasTip, IsNext}
 use Rattle.anick_chains.specs.Laws.{AreListedTips, AreTips, HasExtensions, IsExtension}
 use Rattle.anick_chains.specs.Pairs.{IsShortest}
-use Rattle.anick_chains.proofs.Ends.{ended, no_end, same_ends}
+use Rattle.anick_chains.proofs.Ends.{ended, no_end}
 use Rattle.anick_chains.proofs.Tips.{HasTip-front, HasTip-here, ends-shortest, shortest-ends}
 
 module _ (T : List ℕ → Type 0) (tips : AreTips T) (names : ℕ) where
@@ -18,7 +18,7 @@ module _ (T : List ℕ → Type 0) (tips : AreTips T) (names : ℕ) where
   front_of : (r s rest : List ℕ) → r ≡ s ++ rest → rest ≢ [] → (f : List ℕ) (x : ℕ) → r ≡ f ++ x ∷ [] → (t : List ℕ) × (f ≡ s ++ t)
   front_of r s rest is some f x e =
       let l = ended rest some in
-      let both = same_ends (s ++ l.front) f l.last x (append_assoc s l.front (l.last ∷ []) ∙ sym (ap (λ (y : List ℕ). s ++ y) l.is) ∙ sym is ∙ e) in
+      let both = same_from_push (s ++ l.front) f l.last x (append_assoc s l.front (l.last ∷ []) ∙ sym (ap (λ (y : List ℕ). s ++ y) l.is) ∙ sym is ∙ e) in
       (l.front, sym both.0)
 
   -- what may follow a piece ends a tip that the piece begins
@@ -69,7 +69,7 @@ module _ (T : List ℕ → Type 0) (tips : AreTips T) (names : ℕ) where
           let i = h.inside in
           let joined : c ++ r ≡ (c ++ i.before) ++ h.tip ++ i.after = ap (λ (y : List ℕ). c ++ y) i.joined ∙ simp append_assoc refl in
           let same : h.tip ≡ c ++ r = tips.apart h.tip (c ++ r) h.is_tip t (record { before = c ++ i.before; after = i.after; joined = joined }) in
-          more (none c (omega (
+          more (nil_from_length c (omega (
             arith,
             ap length same,
             ap length i.joined,
@@ -77,10 +77,6 @@ module _ (T : List ℕ → Type 0) (tips : AreTips T) (names : ℕ) where
             length-append i.before h.tip,
             length-append c r,
           )))
-        where
-          none : (c : List ℕ) → length c ≡ 0 → c ≡ []
-          none [] e = refl
-          none (y ∷ c) e = absurd (omega (arith, e))
 
 -- the words of a list of tips are tips
 pub are_tips : (names : ℕ) (tips : List (List ℕ)) → AreListedTips names tips → AreTips (Contains tips)

@@ -1,7 +1,7 @@
 -- Each pair has exactly one mate, and is the mate of its mate.
 use Rattle.std.proofs.Common.{ap₂, ◌≡◌, ◌≢◌, ◌⊎◌, ◌+◌, ◌<◌, ℕ, suc, List, [], ◌∷◌, ◌++◌, length, refl, sym, ap, ◌∙◌, inl, inr, arith, subst}
 use Rattle.std.proofs.Common.{length-append, append-nil}
-use Rattle.std.proofs.lemmas.List.{append_assoc, append_cancel_left}
+use Rattle.std.proofs.lemmas.List.{length_push, same_from_push, append_assoc, append_cancel_left}
 use Rattle.std.proofs.lemmas.List.Elements.{All-append, All-cons, All-head, All-nil, All-tail}
 use Rattle.words.specs.Words.{IsOver, degree_of}
 use Rattle.words.proofs.Weights.{degree_of-append}
@@ -9,7 +9,7 @@ use Rattle.ideal_laws.proofs.Factors.{All-back, All-front}
 use Rattle.anick_chains.specs.Chains.{AreNext, HasTip, IsChain, IsFirst, IsNext, chain_degree}
 use Rattle.anick_chains.specs.Laws.{AreTips, HasMate, IsOneLonger}
 use Rattle.anick_chains.specs.Pairs.{IsMate, begun, back, ahead, IsPair, IsShortest, Pair}
-use Rattle.anick_chains.proofs.Ends.{ended, length-ended, no_end, same_ends}
+use Rattle.anick_chains.proofs.Ends.{ended, no_end}
 use Rattle.anick_chains.proofs.Tips.{HasTip-end, HasTip-front, HasTip-here, ends-shortest, same_shortest, shortest-ends, shortest_from}
 
 chain_degree-append : (weights : List ℕ) (qs rs : List (List ℕ)) → chain_degree weights (qs ++ rs) ≡ chain_degree weights qs + chain_degree weights rs
@@ -177,18 +177,18 @@ module _ (T : List ℕ → Type 0) (names : ℕ) where
       same_mate a b c h (begun x none word pieces) (ahead qs q r pieces' short word' more) = absurd (no_end qs q (sym pieces' ∙ none))
       same_mate a b c h (back q pieces free word) (begun x none word' pieces') = absurd (no_end b.pieces q (sym pieces ∙ none))
       same_mate a b c h (back q pieces free word) (back r pieces' free' word') =
-          let e = same_ends b.pieces c.pieces q r (sym pieces ∙ pieces') in
+          let e = same_from_push b.pieces c.pieces q r (sym pieces ∙ pieces') in
           same_pair b c e.0 (word ∙ ap (λ (x : List ℕ). x ++ a.word) e.1 ∙ sym word')
       same_mate a b c h (back q pieces free word) (ahead qs r s pieces' short word' more) =
-          let e = same_ends b.pieces qs q r (sym pieces ∙ pieces') in
+          let e = same_from_push b.pieces qs q r (sym pieces ∙ pieces') in
           absurd (free (subst (HasTip T) (append_assoc r s c.word ∙ ap₂ (λ (x y : List ℕ). x ++ y) (sym e.1) (sym word'))
           (HasTip-front T (r ++ s) c.word short.tip)))
       same_mate a b c h (ahead qs q r pieces short word more) (begun x none word' pieces') = absurd (no_end qs q (sym pieces ∙ none))
       same_mate a b c h (ahead qs q r pieces short word more) (back s pieces' free word') =
-          let e = same_ends qs c.pieces q s (sym pieces ∙ pieces') in
+          let e = same_from_push qs c.pieces q s (sym pieces ∙ pieces') in
           absurd (free (subst (HasTip T) (append_assoc q r b.word ∙ ap₂ (λ (x y : List ℕ). x ++ y) e.1 (sym word)) (HasTip-front T (q ++ r) b.word short.tip)))
       same_mate a b c h (ahead qs q r pieces short word more) (ahead qs' q' r' pieces' short' word' more') =
-          let e = same_ends qs qs' q q' (sym pieces ∙ pieces') in
+          let e = same_from_push qs qs' q q' (sym pieces ∙ pieces') in
           let whole : r ++ b.word ≡ r' ++ c.word = sym word ∙ word' in
           let same = same_shortest T q r b.word r' c.word short (subst (λ (x : List ℕ). IsShortest T x r') (sym e.1) short') whole in
           same_pair b c (more ∙ ap (λ (x : List ℕ). a.pieces ++ x ∷ []) same ∙ sym more')
@@ -197,8 +197,8 @@ module _ (T : List ℕ → Type 0) (names : ℕ) where
       -- a mate has a piece more or less
       pub mate_length : (a b : Pair) → IsMate T a b → IsOneLonger b a
       mate_length a b (begun x none word pieces) = inl (ap length pieces ∙ ap (λ (rs : List (List ℕ)). suc (length rs)) (sym none))
-      mate_length a b (back q pieces free word) = inr (ap length pieces ∙ length-ended b.pieces q)
-      mate_length a b (ahead qs q r pieces short word more) = inl (ap length more ∙ length-ended a.pieces r)
+      mate_length a b (back q pieces free word) = inr (omega (arith, ap length pieces, length_push b.pieces q))
+      mate_length a b (ahead qs q r pieces short word more) = inl (omega (arith, ap length more, length_push a.pieces r))
 
       module _ (decide : (w : List ℕ) → HasTip T w ⊎ (HasTip T w → ⊥)) (pos : 0 < d) where
         -- there is a mate

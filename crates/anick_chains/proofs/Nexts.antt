@@ -2,9 +2,10 @@
 use Rattle.std.proofs.Common.{◌≡◌, ◌≢◌, ◌+◌, ◌-◌, ◌<◌, ◌≤◌, ℕ, Bool, true, false, cond, List, [], ◌∷◌, ◌++◌, length, take, drop, map, get_or, refl}
 use Rattle.std.proofs.Common.{sym, ap, ◌∙◌, inl, inr, arith, subst, AllPairs, length-append, length-drop, length-take, append-nil}
 use Rattle.std.specs.List.{Contains, range_with_len}
-use Rattle.std.proofs.lemmas.List.{append_assoc, get_or_default, take-append-drop}
+use Rattle.std.proofs.lemmas.List.{length_push, append_assoc, get_or_default, take-append-drop}
 use Rattle.std.proofs.lemmas.List.Elements.{All-nil}
 use Rattle.std.proofs.lemmas.List.Kept.{AllPairs-cons}
+use Rattle.std.proofs.Math.Seq.{drop-append_seam, take-append_seam}
 use Rattle.words.specs.Words.{degree_of}
 use Rattle.words.proofs.Degrees.{Contains-range, range-bounds, range-rising}
 use Rattle.words.proofs.Members.{AllPairs-nil, Contains-cases, Contains-first, Contains-flat_map, Contains-flat_map_cases, Contains-map}
@@ -14,20 +15,19 @@ use Rattle.free_poly.specs.declared.term.Term.{Term}
 use Rattle.free_poly.specs.Poly.{lead_or_none}
 use Rattle.ideal_laws.proofs.Meeting.{split}
 use Rattle.overlaps.specs.Walk.{lead_word}
-use Rattle.overlaps.proofs.Fronts.{behind_front, front_of}
 use Rattle.anick_chains.specs.BasisTips.{leads_of}
 use Rattle.anick_chains.specs.Chains.{HasTip}
 use Rattle.anick_chains.specs.Laws.{AreListedTips, IsExtension}
 use Rattle.anick_chains.specs.Walk.{end_of, ends_of, goes_on, next_pieces, stands, unless_stands}
-use Rattle.anick_chains.proofs.Ends.{ended, length-ended}
+use Rattle.anick_chains.proofs.Ends.{ended}
 use Rattle.anick_chains.proofs.Fitting.{goes_on-both, goes_on-says}
 use Rattle.anick_chains.proofs.Members.{AllPairs-joined}
 use Rattle.anick_chains.proofs.Stands.{stands-free, stands-not}
 
 -- all letters but the last
 but_last-is : (f : List ℕ) (x : ℕ) → take (length (f ++ x ∷ []) - 1) (f ++ x ∷ []) ≡ f
-but_last-is f x = ap (λ (n : ℕ). take n (f ++ x ∷ [])) (let size : length (f ++ x ∷ []) - 1 ≡ length f = omega (arith, length-ended f x) in
-    size) ∙ front_of f (x ∷ [])
+but_last-is f x = ap (λ (n : ℕ). take n (f ++ x ∷ [])) (let size : length (f ++ x ∷ []) - 1 ≡ length f = omega (arith, length_push f x) in
+    size) ∙ take-append_seam f (x ∷ [])
 
 some_behind : (w : List ℕ) (n : ℕ) → n < length w → drop n w ≢ []
 some_behind w n lt e = omega (arith, lt, length-drop n w, ap length e)
@@ -74,8 +74,9 @@ module _ (weights : List ℕ) (G : List (List Term)) (q : List ℕ) where
   -- what a tip gives is listed
   pub end_of-is : (before d k : ℕ) (r : List ℕ) → IsEnd before d k r → Contains (end_of weights G q before d k) r
   end_of-is before d k r h =
-      let front : take (length (drop before q)) (lead_word G k) ≡ drop before q = ap (take (length (drop before q))) h.tip_is ∙ front_of (drop before q) r in
-      let rest : drop (length (drop before q)) (lead_word G k) ≡ r = ap (drop (length (drop before q))) h.tip_is ∙ behind_front (drop before q) r in
+      let front : take (length (drop before q)) (lead_word G k) ≡ drop before q =
+      ap (take (length (drop before q))) h.tip_is ∙ take-append_seam (drop before q) r in
+      let rest : drop (length (drop before q)) (lead_word G k) ≡ r = ap (drop (length (drop before q))) h.tip_is ∙ drop-append_seam (drop before q) r in
       let on = goes_on-both weights G (drop before q) d k front h.degree in
       subst (λ (b : Bool). Contains (cond b (unless_stands (leads_of G) q (drop (length (drop before q)) (lead_word G k))) []) r) (sym on)
       (subst (λ (x : List ℕ). Contains (unless_stands (leads_of G) q x) r) (sym rest)
@@ -170,8 +171,8 @@ module _ (weights : List ℕ) (G : List (List Term)) (tips : AreListedTips (leng
     next_pieces-is r x e =
         let k = listed_lead G (x.shared ++ r) x.is_tip in
         let n = length x.before in
-        let front : take (length x.before) q ≡ x.before = ap (take (length x.before)) x.piece_is ∙ front_of x.before x.shared in
-        let behind : drop (length x.before) q ≡ x.shared = ap (drop (length x.before)) x.piece_is ∙ behind_front x.before x.shared in
+        let front : take (length x.before) q ≡ x.before = ap (take (length x.before)) x.piece_is ∙ take-append_seam x.before x.shared in
+        let behind : drop (length x.before) q ≡ x.shared = ap (drop (length x.before)) x.piece_is ∙ drop-append_seam x.before x.shared in
         let lt : n < length q = some_letters x.shared x.some_shared (ap length x.piece_is ∙ length-append x.before x.shared) in
         Contains-flat_map (λ before. ends_of weights G q before (d - degree_of weights (take before q))) (range_with_len 0 (length q)) n r
         (Contains-range 0 (length q) n (omega arith) (omega (arith, lt)))

@@ -1,12 +1,12 @@
 -- Tips in words, and the shortest word that gives one.
 use Rattle.std.proofs.Common.{◌≡◌, ◌≢◌, ◌⊎◌, ◌≤◌, ℕ, List, [], ◌∷◌, ◌++◌, length, refl, sym, ap, ◌∙◌, inl, inr, arith, subst, length-append, append-nil}
 use Rattle.std.proofs.lemmas.Bool.{cases_lt}
-use Rattle.std.proofs.lemmas.List.{append_assoc}
+use Rattle.std.proofs.lemmas.List.{same_from_push, append_assoc}
 use Rattle.ideal_laws.proofs.Meeting.{IsSplit, split}
 use Rattle.anick_chains.specs.Chains.{EndsWithOnlyTip, HasTip}
 use Rattle.anick_chains.specs.Laws.{AreTips}
 use Rattle.anick_chains.specs.Pairs.{IsShortest}
-use Rattle.anick_chains.proofs.Ends.{append-none, ended, same_ends}
+use Rattle.anick_chains.proofs.Ends.{append-none, ended}
 
 module _ (T : List ℕ → Type 0) where
   -- a tip in a word is one in each word round it
@@ -82,7 +82,7 @@ module _ (T : List ℕ → Type 0) where
           let whole : (q ++ b.front) ++ b.last ∷ [] ≡ (u ++ v ++ a.front) ++ a.last ∷ [] =
           append_assoc q b.front (b.last ∷ []) ∙ sym (ap (λ (y : List ℕ). q ++ y) b.is) ∙ e ∙ ap (λ (y : List ℕ). u ++ v ++ y) a.is
           ∙ sym (append_assoc (u ++ v) a.front (a.last ∷ [])) in
-          let s = same_ends (q ++ b.front) (u ++ v ++ a.front) b.last a.last whole in
+          let s = same_from_push (q ++ b.front) (u ++ v ++ a.front) b.last a.last whole in
           absurd (h.least b.front (b.last ∷ []) b.is (λ is. cc is) (subst (HasTip T) (sym s.0) (HasTip-here u v a.front t)))
 
   -- and the other way round
@@ -119,7 +119,7 @@ module _ (T : List ℕ → Type 0) where
       → s ++ x ∷ [] ≡ t ++ rest → rest ≢ [] → HasTip T (q ++ t) → ⊥
   longer q s t rest x free least is some inner =
       let e = ended rest some in
-      let both = same_ends s (t ++ e.front) x e.last (is ∙ ap (λ (y : List ℕ). t ++ y) e.is ∙ sym (append_assoc t e.front (e.last ∷ []))) in
+      let both = same_from_push s (t ++ e.front) x e.last (is ∙ ap (λ (y : List ℕ). t ++ y) e.is ∙ sym (append_assoc t e.front (e.last ∷ []))) in
       by_front e.front both.0
     where
       by_front : (f : List ℕ) → s ≡ t ++ f → ⊥

@@ -3,13 +3,12 @@ use Rattle.std.specs.Prelude.{ℕ, ◌≡◌, ◌<◌, ◌↔◌, List, Contains
 use Rattle.free_poly.specs.declared.term.Term.{Term}
 use Rattle.free_poly.specs.Poly.{lead_or_none}
 use Rattle.ideal_laws.specs.Closure.{IsFactorFree}
-use Rattle.ideal_laws.specs.Engine.{Elements}
 use Rattle.ideal_laws.specs.Ideal.{Ideal, IsMinimal}
 use Rattle.ideal_laws.specs.Kept.{IsKept}
 use Rattle.ideal_laws.specs.Laws.{IsSetting}
 use Rattle.ideal_laws.specs.Overlaps.{AreLower}
-use Rattle.lead_index.specs.declared.lead.Lead.{Lead}
 use Rattle.lead_index.specs.Leads.{IsIndexOf}
+use Rattle.anick_chains.specs.declared.tip_index.TipIndex.{TipIndex}
 use Rattle.anick_chains.specs.Chains.{IsChain, chain_degree}
 
 -- the leading words of some elements
@@ -24,8 +23,8 @@ HasMinimalChains = (ideal : Ideal) → IsSetting ideal → (e : ℕ) (G : List (
     → IsChain (Contains (leads_of G)) (length ideal.weights) c ↔ IsChain (IsMinimal ideal) (length ideal.weights) c
 
 -- a basis whose leading words are tips, with an index of them and the weights of the letters
-pub record AreTips (b : Elements) (leads : List Lead) (weights : List ℕ) : Type 0 where
-  pub kept : IsKept b
-  pub factor_free : IsFactorFree b.elements
-  pub indexed : IsIndexOf b.elements leads
-  pub weighted : weights ≡ b.weights
+pub record IsTipIndex (t : TipIndex) : Type 0 where
+  pub kept : IsKept t.basis.now
+  pub factor_free : IsFactorFree t.basis.now.elements
+  pub indexed : IsIndexOf t.basis.now.elements t.index
+  pub weighted : t.weights.items ≡ t.basis.now.weights

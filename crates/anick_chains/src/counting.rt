@@ -5,19 +5,17 @@ ghost use Rattle.ideal_laws.specs.Closure.{IsFactorFree};
 ghost use Rattle.ideal_laws.specs.Engine.{IsReducedUpto};
 ghost use Rattle.ideal_laws.specs.Ideal.{IsMinimal, ideal_over};
 ghost use Rattle.ideal_laws.specs.Laws.{IsSetting};
-ghost use Rattle.anick_chains.specs.BasisTips.{AreTips, leads_of};
+ghost use Rattle.anick_chains.specs.BasisTips.{IsTipIndex, leads_of};
 ghost use Rattle.anick_chains.specs.Listing.{IsFirstMany, IsNumberOf};
 ghost use Rattle.anick_chains.specs.Tallies.{AreCounts, AreTalliedOf, IsTallyBelow, TellsSame};
 ghost use Rattle.anick_chains.specs.Tallies.{count_of, count_total, counts_at, number_of, tallies_at, tally_total};
 
 use crate::chain::ChainFault;
-use crate::listing::weights_of;
 use crate::merging::merged;
 use crate::tallies::{push_letters, push_longer};
 use crate::tally::{ChainCount, Tally};
 use crate::tip_index::TipIndex;
 use ideal_laws::Basis;
-use lead_index::index_of;
 use std::alloc::Global;
 use words::{Alphabet, Items, NoMemory};
 
@@ -52,13 +50,7 @@ pub fn chain_counts(
 {
     let _letters = alphabet.len();
     let _done = basis.done();
-    let index = index_of(alloc, basis)?;
-    let weights = weights_of(alloc, basis)?;
-    let tips = TipIndex {
-        basis,
-        index: &index,
-        weights: weights.as_slice(),
-    };
+    let tips = TipIndex::of(alloc, basis)?;
     let mut total = 0;
     let mut tallies = Vec::new(alloc);
     let mut counts = Vec::new(alloc);
@@ -86,7 +78,7 @@ fn count_degree(
     tallies: &mut Vec<Tally>,
     counts: &mut Vec<ChainCount>,
 ) -> Result<(), ChainFault>
-    requires tips { AreTips tips.now.basis.now tips.now.index.now tips.now.weights.now }
+    requires tips { IsTipIndex tips.now }
     requires some { 1 ≤ degree }
     requires room { degree ≤ 64 }
     requires below { AreTalliedOf tips.now.basis.now (degree - 1) total.old tallies.old.items counts.old.items }
@@ -115,7 +107,7 @@ fn tallies_of(
     room: &mut u32,
     below: &[Tally],
 ) -> Result<Vec<Tally>, ChainFault>
-    requires tips { AreTips tips.now.basis.now tips.now.index.now tips.now.weights.now }
+    requires tips { IsTipIndex tips.now }
     requires room { degree ≤ 64 }
     requires small { room.old < 2 ^ 32 }
     requires below { All (IsTallyBelow tips.now.basis.now.weights degree) below.now }

@@ -6,7 +6,7 @@ ghost use Rattle.ideal_laws.specs.Closure.{IsFactorFree};
 ghost use Rattle.ideal_laws.specs.Engine.{IsReducedUpto};
 ghost use Rattle.ideal_laws.specs.Ideal.{IsMinimal, ideal_over};
 ghost use Rattle.ideal_laws.specs.Laws.{IsSetting};
-ghost use Rattle.anick_chains.specs.BasisTips.{AreTips, leads_of};
+ghost use Rattle.anick_chains.specs.BasisTips.{IsTipIndex, leads_of};
 ghost use Rattle.anick_chains.specs.Compare.{pieces_cmp};
 ghost use Rattle.anick_chains.specs.Listed.{AreListed, AreListedOf};
 ghost use Rattle.anick_chains.specs.Listing.{IsFirstMany, IsNumberOf};
@@ -16,9 +16,8 @@ use crate::longer::{free_letters, push_continued, push_onward};
 use crate::order::compare;
 use crate::tip_index::TipIndex;
 use ideal_laws::Basis;
-use lead_index::index_of;
 use std::alloc::Global;
-use words::{Alphabet, Items, NoMemory};
+use words::{Alphabet, Items};
 
 /// The chains up to the bound over the leading words of the basis, by degree, by length, and then by falling pieces.
 /// After Anick 1986, whose chains have their pieces in one word.
@@ -52,29 +51,12 @@ pub fn chains(
 {
     let _letters = alphabet.len();
     let _done = basis.done();
-    let index = index_of(alloc, basis)?;
-    let weights = weights_of(alloc, basis)?;
-    let tips = TipIndex {
-        basis,
-        index: &index,
-        weights: weights.as_slice(),
-    };
+    let tips = TipIndex::of(alloc, basis)?;
     let mut found = Vec::new(alloc);
     for degree in 1..bound + 1 {
         push_degree(alloc, &tips, degree, most, &mut found)?;
     }
     Ok(Items::from_vec(found))
-}
-
-/// The weights of the letters.
-pub(crate) fn weights_of(alloc: Global, basis: &Basis) -> Result<Vec<u8>, NoMemory>
-    ensures { IfOk result (λ weights. weights.items ≡ basis.now.weights) }
-{
-    let mut weights = Vec::new(alloc);
-    for letter in 0..basis.letters() {
-        weights.push(basis.weight(letter as u8))?;
-    }
-    Ok(weights)
 }
 
 /// Appends the chains of a degree to those of the lower degrees.
@@ -85,7 +67,7 @@ fn push_degree(
     most: u32,
     found: &mut Vec<Chain>,
 ) -> Result<(), ChainFault>
-    requires tips { AreTips tips.now.basis.now tips.now.index.now tips.now.weights.now }
+    requires tips { IsTipIndex tips.now }
     requires some { 1 ≤ degree }
     requires room { degree ≤ 64 }
     requires below { AreListedOf tips.now.basis.now (degree - 1) found.old.items }
@@ -102,7 +84,7 @@ fn push_degree(
     let letters = free_letters(alloc, tips, degree)?;
     push_continued(alloc, &[], letters, degree, room, &mut block)?;
     push_onward(alloc, tips, found.as_slice(), degree, room, &mut block)?;
-    sort(tips.weights, &mut block);
+    sort(tips.weights.as_slice(), &mut block);
     found.append(&mut block)?;
     Ok(())
 }

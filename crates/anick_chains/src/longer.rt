@@ -1,6 +1,6 @@
 ghost use Rattle.std.specs.Prelude.{◌≡◌, ◌+◌, ◌-◌, ◌++◌, ◌∷◌, ◌<◌, ◌≤◌, [], ℕ, Contains, IfOk, IsErrOf, OnOk, length};
 ghost use Rattle.std.specs.List.{flat_map};
-ghost use Rattle.anick_chains.specs.BasisTips.{AreTips, leads_of};
+ghost use Rattle.anick_chains.specs.BasisTips.{IsTipIndex, leads_of};
 ghost use Rattle.words.specs.Words.{IsOver};
 ghost use Rattle.anick_chains.specs.Chains.{chain_degree};
 ghost use Rattle.anick_chains.specs.Listed.{AreListedOf, pieces_of, with_degree};
@@ -18,7 +18,7 @@ pub(crate) fn free_letters(
     tips: &TipIndex,
     degree: u32,
 ) -> Result<Vec<Word>, NoMemory>
-    requires tips { AreTips tips.now.basis.now tips.now.index.now tips.now.weights.now }
+    requires tips { IsTipIndex tips.now }
     ensures { let b = tips.now.basis.now in IfOk result
         (λ found. found.items ≡ free_letters b.weights b.elements degree) }
 {
@@ -37,7 +37,7 @@ fn push_letter(
     letter: u8,
     found: &mut Vec<Word>,
 ) -> Result<(), NoMemory>
-    requires tips { AreTips tips.now.basis.now tips.now.index.now tips.now.weights.now }
+    requires tips { IsTipIndex tips.now }
     requires letter { letter < length tips.now.basis.now.weights }
     ensures { let b = tips.now.basis.now in OnOk result (found.new.items ≡ found.old.items
         ++ free_letter b.weights b.elements degree letter) }
@@ -60,7 +60,7 @@ pub(crate) fn push_onward(
     room: usize,
     block: &mut Vec<Chain>,
 ) -> Result<(), ChainFault>
-    requires tips { AreTips tips.now.basis.now tips.now.index.now tips.now.weights.now }
+    requires tips { IsTipIndex tips.now }
     requires some { 1 ≤ degree }
     requires room { degree ≤ 64 }
     requires below { AreListedOf tips.now.basis.now (degree - 1) found.now }
@@ -88,7 +88,7 @@ fn push_longer(
     room: usize,
     block: &mut Vec<Chain>,
 ) -> Result<(), ChainFault>
-    requires tips { AreTips tips.now.basis.now tips.now.index.now tips.now.weights.now }
+    requires tips { IsTipIndex tips.now }
     requires room { degree ≤ 64 }
     requires below { chain.now.degree < degree }
     requires degree { chain.now.degree ≡ chain_degree tips.now.basis.now.weights chain.now.pieces }
@@ -103,7 +103,7 @@ fn push_longer(
 {
     let pieces = chain.pieces.as_slice();
     let last = last_piece(pieces);
-    let both = word_degree(tips.weights, last) as u32 + (degree - chain.degree);
+    let both = word_degree(tips.weights.as_slice(), last) as u32 + (degree - chain.degree);
     let next = next_pieces(alloc, tips, last, both)?;
     push_continued(alloc, pieces, next, degree, room, block)
 }

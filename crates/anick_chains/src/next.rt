@@ -1,6 +1,6 @@
 ghost use Rattle.std.specs.Prelude.{◌≡◌, ◌+◌, ◌-◌, ◌++◌, ◌∷◌, ◌<◌, ◌≤◌, [], IfOk, OnOk, length};
 ghost use Rattle.words.specs.Words.{IsOver, degree_of};
-ghost use Rattle.anick_chains.specs.BasisTips.{AreTips, leads_of};
+ghost use Rattle.anick_chains.specs.BasisTips.{IsTipIndex, leads_of};
 ghost use Rattle.anick_chains.specs.Walk.{ends_of, next_pieces, unless_stands};
 
 use crate::tip_index::TipIndex;
@@ -15,7 +15,7 @@ pub(crate) fn next_pieces(
     piece: &[u8],
     d: u32,
 ) -> Result<Vec<Word>, NoMemory>
-    requires tips { AreTips tips.now.basis.now tips.now.index.now tips.now.weights.now }
+    requires tips { IsTipIndex tips.now }
     requires letters { IsOver (length tips.now.basis.now.weights) piece.now }
     requires fits { degree_of tips.now.basis.now.weights piece.now ≤ d }
     requires room { d ≤ 64 }
@@ -40,7 +40,7 @@ fn push_ends(
     d: u32,
     found: &mut Vec<Word>,
 ) -> Result<(), NoMemory>
-    requires tips { AreTips tips.now.basis.now tips.now.index.now tips.now.weights.now }
+    requires tips { IsTipIndex tips.now }
     requires split { before < length piece.now }
     requires room { before + d ≤ 64 }
     ensures { let b = tips.now.basis.now in OnOk result (found.new.items ≡ found.old.items
@@ -66,7 +66,7 @@ fn push_end(
     next: &[u8],
     found: &mut Vec<Word>,
 ) -> Result<(), NoMemory>
-    requires tips { AreTips tips.now.basis.now tips.now.index.now tips.now.weights.now }
+    requires tips { IsTipIndex tips.now }
     requires small { length piece.now + (length next.now - 1) ≤ 64 }
     ensures { let b = tips.now.basis.now in OnOk result (found.new.items ≡ found.old.items
         ++ unless_stands (leads_of b.elements) piece.now next.now) }

@@ -1,6 +1,6 @@
 ghost use Rattle.std.specs.Prelude.{◌≡◌, ◌+◌, ◌-◌, ◌++◌, ◌∷◌, ◌<◌, ◌≤◌, [], ℕ, All, IsErrOf, OnOk};
 ghost use Rattle.std.specs.List.{flat_map};
-ghost use Rattle.anick_chains.specs.BasisTips.{AreTips};
+ghost use Rattle.anick_chains.specs.BasisTips.{IsTipIndex};
 ghost use Rattle.anick_chains.specs.Tallies.{IsTallyBelow, longer_tallies, tallies_with, tally_total};
 ghost use Rattle.anick_chains.specs.Walk.{free_letters};
 
@@ -20,7 +20,7 @@ pub(crate) fn push_letters(
     room: &mut u32,
     block: &mut Vec<Tally>,
 ) -> Result<(), ChainFault>
-    requires tips { AreTips tips.now.basis.now tips.now.index.now tips.now.weights.now }
+    requires tips { IsTipIndex tips.now }
 
     ensures letters { let b = tips.now.basis.now in OnOk result (block.new.items ≡ block.old.items
         ++ tallies_with degree 1 1 (free_letters b.weights b.elements degree)) }
@@ -42,7 +42,7 @@ pub(crate) fn push_longer(
     room: &mut u32,
     block: &mut Vec<Tally>,
 ) -> Result<(), ChainFault>
-    requires tips { AreTips tips.now.basis.now tips.now.index.now tips.now.weights.now }
+    requires tips { IsTipIndex tips.now }
     requires room { degree ≤ 64 }
     requires below { All (IsTallyBelow tips.now.basis.now.weights degree) below.now }
 
@@ -68,7 +68,7 @@ fn push_next(
     room: &mut u32,
     block: &mut Vec<Tally>,
 ) -> Result<(), ChainFault>
-    requires tips { AreTips tips.now.basis.now tips.now.index.now tips.now.weights.now }
+    requires tips { IsTipIndex tips.now }
     requires room { degree ≤ 64 }
     requires below { IsTallyBelow tips.now.basis.now.weights degree tally.now }
 
@@ -80,7 +80,7 @@ fn push_next(
         × (room.old < tally_total (longer_tallies b.weights b.elements degree tally.now)) }
 {
     let last = tally.last.letters();
-    let both = word_degree(tips.weights, last) as u32 + (degree - tally.degree);
+    let both = word_degree(tips.weights.as_slice(), last) as u32 + (degree - tally.degree);
     let next = next_pieces(alloc, tips, last, both)?;
     push_each(
         alloc,

@@ -1,7 +1,6 @@
-ghost use Rattle.std.specs.Prelude.{◌≡◌, ◌≢◌, ◌<◌, ◌≤◌, ◌^◌, All, MatchOption, length, min};
+ghost use Rattle.std.specs.Prelude.{◌≡◌, ◌≢◌, ◌<◌, ◌≤◌, ◌^◌, All, MatchOption, length};
 ghost use Rattle.free_poly.specs.Terms.{HasResidues, UsesLetters};
 ghost use Rattle.ideal_laws.specs.Engine.{IsReducedUpto};
-ghost use Rattle.ideal_laws.specs.Kept.{lead_degree};
 ghost use Rattle.ideal_laws.specs.Laws.{IsRelation};
 ghost use Rattle.job_steps.specs.States.{state_of};
 ghost use Rattle.job_steps.specs.Status.{PrintsNothing};
@@ -11,9 +10,8 @@ ghost use Rattle.bergman_cli.specs.Normal.{HasNone, IsAbove, IsAnsweredBy, IsFir
 
 use crate::cut::first_relations;
 use bg_io::{Sink, write_all};
-use cofactors::{CofactorFault, answer_text, normal_form, normal_form_laws};
+use cofactors::{CofactorFault, answer_text, lead_degree_within, normal_form, normal_form_laws};
 use command_words::Job;
-use degree_words::degree_within;
 use field_table::Field;
 use free_poly::Poly;
 use ideal_laws::{Basis, DegreeEngine, EngineFault, Presentation, lower_law, run, setting_law};
@@ -88,22 +86,11 @@ fn first_above(alphabet: &Alphabet, questions: &[Poly], bound: u32) -> Option<u3
         (λ place. IsFirstPlace (IsAbove alphabet.now.weights bound) questions.now place) }
 {
     for (place, question) in questions.iter().enumerate() {
-        if degree_of(alphabet, question) > bound {
+        if lead_degree_within(alphabet, question, 65) > bound {
             return Some(place as u32);
         }
     }
     None
-}
-
-/// The degree of the leading word, where it is at most 65, and 0 for 0.
-fn degree_of(alphabet: &Alphabet, question: &Poly) -> u32
-    requires { UsesLetters (length alphabet.now.weights) question.now }
-    ensures { result ≡ min (lead_degree alphabet.now.weights question.now) 65 }
-{
-    match question.lead() {
-        Some(lead) => degree_within(alphabet, lead.letters(), 65),
-        None => 0,
-    }
 }
 
 /// Writes the answers to the questions one by one, up to the first one that has too many triples.
@@ -149,7 +136,7 @@ fn write_answers<K: Sink>(
             }
             Err(CofactorFault::TooMany) => {
                 return Status::Products {
-                    degree: degree_of(&ideal.alphabet, question),
+                    degree: lead_degree_within(&ideal.alphabet, question, 65),
                     value: u64::from(MOST_TRIPLES) + 1,
                 };
             }

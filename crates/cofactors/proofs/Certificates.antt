@@ -1,13 +1,14 @@
 -- What the elimination leaves of an element is its normal form, and the negative factors are a product list.
-use Rattle.std.proofs.Common.{◌≡◌, ◌*◌, ◌-◌, ◌<◌, ◌≤◌, ◌%◌, ◌++◌, ◌∷◌, ℕ, List, [], length, map, get_or, sym, ap, ◌∙◌, arith, subst, append-nil, All, Some}
+use Rattle.std.proofs.Common.{◌≡◌, ◌-◌, ◌<◌, ◌≤◌, ◌%◌, ◌++◌, ◌∷◌, ℕ, List, [], length, map, get_or, sym, ap, ◌∙◌, arith, subst, append-nil, All, Some}
 use Rattle.std.specs.List.{Contains, slice_get}
 use Rattle.std.proofs.lemmas.List.{length-map}
 use Rattle.std.proofs.lemmas.Option.{slice_get-get_or}
-use Rattle.std.proofs.lemmas.List.Elements.{All-append, All-contains, All-head, All-map, All-nil, All-tail, Contains-get_or}
+use Rattle.std.proofs.lemmas.List.Elements.{All-append, All-contains, All-head, All-nil, All-tail, Contains-get_or}
 use Rattle.words.specs.Words.{IsOver, OccursAt, degree_of}
 use Rattle.words.proofs.Members.{AllPairs-nil}
 use Rattle.free_poly.specs.declared.term.Term.{Term}
 use Rattle.free_poly.specs.Terms.{scaled, total_at}
+use Rattle.free_poly.proofs.Elements.{words_of_scaled}
 use Rattle.free_poly.proofs.Products.{UsesLetters-product}
 use Rattle.free_poly.proofs.Sums.{HasDegree-from_same, UsesLetters-from_same}
 use Rattle.ideal_laws.specs.Closure.{IsNormal}
@@ -49,7 +50,7 @@ module _ (ideal : Ideal) (st : IsSetting ideal) (d : ℕ) where
       subst (All (λ (t : Term). P t.word)) (sym (element_at ideal.modulus ideal.relations all f within))
       (h s (Contains-get_or all f.place (triple 0 [] []) within)) in
       All-append (λ (t : Term). P t.word) (scaled f.residue (get_or fs f.place [])) (combined fs factors)
-      (All-map (λ (t : Term). P t.word) (λ (t : Term). record { word = t.word; coefficient = f.residue * t.coefficient }) (get_or fs f.place []) own)
+      (words_of_scaled P f.residue (get_or fs f.place []) own)
       (combined_words P h factors (All-tail (λ x. x.place < length all) f factors k))
 
   one_product : (s : Product) → Contains all s → IsProduct ideal d (record s { coefficient = 1 })

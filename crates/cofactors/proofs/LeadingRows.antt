@@ -2,7 +2,7 @@
 use Rattle.std.proofs.Common.{ap₂, ◌≡◌, ◌-◌, ◌%◌, ℕ, List, [], ◌∷◌, ◌++◌, map, refl, sym, ap, ◌∙◌, arith, subst, All, AllPairs, Some}
 use Rattle.std.specs.List.{Contains, flat_map}
 use Rattle.std.proofs.Math.Nat.{zero-mod}
-use Rattle.std.proofs.lemmas.List.Elements.{All-contains, All-head, All-map, All-tail, All-weaker, Contains-get_or}
+use Rattle.std.proofs.lemmas.List.Elements.{All-contains, All-head, All-map, All-weaker, Contains-get_or}
 use Rattle.words.specs.Order.{IsLetterwiseGreater}
 use Rattle.words.proofs.Members.{AllPairs-map, All-from_members, Contains-map, Contains-map_cases}
 use Rattle.free_poly.specs.declared.term.Term.{Term}
@@ -14,12 +14,11 @@ use Rattle.free_poly.proofs.Sums.{Stands-own}
 use Rattle.linear_algebra.specs.Fields.{Field}
 use Rattle.linear_algebra.specs.Spans.{IsInSpan, sum_of}
 use Rattle.linear_algebra.specs.Mod.{Residue}
-use Rattle.linear_algebra.proofs.Algebra.{IsInSpan-add, IsInSpan-scaled, IsInSpan-zero}
-use Rattle.linear_algebra.proofs.Elimination.{same_span}
+use Rattle.linear_algebra.proofs.Elimination.{IsInSpan-trans}
 use Rattle.linear_algebra.proofs.ModField.{same_residue}
 use Rattle.ideal_laws.specs.Ideal.{Ideal, IsElement, IsLeadingWord, IsMultiple, Multiple, terms_of}
 use Rattle.ideal_laws.specs.Laws.{IsSetting}
-use Rattle.ideal_laws.proofs.Vectors.{same_vectors, vector_of-append, vector_of-scaled}
+use Rattle.ideal_laws.proofs.Vectors.{IsProductVector, span_from_ideal, same_vectors, vector_of-append, vector_of-scaled}
 use Rattle.ideal_laws.proofs.Vectors as vectors
 use Rattle.cofactors.specs.declared.product.Product.{Product}
 use Rattle.cofactors.specs.declared.row.Row.{Row}
@@ -47,19 +46,6 @@ module _ (ideal : Ideal) (st : IsSetting ideal) (d : ℕ) where
     pub rows : All (echelon.IsRow ideal.modulus st.modulus) es
     pub spans : (m : Multiple) → IsMultiple ideal d m → IsInSpan Kd (List ℕ) (IsOf ideal.modulus st.modulus es) (vecd (product m.left m.relation m.right))
 
-  multiples_spanned : (es : List (List ℕ × Vd)) → AreEchelon es → (ms : List Multiple) → All (IsMultiple ideal d) ms →
-      IsInSpan Kd (List ℕ) (IsOf ideal.modulus st.modulus es) (vecd (flat_map terms_of ms))
-  multiples_spanned es h [] k = same_span Kd (List ℕ) _ (λ y. Kd.zero) (vecd []) (λ y. same_residue ideal.modulus _ _ refl) (IsInSpan-zero Kd (List ℕ) _)
-  multiples_spanned es h (m ∷ ms) k =
-      same_span Kd (List ℕ) _ (λ y. Kd.add (Kd.mul (vectors.of ideal.modulus st.modulus m.factor) (vecd (product m.left m.relation m.right) y))
-      (vecd (flat_map terms_of ms) y)) (vecd (flat_map terms_of (m ∷ ms)))
-      (λ y. sym (vector_of-append ideal.modulus st.modulus (terms_of m) (flat_map terms_of ms) y
-      ∙ ap (λ (n : Residue ideal.modulus). Kd.add n (vecd (flat_map terms_of ms) y))
-      (vector_of-scaled ideal.modulus st.modulus m.factor (product m.left m.relation m.right) y)))
-      (IsInSpan-add Kd (List ℕ) _ _ _ (IsInSpan-scaled Kd (List ℕ) _ (vectors.of ideal.modulus st.modulus m.factor) _
-      (h.spans m (All-head (IsMultiple ideal d) m ms k)))
-      (multiples_spanned es h ms (All-tail (IsMultiple ideal d) m ms k)))
-
   first_of : (f : List Term) (w : List ℕ) → IsElement ideal.modulus ideal.weights d f → lead_of f ≡ Some w →
       (vecd f w ≡ Kd.zero → ⊥) × ((y : List ℕ) → IsLetterwiseGreater y w → vecd f y ≡ Kd.zero)
   first_of [] w e l = cc l
@@ -73,12 +59,11 @@ module _ (ideal : Ideal) (st : IsSetting ideal) (d : ℕ) where
   -- each leading word of the ideal leads a row
   pub leads_a_row : (es : List (List ℕ × Vd)) → AreEchelon es → (w : List ℕ) → IsLeadingWord ideal d w → (e : List ℕ × Vd) × Contains es e × (e.0 ≡ w)
   leads_a_row es h w l =
-      let i = l.inside in
-      let o = first_of l.member w i.element l.lead in
+      let o = first_of l.member w l.inside.element l.lead in
       greatest_leads ideal.modulus st.modulus es h.falling h.rows (vecd l.member)
-      (same_span Kd (List ℕ) _ (vecd (flat_map terms_of i.multiples)) (vecd l.member)
-      (λ y. sym (same_vectors ideal.modulus st.modulus l.member (flat_map terms_of i.multiples) i.sum y))
-      (multiples_spanned es h i.multiples i.each))
+      (IsInSpan-trans Kd (List ℕ) (IsProductVector ideal st.modulus d) (IsOf ideal.modulus st.modulus es)
+      (λ g m. subst (IsInSpan Kd (List ℕ) (IsOf ideal.modulus st.modulus es)) (sym m.is) (h.spans m.multiple m.is_multiple))
+      (vecd l.member) (span_from_ideal ideal st.modulus d l.member l.inside))
       w o.0 o.1
 
   -- what is 0 at the leading word of each row is 0 at each leading word of the ideal

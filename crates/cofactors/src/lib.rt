@@ -17,3 +17,4 @@ pub use laws::normal_form_laws;
 pub use product::Product;
 pub use sum::expand;
 pub use text::answer_text;
+pub use triples::lead_degree_within;

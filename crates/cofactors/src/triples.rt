@@ -1,4 +1,4 @@
-ghost use Rattle.std.specs.Prelude.{◌≡◌, ◌≢◌, ◌+◌, ◌-◌, ◌++◌, ◌<◌, ◌≤◌, ◌^◌, [], ℕ, IfOk, OnOk, length, map, min};
+ghost use Rattle.std.specs.Prelude.{◌≡◌, ◌+◌, ◌-◌, ◌++◌, ◌<◌, ◌≤◌, ◌^◌, ℕ, IfOk, OnOk, length, map, min};
 ghost use Rattle.std.specs.List.{flat_map};
 ghost use Rattle.free_poly.specs.Terms.{UsesLetters};
 ghost use Rattle.ideal_laws.specs.Kept.{lead_degree};
@@ -29,7 +29,6 @@ pub(crate) fn count_triples(presentation: &Presentation, counts: &[u64; 65], d: 
 /// How many of them are of a relation.
 fn count_at(alphabet: &Alphabet, relation: &Poly, counts: &[u64; 65], d: u32) -> u64
     requires small { d ≤ 64 }
-    requires other { relation.now ≢ [] }
     requires letters { UsesLetters (length alphabet.now.weights) relation.now }
     requires counts { AreCounts alphabet.now.weights counts.now (d + 1) }
     ensures { (i : ℕ) → result ≡ min (length (triples_at alphabet.now.weights d i relation.now)) (2 ^ 64 - 1) }
@@ -44,16 +43,15 @@ fn count_at(alphabet: &Alphabet, relation: &Poly, counts: &[u64; 65], d: u32) ->
     count
 }
 
-/// The degree of the leading word, where it is at most this number, and else this number.
-pub(crate) fn lead_degree_within(alphabet: &Alphabet, relation: &Poly, most: u32) -> u32
-    requires other { relation.now ≢ [] }
+/// The degree of the leading word, where it is at most this number, and else this number; 0 for 0.
+pub fn lead_degree_within(alphabet: &Alphabet, element: &Poly, most: u32) -> u32
     requires small { most ≤ 65 }
-    requires letters { UsesLetters (length alphabet.now.weights) relation.now }
-    ensures { result ≡ min (lead_degree alphabet.now.weights relation.now) most }
+    requires letters { UsesLetters (length alphabet.now.weights) element.now }
+    ensures { result ≡ min (lead_degree alphabet.now.weights element.now) most }
 {
-    match relation.lead() {
+    match element.lead() {
         Some(lead) => degree_within(alphabet, lead.letters(), most),
-        None => unreachable!(),
+        None => 0,
     }
 }
 
@@ -95,7 +93,6 @@ fn push_triples(
     found: &mut Vec<Product>,
 ) -> Result<(), NoMemory>
     requires small { d ≤ 64 }
-    requires other { relation.now ≢ [] }
     requires letters { UsesLetters (length alphabet.now.weights) relation.now }
     requires counts { AreCounts alphabet.now.weights counts.now (d + 1) }
     ensures { OnOk result (found.new.items ≡ found.old.items ++ triples_at alphabet.now.weights d number relation.now) }

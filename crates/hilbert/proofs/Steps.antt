@@ -1,18 +1,15 @@
 -- One more degree: its number, and the degrees that are held.
-use Rattle.std.proofs.Common.{◌≡◌, ◌⊎◌, ◌+◌, ◌-◌, ◌<◌, ◌≤◌, ℕ, suc, List, [], ◌∷◌, ◌++◌, Result, Ok, Err, IfOk, length, drop, get_or}
+use Rattle.std.proofs.Common.{◌≡◌, ◌⊎◌, ◌+◌, ◌-◌, ◌<◌, ◌≤◌, ℕ, suc, List, [], ◌∷◌, ◌++◌, length, drop, get_or}
 use Rattle.std.proofs.Common.{refl, sym, ap, ◌∙◌, inl, inr, arith, All, subst, length-append}
 use Rattle.std.proofs.lemmas.Bool.{cases_lt}
 use Rattle.std.proofs.lemmas.List.{get_or_append_left, get_or_push}
-use Rattle.std.proofs.lemmas.List.Elements.{All-append, All-cons, All-nil, All-tail}
+use Rattle.std.proofs.lemmas.List.Elements.{All-nil, All-push, All-tail}
 use Rattle.free_poly.specs.declared.term.Term.{Term}
 use Rattle.ideal_laws.specs.Quantities.{AreNormalWords}
 use Rattle.lead_index.specs.declared.lead.Lead.{Lead}
-use Rattle.normal_words.specs.Normal.{AreNormal, WordsOfDegree, next_of}
+use Rattle.normal_words.specs.Normal.{AreConsecutive, AreNormal, WordsOfDegree, next_of}
+use Rattle.normal_words.proofs.Grown.{consecutive-push, next_of-push}
 use Rattle.hilbert.specs.Series.{AreCounts, AreHeld, IndexesLeads, IsCount, IsFirstLarge}
-
-pub if_ok : {T E : Type 0} (P Q : T → Type 0) (r : Result T E) → IfOk r P → ((v : T) → P v → Q v) → IfOk r Q
-if_ok P Q (Ok v) h f = f v h
-if_ok P Q (Err e) h f = h
 
 -- the normal words of the index are those of the elements
 pub normal_words_of : (weights : List ℕ) (G : List (List Term)) (leads : List Lead) (d : ℕ) (words : List (List ℕ)) → IndexesLeads G leads →
@@ -22,6 +19,16 @@ normal_words_of weights G leads d words i h = record {
   falling = h.falling;
 }
 
+-- what holds of the number of each degree holds with one more
+pub each-push : (P : ℕ → ℕ → Type 0) (numbers : List ℕ) (n d : ℕ) → length numbers ≡ d → ((e : ℕ) → e < d → P e (get_or numbers e 0)) → P d n
+    → (e : ℕ) → e < d + 1 → P e (get_or (numbers ++ n ∷ []) e 0)
+each-push P numbers n d size each here e lt = elim (cases_lt e d) [
+  | inl below ↦ subst (P e) (sym (get_or_append_left numbers (n ∷ []) 0 e (omega (arith, below, size)))) (each e below)
+  | inr from ↦
+      let same : d ≡ e = omega (arith, lt, from) in
+      subst (P e) (sym (get_or_push numbers n 0 e (size ∙ same))) (subst (λ (k : ℕ). P k n) same here)
+]
+
 module _ (weights : List ℕ) (G : List (List Term)) (limit : ℕ) where
   pub no_counts : AreCounts weights G limit 0 []
   no_counts = record { size = refl; each = λ d lt. absurd (omega (arith, lt)); few = All-nil (λ n. n ≤ limit) }
@@ -30,15 +37,8 @@ module _ (weights : List ℕ) (G : List (List Term)) (limit : ℕ) where
       AreNormalWords weights G d words → length words ≤ limit → AreCounts weights G limit (d + 1) (numbers ++ length words ∷ [])
   counts-more d numbers words h normal le = record {
     size = omega (arith, h.size, length-append numbers (length words ∷ []));
-    each = λ e lt. elim (cases_lt e d) [
-      | inl below ↦ subst (IsCount weights G e) (sym (get_or_append_left numbers (length words ∷ []) 0 e (omega (arith, below, h.size)))) (h.each e below)
-      | inr from ↦
-          let same : d ≡ e = omega (arith, lt, from) in
-          let one : IsCount weights G d (length words) = record { words = words; are_normal = normal; count = refl } in
-          subst (IsCount weights G e) (sym (get_or_push numbers (length words) 0 e (h.size ∙ same)))
-          (subst (λ (k : ℕ). IsCount weights G k (length words)) same one)
-    ];
-    few = All-append (λ n. n ≤ limit) numbers (length words ∷ []) h.few (All-cons (λ n. n ≤ limit) (length words) [] le (All-nil (λ n. n ≤ limit)));
+    each = each-push (IsCount weights G) numbers (length words) d h.size h.each (record { words = words; are_normal = normal; count = refl });
+    few = All-push (λ n. n ≤ limit) numbers (length words) h.few le;
   }
 
   pub first_large : (bound d degree value : ℕ) (numbers below words : _) → d ≤ bound → AreCounts weights G limit d numbers →
@@ -59,39 +59,28 @@ module _ (weights : List ℕ) (leads : List Lead) where
 
   -- consecutive degrees that end before this one
   record IsRow (next : ℕ) (held : List WordsOfDegree) : Type 0 where
-    consecutive : (i : ℕ) (n : WordsOfDegree) → i < length held → (get_or held i n).degree + length held ≡ next + i
+    consecutive : AreConsecutive held
     each : All (λ n. AreNormal weights leads n.degree n.words) held
     is_next : next_of held ≡ next
 
-  next_of-push : (held : List WordsOfDegree) (n : WordsOfDegree) (d : ℕ) → next_of held ≡ d → n.degree ≡ d → next_of (held ++ n ∷ []) ≡ d + 1
-  next_of-push [] n d e same = omega (arith, same)
-  next_of-push (m ∷ held) n d e same = omega (arith, e, length-append held (n ∷ []))
-
   pushed : (held : List WordsOfDegree) (n : WordsOfDegree) (d : ℕ) → AreHeld weights leads held → next_of held ≡ d → n.degree ≡ d →
       AreNormal weights leads d n.words → IsRow (d + 1) (held ++ n ∷ [])
-  pushed held n d h e same normal =
-      let size = length-append held (n ∷ []) in
-      record {
-        consecutive = λ i m lt. elim (cases_lt i (length held)) [
-          | inl below ↦ omega (arith, size, e, h.consecutive i m below, ap (λ (x : WordsOfDegree). x.degree) (get_or_append_left held (n ∷ []) m i below))
-          | inr from ↦
-              let last : length held ≡ i = omega (arith, size, lt, from) in
-              omega (arith, size, last, same, ap (λ (x : WordsOfDegree). x.degree) (get_or_push held n m i last))
-        ];
-        each = All-append (λ k. AreNormal weights leads k.degree k.words) held (n ∷ []) h.each
-            (All-cons (λ k. AreNormal weights leads k.degree k.words) n []
-            (subst (λ (k : ℕ). AreNormal weights leads k n.words) (sym same) normal)
-            (All-nil (λ k. AreNormal weights leads k.degree k.words)));
-        is_next = next_of-push held n d e same;
-      }
+  pushed held n d h e same normal = record {
+    consecutive = consecutive-push held n h.consecutive (same ∙ sym e);
+    each = All-push (λ k. AreNormal weights leads k.degree k.words) held n h.each
+        (subst (λ (k : ℕ). AreNormal weights leads k n.words) (sym same) normal);
+    is_next = next_of-push held n (same ∙ sym e) ∙ ap (λ (k : ℕ). k + 1) e;
+  }
 
   without_first : (next : ℕ) (x : WordsOfDegree) (held : List WordsOfDegree) → 0 < length held → IsRow next (x ∷ held) → IsRow next held
   without_first next x [] some h = absurd (omega (arith, some))
-  without_first next x (y ∷ held) some h = record {
-    consecutive = λ i n lt. omega (arith, h.consecutive (suc i) n (omega (arith, lt)));
-    each = All-tail (λ k. AreNormal weights leads k.degree k.words) x (y ∷ held) h.each;
-    is_next = omega (arith, h.consecutive 1 x (omega arith));
-  }
+  without_first next x (y ∷ held) some h =
+      let same : next_of (y ∷ held) ≡ next_of (x ∷ y ∷ held) = omega (arith, h.consecutive 1 x (omega arith)) in
+      record {
+        consecutive = λ i n lt. omega (arith, h.consecutive (suc i) n (omega (arith, lt)), same);
+        each = All-tail (λ k. AreNormal weights leads k.degree k.words) x (y ∷ held) h.each;
+        is_next = same ∙ h.is_next;
+      }
 
   -- what is held after one more degree
   pub record IsNextHeld (d : ℕ) (held : List WordsOfDegree) : Type 0 where
@@ -105,7 +94,7 @@ module _ (weights : List ℕ) (leads : List Lead) where
   from_row : (next : ℕ) (held : List WordsOfDegree) → IsRow next held → (next ≡ length held) ⊎ (8 ≤ length held) → length held ≤ 8 → IsNextHeld next held
   from_row next held r enough few = record {
     are_held = record {
-      consecutive = λ i n lt. omega (arith, r.consecutive i n lt, r.is_next);
+      consecutive = r.consecutive;
       each = r.each;
       enough = subst (λ (k : ℕ). (k ≡ length held) ⊎ (8 ≤ length held)) (sym r.is_next) enough;
     };

@@ -1,5 +1,5 @@
 -- How many normal words a degree has.
-use Rattle.std.specs.Prelude.{ℕ, ◌≡◌, ◌≢◌, ◌+◌, ◌<◌, ◌≤◌, ◌↔◌, ◌⊎◌, List, [], All, length, slice_index, slice_index_or}
+use Rattle.std.specs.Prelude.{ℕ, ◌≡◌, ◌≢◌, ◌+◌, ◌<◌, ◌≤◌, ◌↔◌, ◌⊎◌, List, [], All, length, slice_index}
 use Rattle.free_poly.specs.declared.term.Term.{Term}
 use Rattle.ideal_laws.specs.Closure.{IsNormal}
 use Rattle.ideal_laws.specs.Dimension.{IsHilbertCoefficient}
@@ -10,7 +10,7 @@ use Rattle.ideal_laws.specs.Laws.{IsSetting}
 use Rattle.ideal_laws.specs.Quantities.{AreNormalWords}
 use Rattle.lead_index.specs.declared.lead.Lead.{Lead}
 use Rattle.lead_index.specs.Leads.{IsFree}
-use Rattle.normal_words.specs.Normal.{AreNormal, WordsOfDegree, next_of}
+use Rattle.normal_words.specs.Normal.{AreConsecutive, AreNormal, WordsOfDegree, next_of}
 
 -- so many words of the degree contain no leading word of the elements
 pub record IsCount (weights : List ℕ) (G : List (List Term)) (d n : ℕ) : Type 0 where
@@ -42,8 +42,7 @@ pub record IndexesLeads (G : List (List Term)) (leads : List Lead) : Type 0 wher
 
 -- the normal words of the last degrees, all degrees that a letter can leave among them, or none in the beginning
 pub record AreHeld (weights : List ℕ) (leads : List Lead) (held : List WordsOfDegree) : Type 0 where
-  pub consecutive : (i : ℕ) (n : WordsOfDegree) → i < length held →
-      (slice_index_or held i n).degree + length held ≡ next_of held + i
+  pub consecutive : AreConsecutive held
   pub each : All (λ n. AreNormal weights leads n.degree n.words) held
   pub enough : (next_of held ≡ length held) ⊎ (8 ≤ length held)
 

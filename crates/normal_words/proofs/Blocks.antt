@@ -1,12 +1,10 @@
 -- The words that one letter begins, and where words of an index stand in them.
-use Rattle.std.proofs.Common.{◌≡◌, ◌+◌, ◌<◌, ℕ, zero, suc, Bool, true, false, cond, List, [], ◌∷◌, ◌++◌, Err, Result, length, take, get_or, refl}
-use Rattle.std.proofs.Common.{sym, ap, ◌∙◌, inl, inr, arith, AllPairs, subst, bytes_eq, append_assoc, length-append}
+use Rattle.std.proofs.Common.{◌≡◌, ℕ, zero, suc, Bool, true, false, cond, List, [], ◌∷◌, length, take, refl}
+use Rattle.std.proofs.Common.{Option, Some, None, MatchOption, is_some, sym, ap, ◌∙◌, inl, inr, arith, AllPairs, subst, bytes_eq}
 use Rattle.std.specs.List.{Contains}
 use Rattle.std.proofs.lemmas.Bool.{cases_Bool, cases_lt}
-use Rattle.std.proofs.lemmas.Grind.{flat_map-append}
-use Rattle.std.proofs.lemmas.List.{append-nil, take_all, take_more}
+use Rattle.std.proofs.lemmas.List.{take_all}
 use Rattle.std.proofs.lemmas.List.Elements.{All-contains, All-head, All-nil, All-tail}
-use Rattle.std.proofs.lemmas.List.Folds.{length-flat_map-take}
 use Rattle.std.proofs.lemmas.List.Kept.{AllPairs-cons}
 use Rattle.std.proofs.lemmas.Slice.Eq.{bytes_eq-Decides}
 use Rattle.words.specs.Order.{IsLetterwiseGreater}
@@ -16,7 +14,7 @@ use Rattle.words.proofs.Members.{AllPairs-flat_map, AllPairs-nil, All-from_membe
 use Rattle.words.proofs.Members.{Contains-flat_map_cases, Contains-none}
 use Rattle.lead_index.specs.declared.lead.Lead.{Lead}
 use Rattle.lead_index.specs.Leads.{IsFree, IsFreeAt, Starts}
-use Rattle.normal_words.specs.Block.{begins, block, unless_begins}
+use Rattle.normal_words.specs.Block.{begins, block, unless, unless_begins}
 
 -- equal first letters stand at the front
 occurs_at_front : (u w : List ℕ) → take (length u) w ≡ u → OccursAt u w 0
@@ -52,11 +50,27 @@ pub free_of_begins : (leads : List Lead) (w : List ℕ) → begins leads w ≡ f
 free_of_begins leads w e = All-from_members (λ (m : Lead). OccursAt m.word w 0 → ⊥) leads
     (λ l m o. let t : begins leads w ≡ true = begins_of leads w l m o in cc)
 
-pub unless-started : (leads : List Lead) (w : List ℕ) (element : ℕ) → Starts leads w 0 element → unless_begins leads w ≡ []
-unless-started leads w element h = ap (λ (b : Bool). cond b [] (w ∷ [])) (begins_of leads w h.lead h.among h.here)
+pub begins_started : (leads : List Lead) (w : List ℕ) (element : ℕ) → Starts leads w 0 element → begins leads w ≡ true
+begins_started leads w element h = begins_of leads w h.lead h.among h.here
 
-pub unless-free : (leads : List Lead) (w : List ℕ) → IsFreeAt leads w 0 → unless_begins leads w ≡ w ∷ []
-unless-free leads w h = ap (λ (b : Bool). cond b [] (w ∷ [])) (begins_free leads w h)
+-- an answer that tells which of two facts holds decides a test of them
+pub is_some-tells : {T : Type 0} (r : Option T) (P : Type 0) (Q : T → Type 0) (b : Bool) → MatchOption r P Q
+    → (P → b ≡ false) → ((x : T) → Q x → b ≡ true) → is_some r ≡ b
+is_some-tells None P Q b h none some = sym (none h)
+is_some-tells (Some x) P Q b h none some = sym (some x h)
+
+-- a word that is not left out
+pub unless-says : (b : Bool) (v w : List ℕ) → Contains (unless b v) w → (b ≡ false) × (v ≡ w)
+unless-says true v w m = absurd (Contains-none w m)
+unless-says false v w m = elim (Contains-cases v [] w m) [
+  | inl e ↦ (refl, e)
+  | inr n ↦ absurd (Contains-none w n)
+]
+
+-- one word or none has no pairs
+pub unless-pairs : (R : List ℕ → List ℕ → Type 0) (b : Bool) (v : List ℕ) → AllPairs R (unless b v)
+unless-pairs R true v = AllPairs-nil R
+unless-pairs R false v = AllPairs-cons R v [] (All-nil (R v)) (AllPairs-nil R)
 
 -- no word of the index stands in a word where none stands at its front and none in the rest
 pub IsFree-cons : (leads : List Lead) (x : ℕ) (w : List ℕ) → IsFreeAt leads (x ∷ w) 0 → IsFree leads w → IsFree leads (x ∷ w)
@@ -79,17 +93,10 @@ module _ (leads : List Lead) (x : ℕ) where
     pub is : (x ∷ tail) ≡ w
     pub free : begins leads (x ∷ tail) ≡ false
 
-  one_cases : (b : Bool) (v w : List ℕ) → Contains (cond b [] (v ∷ [])) w → (b ≡ false) × (v ≡ w)
-  one_cases true v w m = absurd (Contains-none w m)
-  one_cases false v w m = elim (Contains-cases v [] w m) [
-    | inl e ↦ (refl, e)
-    | inr n ↦ absurd (Contains-none w n)
-  ]
-
   pub block-says : (tails : List (List ℕ)) (w : List ℕ) → Contains (block leads x tails) w → IsInBlock tails w
   block-says tails w m =
       let r = Contains-flat_map_cases (λ v. unless_begins leads (x ∷ v)) tails w m in
-      let e = one_cases (begins leads (x ∷ r.0)) (x ∷ r.0) w r.2 in
+      let e = unless-says (begins leads (x ∷ r.0)) (x ∷ r.0) w r.2 in
       record { tail = r.0; among = r.1; is = e.1; free = e.0 }
 
   pub in_block : (tails : List (List ℕ)) (v : List ℕ) → Contains tails v → begins leads (x ∷ v) ≡ false → Contains (block leads x tails) (x ∷ v)
@@ -98,48 +105,13 @@ module _ (leads : List Lead) (x : ℕ) where
       (Contains-first (x ∷ v) []) in
       Contains-flat_map (λ u. unless_begins leads (x ∷ u)) tails v (x ∷ v) m here
 
-  one_falling : (b : Bool) (v : List ℕ) → AllPairs IsLetterwiseGreater (cond b [] (v ∷ []))
-  one_falling true v = AllPairs-nil IsLetterwiseGreater
-  one_falling false v = AllPairs-cons IsLetterwiseGreater v [] (All-nil (IsLetterwiseGreater v)) (AllPairs-nil IsLetterwiseGreater)
-
   pub block-falling : (weights : List ℕ) → AreWeights weights → (tails : List (List ℕ)) → AllPairs IsLetterwiseGreater tails →
       AllPairs IsLetterwiseGreater (block leads x tails)
   block-falling weights aw tails h =
-      AllPairs-flat_map (λ v. unless_begins leads (x ∷ v)) IsLetterwiseGreater IsLetterwiseGreater (λ v. one_falling (begins leads (x ∷ v)) (x ∷ v))
+      AllPairs-flat_map (λ v. unless_begins leads (x ∷ v)) IsLetterwiseGreater IsLetterwiseGreater
+      (λ v. unless-pairs IsLetterwiseGreater (begins leads (x ∷ v)) (x ∷ v))
       (λ a b u v g m n.
-      let e = one_cases (begins leads (x ∷ a)) (x ∷ a) u m in
-      let f = one_cases (begins leads (x ∷ b)) (x ∷ b) v n in
+      let e = unless-says (begins leads (x ∷ a)) (x ∷ a) u m in
+      let f = unless-says (begins leads (x ∷ b)) (x ∷ b) v n in
       subst (λ (w : List ℕ). IsLetterwiseGreater w v) e.1 (subst (λ (w : List ℕ). IsLetterwiseGreater (x ∷ a) w) f.1 (letterwise_later weights aw x a b g)))
       tails h
-
-  -- one more tail
-  pub block-more : (tails : List (List ℕ)) (i : ℕ) (v : List ℕ) → i < length tails → v ≡ get_or tails i v →
-      block leads x (take (i + 1) tails) ≡ block leads x (take i tails) ++ unless_begins leads (x ∷ v)
-  block-more tails i v lt e =
-      ap (block leads x) (take_more tails i v lt ∙ ap (λ (u : List ℕ). take i tails ++ u ∷ []) (sym e))
-      ∙ flat_map-append (λ u. unless_begins leads (x ∷ u)) (take i tails) (v ∷ [])
-      ∙ ap (λ (us : List (List ℕ)). block leads x (take i tails) ++ us) (append-nil (unless_begins leads (x ∷ v)))
-
-  -- the words so far, with what one more tail gives
-  pub block-step : (old words new : List (List ℕ)) (tails : List (List ℕ)) (i : ℕ) (v w : List ℕ) → i < length tails → v ≡ get_or tails i v → w ≡ x ∷ v
-      → words ≡ old ++ block leads x (take i tails) → new ≡ words ++ unless_begins leads w → new ≡ old ++ block leads x (take (i + 1) tails)
-  block-step old words new tails i v w lt e is so_far grown =
-      grown ∙ ap (λ (us : List (List ℕ)). us ++ unless_begins leads w) so_far ∙ append_assoc old (block leads x (take i tails)) (unless_begins leads w)
-      ∙ ap (λ (us : List (List ℕ)). old ++ us) (ap (λ (u : List ℕ). block leads x (take i tails) ++ unless_begins leads u) is ∙ sym (block-more tails i v lt e))
-
-  -- the whole block is no shorter
-  pub block-longer : (old words : List (List ℕ)) (tails : List (List ℕ)) (i most : ℕ) (v w : List ℕ) → i < length tails → v ≡ get_or tails i v → w ≡ x ∷ v
-      → words ≡ old ++ block leads x (take i tails) → most < length (words ++ unless_begins leads w) → most < length (old ++ block leads x tails)
-  block-longer old words tails i most v w lt e is so_far more =
-      let one : length (unless_begins leads w) ≡ length (unless_begins leads (x ∷ get_or tails i v)) =
-      ap (λ (u : List ℕ). length (unless_begins leads u)) (is ∙ ap (λ (u : List ℕ). x ∷ u) e) in
-      omega (
-        arith,
-        ap length so_far,
-        length-append old (block leads x (take i tails)),
-        length-append old (block leads x tails),
-        length-append words (unless_begins leads w),
-        length-flat_map-take (λ u. unless_begins leads (x ∷ u)) tails i v lt,
-        one,
-        more,
-      )

@@ -1,11 +1,10 @@
 -- The words of a degree, letter after letter, are the normal words of the degree.
-use Rattle.std.proofs.Common.{◌≡◌, ◌≢◌, ◌+◌, ◌-◌, ◌<◌, ◌≤◌, ℕ, zero, suc, Bool, true, false, cond, leb, min, List, [], ◌∷◌, ◌++◌, length, get_or}
-use Rattle.std.proofs.Common.{refl, sym, ap, ◌∙◌, inl, inr, arith, add-one, length-append, All, AllPairs, subst}
+use Rattle.std.proofs.Common.{◌≡◌, ◌≢◌, ◌+◌, ◌-◌, ◌<◌, ◌≤◌, ℕ, Bool, true, false, cond, leb, min, List, [], ◌∷◌, ◌++◌, length, get_or}
+use Rattle.std.proofs.Common.{refl, sym, ap, inl, inr, arith, length-append, All, AllPairs, subst}
 use Rattle.std.specs.List.{Contains, flat_map, range_with_len}
 use Rattle.std.proofs.lemmas.Bool.{cases_Bool, cases_lt, le-leb, leb-true}
-use Rattle.std.proofs.lemmas.Grind.{flat_map-append}
-use Rattle.std.proofs.lemmas.List.{append-nil, get_or_append_left, get_or_push, nil_from_length}
-use Rattle.std.proofs.lemmas.List.Elements.{All-append, All-cons, All-contains, All-head, All-nil, All-tail}
+use Rattle.std.proofs.lemmas.List.{get_or_append_left, get_or_push, nil_from_length}
+use Rattle.std.proofs.lemmas.List.Elements.{All-push, All-cons, All-contains, All-head, All-nil, All-tail}
 use Rattle.std.proofs.lemmas.List.Kept.{AllPairs-cons}
 use Rattle.words.specs.Order.{HasSmallerFirst, IsLetterwiseGreater}
 use Rattle.words.specs.Words.{AreWeights, IsOver, OccursAt, degree_of, weight_of, words_of_degree}
@@ -15,60 +14,22 @@ use Rattle.words.proofs.OrderFacts.{letterwise_from_difference}
 use Rattle.words.proofs.Weights.{length-le-degree_of, weight_of-bounds}
 use Rattle.lead_index.specs.declared.lead.Lead.{Lead}
 use Rattle.lead_index.specs.Leads.{IsFree}
-use Rattle.normal_words.specs.Normal.{AreBefore, AreNormal, WordsOfDegree, next_of}
+use Rattle.normal_words.specs.Normal.{AreBefore, AreConsecutive, AreNormal, WordsOfDegree, next_of}
 use Rattle.normal_words.specs.Block.{block, block_at, words_at}
 use Rattle.normal_words.proofs.Blocks.{IsFree-cons, IsFree-tail, IsInBlock, begins_free, block-falling, block-says, free_of_begins, in_block}
 
--- the blocks of the first n letters
-abbrev pub grown : List ℕ → List Lead → List WordsOfDegree → ℕ → List (List ℕ)
-grown weights leads before n = flat_map (λ x. block_at leads before x (weight_of weights x)) (range_with_len 0 n)
+-- the block of a letter
+abbrev pub block_of : List ℕ → List Lead → List WordsOfDegree → ℕ → List (List ℕ)
+block_of weights leads before x = block_at leads before x (weight_of weights x)
 
-range-more : (a n : ℕ) → range_with_len a (suc n) ≡ range_with_len a n ++ (a + n) ∷ []
-range-more a zero = let e : a ≡ a + zero = omega arith in ap (λ (k : ℕ). k ∷ []) e
-range-more a (suc n) =
-    let e : a + 1 + n ≡ a + suc n = omega arith in
-    ap (λ (us : List ℕ). a ∷ us) (range-more (a + 1) n ∙ ap (λ (k : ℕ). range_with_len (a + 1) n ++ k ∷ []) e)
+-- the blocks of all letters
+abbrev pub grown : List ℕ → List Lead → List WordsOfDegree → List (List ℕ)
+grown weights leads before = flat_map (block_of weights leads before) (range_with_len 0 (length weights))
 
 abbrev nothing : WordsOfDegree
 nothing = record { degree = 0; words = [] }
 
 module _ (weights : List ℕ) (leads : List Lead) (before : List WordsOfDegree) where
-  -- one more letter
-  pub grown-more : (n : ℕ) → grown weights leads before (n + 1) ≡ grown weights leads before n ++ block_at leads before n (weight_of weights n)
-  grown-more n =
-      let f : ℕ → List (List ℕ) = λ x. block_at leads before x (weight_of weights x) in
-      let z : 0 + n ≡ n = omega arith in
-      ap (λ (k : ℕ). flat_map f (range_with_len 0 k)) (add-one n)
-      ∙ ap (flat_map f) (range-more 0 n ∙ ap (λ (k : ℕ). range_with_len 0 n ++ k ∷ []) z)
-      ∙ flat_map-append f (range_with_len 0 n) (n ∷ [])
-      ∙ ap (λ (us : List (List ℕ)). flat_map f (range_with_len 0 n) ++ us) (append-nil (f n))
-
-  grown-upto : (j k m : ℕ) → m ≡ k + j → length (grown weights leads before k) ≤ length (grown weights leads before m)
-  grown-upto zero k m e = let same : k ≡ m = omega (arith, e) in omega (arith, ap (λ (i : ℕ). length (grown weights leads before i)) same)
-  grown-upto (suc j) k m e =
-      let same : k + j + 1 ≡ m = omega (arith, e) in
-      omega (
-        arith,
-        grown-upto j k (k + j) refl,
-        ap length (grown-more (k + j)),
-        length-append (grown weights leads before (k + j)) (block_at leads before (k + j) (weight_of weights (k + j))),
-        ap (λ (i : ℕ). length (grown weights leads before i)) same,
-      )
-
-  -- more words than these up to one letter are more words in all
-  pub grown-longer : (most n all : ℕ) (words : List (List ℕ)) → n < all → words ≡ grown weights leads before n →
-      most < length (words ++ block_at leads before n (weight_of weights n))
-      → most < length (grown weights leads before all)
-  grown-longer most n all words lt so_far more =
-      let e : all ≡ (n + 1) + (all - (n + 1)) = omega (arith, lt) in
-      omega (
-        arith,
-        more,
-        grown-upto (all - (n + 1)) (n + 1) all e,
-        ap length (grown-more n),
-        ap (λ (us : List (List ℕ)). length (us ++ block_at leads before n (weight_of weights n))) so_far,
-      )
-
   block_at-says : (x weight : ℕ) (w : List ℕ) → Contains (block_at leads before x weight) w →
       (weight ≤ length before) × IsInBlock leads x (words_at before (length before - weight)) w
   block_at-says x weight w m = elim (cases_Bool (leb weight (length before))) [
@@ -99,9 +60,9 @@ module _ (weights : List ℕ) (leads : List Lead) (before : List WordsOfDegree) 
         → AreNormal weights leads (get_or before (length before - weight_of weights x) nothing).degree (words_at before (length before - weight_of weights x))
     tails_normal x le = h.each (length before - weight_of weights x) nothing ((left x le).within)
 
-    says : (w : List ℕ) → Contains (grown weights leads before (length weights)) w → Contains (words_of_degree weights (next_of before)) w × IsFree leads w
+    says : (w : List ℕ) → Contains (grown weights leads before) w → Contains (words_of_degree weights (next_of before)) w × IsFree leads w
     says w m =
-        let r = Contains-flat_map_cases (λ x. block_at leads before x (weight_of weights x)) (range_with_len 0 (length weights)) w m in
+        let r = Contains-flat_map_cases (block_of weights leads before) (range_with_len 0 (length weights)) w m in
         let s = block_at-says r.0 (weight_of weights r.0) w r.2 in
         let tail = ((tails_normal r.0 s.0).exactly s.1.tail).0 s.1.among in
         let of_tail = words_of_degree-says weights aw _ s.1.tail tail.0 in
@@ -114,7 +75,7 @@ module _ (weights : List ℕ) (leads : List Lead) (before : List WordsOfDegree) 
         )
 
     has : min 8 (next_of before) ≤ length before → (w : List ℕ) → IsOver (length weights) w → degree_of weights w ≡ next_of before →
-        IsFree leads w → Contains (grown weights leads before (length weights)) w
+        IsFree leads w → Contains (grown weights leads before) w
     has enough [] over e f = absurd (omega (arith, e, next-positive before h.some))
     has enough (x ∷ v) over e f =
         let le : weight_of weights x ≤ length before = omega (arith, enough, e, (weight_of-bounds weights aw x).1) in
@@ -122,13 +83,13 @@ module _ (weights : List ℕ) (leads : List Lead) (before : List WordsOfDegree) 
         let tails = words_at before (length before - weight_of weights x) in
         let listed = subst (λ (d : ℕ). Contains (words_of_degree weights d) v) dv (listed_word weights aw v (All-tail (λ y. y < length weights) x v over)) in
         let among = ((tails_normal x le).exactly v).1 (listed, IsFree-tail leads x v f) in
-        let here : Contains (block_at leads before x (weight_of weights x)) (x ∷ v) =
+        let here : Contains (block_of weights leads before x) (x ∷ v) =
         subst (λ (b : Bool). Contains (cond b (block leads x tails) []) (x ∷ v)) (sym (le-leb _ _ le))
         (in_block leads x tails v among (begins_free leads (x ∷ v) (f 0))) in
-        Contains-flat_map (λ y. block_at leads before y (weight_of weights y)) (range_with_len 0 (length weights)) x (x ∷ v)
+        Contains-flat_map (block_of weights leads before) (range_with_len 0 (length weights)) x (x ∷ v)
         (Contains-range 0 (length weights) x (omega arith) (omega (arith, All-head (λ y. y < length weights) x v over))) here
 
-    block_at-falling : (x : ℕ) → AllPairs IsLetterwiseGreater (block_at leads before x (weight_of weights x))
+    block_at-falling : (x : ℕ) → AllPairs IsLetterwiseGreater (block_of weights leads before x)
     block_at-falling x = by_test (leb (weight_of weights x) (length before)) refl
       where
         by_test : (b : Bool) → leb (weight_of weights x) (length before) ≡ b →
@@ -136,8 +97,8 @@ module _ (weights : List ℕ) (leads : List Lead) (before : List WordsOfDegree) 
         by_test true e = block-falling leads x weights aw (words_at before (length before - weight_of weights x)) (tails_normal x (leb-true _ _ e)).falling
         by_test false e = AllPairs-nil IsLetterwiseGreater
 
-    across : (x y : ℕ) (u v : List ℕ) → x < y → Contains (block_at leads before x (weight_of weights x)) u →
-        Contains (block_at leads before y (weight_of weights y)) v → IsLetterwiseGreater u v
+    across : (x y : ℕ) (u v : List ℕ) → x < y → Contains (block_of weights leads before x) u →
+        Contains (block_of weights leads before y) v → IsLetterwiseGreater u v
     across x y u v lt m n =
         let a = (block_at-says x (weight_of weights x) u m).1 in
         let b = (block_at-says y (weight_of weights y) v n).1 in
@@ -147,10 +108,10 @@ module _ (weights : List ℕ) (leads : List Lead) (before : List WordsOfDegree) 
         (letterwise_from_difference _ _ first))
 
     -- the blocks of all letters are the normal words of the next degree
-    pub grown_normal : min 8 (next_of before) ≤ length before → AreNormal weights leads (next_of before) (grown weights leads before (length weights))
+    pub grown_normal : min 8 (next_of before) ≤ length before → AreNormal weights leads (next_of before) (grown weights leads before)
     grown_normal enough = record {
       exactly = λ w. (says w, λ (m, f). let s = words_of_degree-says weights aw (next_of before) w m in has enough w s.0 s.1 f);
-      falling = AllPairs-flat_map (λ x. block_at leads before x (weight_of weights x)) (λ x y. x < y) IsLetterwiseGreater block_at-falling
+      falling = AllPairs-flat_map (block_of weights leads before) (λ x y. x < y) IsLetterwiseGreater block_at-falling
           across (range_with_len 0 (length weights))
           (range-rising 0 (length weights));
     }
@@ -186,28 +147,33 @@ start_normal weights leads some = record {
     free at = All-from_members (λ l. OccursAt l.word [] at → ⊥) leads
         (λ l m o. All-contains (λ k. k.word ≢ []) leads l some m (nil_from_length l.word (omega (arith, o.within))))
 
-next_of-push : (before : List WordsOfDegree) (n : WordsOfDegree) → n.degree ≡ next_of before → next_of (before ++ n ∷ []) ≡ next_of before + 1
+-- the degree after one more
+pub next_of-push : (before : List WordsOfDegree) (n : WordsOfDegree) → n.degree ≡ next_of before → next_of (before ++ n ∷ []) ≡ next_of before + 1
 next_of-push [] n same = omega (arith, same)
 next_of-push (m ∷ before) n same = omega (arith, length-append before (n ∷ []))
+
+-- the degree that follows consecutive ones goes behind them
+pub consecutive-push : (before : List WordsOfDegree) (n : WordsOfDegree) → AreConsecutive before → n.degree ≡ next_of before
+    → AreConsecutive (before ++ n ∷ [])
+consecutive-push before n h same i m lt =
+    let size = length-append before (n ∷ []) in
+    let next = next_of-push before n same in
+    elim (cases_lt i (length before)) [
+      | inl below ↦ omega (arith, size, next, h i m below, ap (λ (x : WordsOfDegree). x.degree) (get_or_append_left before (n ∷ []) m i below))
+      | inr from ↦
+          let last : length before ≡ i = omega (arith, size, lt, from) in
+          omega (arith, size, next, last, same, ap (λ (x : WordsOfDegree). x.degree) (get_or_push before n m i last))
+    ]
 
 -- the list with the degree that follows
 pub before-push : (weights : List ℕ) (leads : List Lead) (before : List WordsOfDegree) (n : WordsOfDegree) → AreBefore weights leads before
     → n.degree ≡ next_of before → AreNormal weights leads n.degree n.words
     → AreBefore weights leads (before ++ n ∷ [])
-before-push weights leads before n h same normal =
-    let size = length-append before (n ∷ []) in
-    let next = next_of-push before n same in
-    record {
-      some = omega (arith, size);
-      consecutive = λ i m lt. elim (cases_lt i (length before)) [
-        | inl below ↦ omega (arith, size, next, h.consecutive i m below, ap (λ (x : WordsOfDegree). x.degree) (get_or_append_left before (n ∷ []) m i below))
-        | inr from ↦
-            let last : length before ≡ i = omega (arith, size, lt, from) in
-            omega (arith, size, next, last, same, ap (λ (x : WordsOfDegree). x.degree) (get_or_push before n m i last))
-      ];
-      each = All-append (λ k. AreNormal weights leads k.degree k.words) before (n ∷ []) h.each
-          (All-cons (λ k. AreNormal weights leads k.degree k.words) n [] normal (All-nil (λ k. AreNormal weights leads k.degree k.words)));
-    }
+before-push weights leads before n h same normal = record {
+  some = omega (arith, length-append before (n ∷ []));
+  consecutive = consecutive-push before n h.consecutive same;
+  each = All-push (λ k. AreNormal weights leads k.degree k.words) before n h.each normal;
+}
 
 -- degree 0 alone
 pub before-start : (weights : List ℕ) (leads : List Lead) (n : WordsOfDegree) → n.degree ≡ 0 → n.words ≡ [] ∷ [] →

@@ -10,9 +10,13 @@ abbrev pub begins : List Lead → List ℕ → Bool
 begins [] w = false
 begins (l ∷ ls) w = cond (bytes_eq (take (length l.word) w) l.word) true (begins ls w)
 
+-- the word, where it is not left out
+abbrev pub unless : Bool → List ℕ → List (List ℕ)
+unless left_out w = cond left_out [] (w ∷ [])
+
 -- the word, where it begins with no word of the index
 abbrev pub unless_begins : List Lead → List ℕ → List (List ℕ)
-unless_begins leads w = cond (begins leads w) [] (w ∷ [])
+unless_begins leads w = unless (begins leads w) w
 
 -- the letter before each tail, but for the words that begin with a word of the index
 abbrev pub block : List Lead → ℕ → List (List ℕ) → List (List ℕ)

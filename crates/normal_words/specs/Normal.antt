@@ -20,9 +20,13 @@ abbrev pub next_of : List WordsOfDegree → ℕ
 next_of [] = 0
 next_of (n ∷ ns) = n.degree + length (n ∷ ns)
 
+-- each degree is one more than the degree before it
+abbrev pub AreConsecutive : List WordsOfDegree → Type 0
+AreConsecutive before = (i : ℕ) (n : WordsOfDegree) → i < length before →
+    (slice_index_or before i n).degree + length before ≡ next_of before + i
+
 -- the normal words of one or more consecutive degrees
 pub record AreBefore (weights : List ℕ) (leads : List Lead) (before : List WordsOfDegree) : Type 0 where
   pub some : 0 < length before
-  pub consecutive : (i : ℕ) (n : WordsOfDegree) → i < length before →
-      (slice_index_or before i n).degree + length before ≡ next_of before + i
+  pub consecutive : AreConsecutive before
   pub each : All (λ n. AreNormal weights leads n.degree n.words) before

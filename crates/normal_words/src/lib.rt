@@ -8,5 +8,5 @@ mod normal;
 #[cfg(test)]
 mod tests;
 
-pub use next::{NormalFault, next_degree, push_within};
+pub use next::{NormalFault, next_degree, push_unless};
 pub use normal::NormalWords;

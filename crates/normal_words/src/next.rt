@@ -1,6 +1,6 @@
 ghost use Rattle.std.specs.Prelude.{◌≡◌, ◌+◌, ◌++◌, ◌<◌, ◌≤◌, ◌∷◌, List, [], ℕ, All, IfOk, IsErrOf, OnOk, length, min};
 ghost use Rattle.normal_words.specs.Normal.{AreBefore, AreNormal, next_of};
-ghost use Rattle.normal_words.specs.Block.{block, block_at, unless_begins};
+ghost use Rattle.normal_words.specs.Block.{begins, block, block_at, unless};
 
 use crate::normal::NormalWords;
 use lead_index::LeadIndex;
@@ -102,7 +102,8 @@ fn push_block(
     let mut letters = Vec::new(alloc);
     for tail in tails {
         spell(&mut letters, letter, tail.letters())?;
-        push_word(alloc, letters.as_slice(), index, most, words)?;
+        let begun = begins(index, letters.as_slice());
+        push_unless(alloc, begun, letters.as_slice(), most, words)?;
     }
     Ok(())
 }
@@ -117,41 +118,32 @@ fn spell(letters: &mut Vec<u8>, letter: u8, tail: &[u8]) -> Result<(), NoMemory>
     Ok(())
 }
 
-/// Appends a word, unless it begins with a word of the index.
-fn push_word(
-    alloc: Global,
-    letters: &[u8],
-    index: &LeadIndex,
-    most: u32,
-    words: &mut Vec<Word>,
-) -> Result<(), NormalFault>
-    requires room { length letters.now ≤ 64 }
-    requires few { length words.old.items ≤ most }
-
-    ensures word { OnOk result (words.new.items ≡ words.old.items ++ unless_begins index.now letters.now) }
-    ensures within { OnOk result (length words.new.items ≤ most) }
-    ensures many { IsErrOf result NormalFault.TooMany →
-        most < length (words.old.items ++ unless_begins index.now letters.now) }
+/// Whether the word begins with a word of the index.
+fn begins(index: &LeadIndex, letters: &[u8]) -> bool
+    requires { length letters.now ≤ 64 }
+    ensures { result ≡ begins index.now letters.now }
 {
-    match index.starts(letters, 0) {
-        Some(_) => Ok(()),
-        None => push_within(alloc, letters, most, words),
-    }
+    index.starts(letters, 0).is_some()
 }
 
-/// Appends a word to at most `most` words, or refuses the one that is too many.
-pub fn push_within(
+/// Appends a word to at most `most` words, unless it is left out, or refuses the one that is too many.
+pub fn push_unless(
     alloc: Global,
+    left_out: bool,
     letters: &[u8],
     most: u32,
     words: &mut Vec<Word>,
 ) -> Result<(), NormalFault>
     requires few { length words.old.items ≤ most }
 
-    ensures word { OnOk result (words.new.items ≡ words.old.items ++ letters.now ∷ []) }
+    ensures word { OnOk result (words.new.items ≡ words.old.items ++ unless left_out letters.now) }
     ensures within { OnOk result (length words.new.items ≤ most) }
-    ensures many { IsErrOf result NormalFault.TooMany → length words.old.items ≡ most }
+    ensures many { IsErrOf result NormalFault.TooMany →
+        most < length (words.old.items ++ unless left_out letters.now) }
 {
+    if left_out {
+        return Ok(());
+    }
     if words.len() >= most as usize {
         return Err(NormalFault::TooMany);
     }

@@ -6,6 +6,7 @@ use Rattle.std.proofs.lemmas.Bool.{cases_lt}
 use Rattle.std.proofs.lemmas.List.{append-nil, append_cancel_left, length-take-le}
 use Rattle.std.proofs.lemmas.List.FromFn.{get_or-range_with_len, length-range_with_len}
 use Rattle.std.proofs.lemmas.List.Kept.{AllPairs-filter}
+use Rattle.std.proofs.Math.Seq.{drop-append_seam, take-append_seam}
 use Rattle.words.specs.Order.{IsLetterwiseGreater}
 use Rattle.words.proofs.Degrees.{range-rising}
 use Rattle.words.proofs.Members.{AllPairs-flat_map, AllPairs-map, All-from_members, Contains-flat_map_cases}
@@ -16,7 +17,6 @@ use Rattle.ideal_laws.specs.Engine.{Elements}
 use Rattle.ideal_laws.specs.Kept.{IsKept}
 use Rattle.overlaps.specs.Walk.{all_blocks, block, blocks, lead_word, meets, overlap_at}
 use Rattle.overlaps.proofs.Exactly.{Obs, complete, factor_free, leads_of, of_block, rest_of, sound}
-use Rattle.overlaps.proofs.Fronts.{behind_front, front_of}
 use Rattle.overlaps.proofs.Ordered.{IsOrdered, order}
 
 pub before_trans : (o q r : Overlap) → OverlapsBefore o q → OverlapsBefore q r → OverlapsBefore o r
@@ -65,9 +65,10 @@ module _ (b : Elements) (kept : IsKept b) (free : IsFactorFree b.elements) (d : 
         ]
       ] in
       let lead : o.before ++ o.shared ≡ q.before ++ q.shared = sym lo.left_lead ∙ ap (lead_word G) left ∙ lq.left_lead in
-      let before : o.before ≡ q.before = sym (front_of o.before o.shared) ∙ ap₂ (λ (n : ℕ) (w : List ℕ). take n w) size lead ∙ front_of q.before q.shared in
-      let shared : o.shared ≡ q.shared = sym (behind_front o.before o.shared) ∙ ap₂ (λ (n : ℕ) (w : List ℕ). drop n w) size lead
-      ∙ behind_front q.before q.shared in
+      let before : o.before ≡ q.before = sym (take-append_seam o.before o.shared) ∙ ap₂ (λ (n : ℕ) (w : List ℕ). take n w) size lead
+      ∙ take-append_seam q.before q.shared in
+      let shared : o.shared ≡ q.shared = sym (drop-append_seam o.before o.shared) ∙ ap₂ (λ (n : ℕ) (w : List ℕ). drop n w) size lead
+      ∙ drop-append_seam q.before q.shared in
       let behind : o.behind ≡ q.behind = append_cancel_left (q.before ++ q.shared) o.behind q.behind (ap (λ (w : List ℕ). w ++ o.behind) (sym lead) ∙ word) in
       let right_word : lead_word G o.right ≡ lead_word G q.right = lo.right_lead ∙ ap₂ (λ (u v : List ℕ). u ++ v) shared behind ∙ sym lq.right_lead in
       let right : o.right ≡ q.right = factor_free b kept free o.right q.right lo.right_within lq.right_within

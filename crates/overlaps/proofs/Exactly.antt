@@ -5,6 +5,7 @@ use Rattle.std.proofs.Common.{refl, sym, ap, ◌∙◌, inl, inr, arith, Some, s
 use Rattle.std.specs.List.{Contains, filter, range_with_len, slice_get}
 use Rattle.std.proofs.lemmas.List.{append-nil, length-take-le, take-append-drop}
 use Rattle.std.proofs.lemmas.Option.{get_or_from_slice_get, slice_get-get_or, slice_get_within}
+use Rattle.std.proofs.Math.Seq.{drop-append_seam, take-append_seam}
 use Rattle.words.specs.Words.{IsFactor, degree_of}
 use Rattle.words.proofs.Degrees.{Contains-range, range-bounds}
 use Rattle.words.proofs.Members.{Contains-cases, Contains-first, Contains-flat_map, Contains-flat_map_cases, Contains-map, Contains-map_cases}
@@ -17,7 +18,6 @@ use Rattle.ideal_laws.specs.Engine.{Elements}
 use Rattle.ideal_laws.specs.Kept.{IsKept}
 use Rattle.overlaps.specs.Walk.{all_blocks, block, blocks, lead_word, meets, overlap_at, shared_at}
 use Rattle.overlaps.proofs.Blocks.{meets-both, meets-says}
-use Rattle.overlaps.proofs.Fronts.{behind_front, front_of}
 use Rattle.overlaps.proofs.Places.{element_kept, lead-is, lead_word-bounds, monic-lead}
 
 module _ {X : Type 0} (p : X → Bool) where
@@ -151,12 +151,12 @@ module _ (b : Elements) (kept : IsKept b) (free : IsFactorFree b.elements) where
     complete o h =
         let l = leads_of o h in
         let k = length o.before in
-        let cut : take k (lead_word G o.left) ≡ o.before = ap (take k) l.left_lead ∙ front_of o.before o.shared in
-        let shared : shared_at G o.left k ≡ o.shared = ap (drop k) l.left_lead ∙ behind_front o.before o.shared in
+        let cut : take k (lead_word G o.left) ≡ o.before = ap (take k) l.left_lead ∙ take-append_seam o.before o.shared in
+        let shared : shared_at G o.left k ≡ o.shared = ap (drop k) l.left_lead ∙ drop-append_seam o.before o.shared in
         let begins : take (length (shared_at G o.left k)) (lead_word G o.right) ≡ shared_at G o.left k =
-        ap₂ (λ (n : ℕ) (w : List ℕ). take n w) (ap length shared) l.right_lead ∙ front_of o.shared o.behind ∙ sym shared in
+        ap₂ (λ (n : ℕ) (w : List ℕ). take n w) (ap length shared) l.right_lead ∙ take-append_seam o.shared o.behind ∙ sym shared in
         let behind : drop (length (shared_at G o.left k)) (lead_word G o.right) ≡ o.behind =
-        ap₂ (λ (n : ℕ) (w : List ℕ). drop n w) (ap length shared) l.right_lead ∙ behind_front o.shared o.behind in
+        ap₂ (λ (n : ℕ) (w : List ℕ). drop n w) (ap length shared) l.right_lead ∙ drop-append_seam o.shared o.behind in
         let is : overlap_at G o.left k o.right ≡ o = λ i. record { left = o.left; right = o.right; before = cut i; shared = shared i; behind = behind i } in
         let degree : degree_of b.weights (lead_word G o.right) ≡ rest_of o.left k =
         omega (

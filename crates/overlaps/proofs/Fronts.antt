@@ -1,5 +1,5 @@
 -- The first letters of words that fall.
-use Rattle.std.proofs.Common.{ap₂, ◌≡◌, ◌⊎◌, ◌-◌, ◌<◌, ℕ, zero, suc, List, [], ◌∷◌, ◌++◌, length, take, drop, refl, sym, ap, ◌∙◌, inl, inr, arith}
+use Rattle.std.proofs.Common.{ap₂, ◌≡◌, ◌⊎◌, ◌-◌, ◌<◌, ℕ, zero, suc, List, [], ◌∷◌, length, take, drop, refl, sym, ap, ◌∙◌, inl, inr, arith}
 use Rattle.std.proofs.Common.{subst}
 use Rattle.std.proofs.Common.{length-drop}
 use Rattle.std.proofs.lemmas.Bool.{cases_lt}
@@ -58,11 +58,3 @@ begins_as u c w v is same o = (subst (λ (x : List ℕ). OccursAt x v 0) is (sub
 
 pub occurs_as : (u c w v : List ℕ) → u ≡ c → w ≡ v → take (length c) v ≡ c → OccursAt u w 0
 occurs_as u c w v is same e = subst (λ (x : List ℕ). OccursAt x w 0) (sym is) (subst (λ (x : List ℕ). OccursAt c x 0) (sym same) (occurs_in_front c v e))
-
-pub behind_front : (u r : List ℕ) → drop (length u) (u ++ r) ≡ r
-behind_front [] r = refl
-behind_front (a ∷ u) r = behind_front u r
-
-pub front_of : (u r : List ℕ) → take (length u) (u ++ r) ≡ u
-front_of [] r = refl
-front_of (a ∷ u) r = ap (λ (s : List ℕ). a ∷ s) (front_of u r)

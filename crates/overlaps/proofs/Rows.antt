@@ -5,6 +5,7 @@ use Rattle.std.specs.List.{AllZip, Contains}
 use Rattle.std.proofs.lemmas.List.{get_or_default}
 use Rattle.std.proofs.lemmas.List.Elements.{All-map}
 use Rattle.std.proofs.lemmas.Option.{get_or_from_slice_get, slice_get_within}
+use Rattle.std.proofs.Math.Seq.{drop-append_seam, take-append_seam}
 use Rattle.words.proofs.Members.{Contains-first, Contains-more}
 use Rattle.free_poly.specs.declared.term.Term.{Term}
 use Rattle.free_poly.specs.Poly.{IsPolynomial, lead_or_none}
@@ -19,7 +20,6 @@ use Rattle.ideal_laws.specs.Quantities.{AreRows, IsRowOf}
 use Rattle.overlaps.specs.declared.obstruction.Obstruction.{Obstruction}
 use Rattle.overlaps.specs.Listed.{AreListed, IsOf, IsRowFor, obstruction_of}
 use Rattle.overlaps.specs.Walk.{lead_word}
-use Rattle.overlaps.proofs.Fronts.{behind_front, front_of}
 use Rattle.overlaps.proofs.Places.{element_kept, lead-is}
 
 pub IfOk-three : {T E : Type 0} (P Q R S : T → Type 0) → ((f : T) → P f → Q f → R f → S f) → (r : Result T E) → IfOk r P → IfOk r Q → IfOk r R → IfOk r S
@@ -65,8 +65,9 @@ module _ (b : Elements) (kept : IsKept b) where
       record {
         left_element = λ f is. is ∙ ap (λ (i : ℕ). get_or G i f) left ∙ get_or_from_slice_get G o.left h.first f h.at_left;
         right_element = λ f is. is ∙ ap (λ (i : ℕ). get_or G i f) right ∙ get_or_from_slice_get G o.right h.second f h.at_right;
-        before = ap₂ (λ (n : ℕ) (w : List ℕ). take n w) front (word ∙ append_assoc o.before o.shared o.behind) ∙ front_of o.before (o.shared ++ o.behind);
-        behind = ap₂ (λ (n : ℕ) (w : List ℕ). drop n w) (ap length lead) word ∙ behind_front (o.before ++ o.shared) o.behind;
+        before =
+            ap₂ (λ (n : ℕ) (w : List ℕ). take n w) front (word ∙ append_assoc o.before o.shared o.behind) ∙ take-append_seam o.before (o.shared ++ o.behind);
+        behind = ap₂ (λ (n : ℕ) (w : List ℕ). drop n w) (ap length lead) word ∙ drop-append_seam (o.before ++ o.shared) o.behind;
       }
 
   -- the sum of the two products is the row

@@ -3,7 +3,7 @@ use Rattle.std.proofs.Common.{◌≡◌, ◌+◌, ◌-◌, ◌<◌, ◌≤◌, �
 use Rattle.std.proofs.Common.{length-append}
 use Rattle.std.specs.List.{flat_map, range_with_len}
 use Rattle.std.proofs.lemmas.Grind.{flat_map-append}
-use Rattle.std.proofs.lemmas.List.{append-nil, append_assoc, map-append}
+use Rattle.std.proofs.lemmas.List.{append-nil, append_assoc, map-append, map-id}
 use Rattle.std.proofs.lemmas.List.FromFn.{map-range_with_len_more}
 use Rattle.words.specs.Words.{degree_of}
 use Rattle.free_poly.specs.declared.term.Term.{Term}
@@ -12,13 +12,9 @@ use Rattle.overlaps.specs.declared.obstruction.Obstruction.{Obstruction}
 use Rattle.overlaps.specs.Listed.{obstruction_of}
 use Rattle.overlaps.specs.Walk.{block, blocks, lead_word}
 
-map-same : {X : Type 0} (xs : List X) → map (λ x. x) xs ≡ xs
-map-same [] = refl
-map-same (x ∷ xs) = ap (λ r. x ∷ r) (map-same xs)
-
 range-more : (a n : ℕ) → range_with_len a (n + 1) ≡ range_with_len a n ++ (a + n) ∷ []
-range-more a n = sym (map-same (range_with_len a (n + 1))) ∙ map-range_with_len_more (λ k. k) a n (a + n) refl
-    ∙ ap (λ (r : List ℕ). r ++ (a + n) ∷ []) (map-same (range_with_len a n))
+range-more a n = sym (map-id (range_with_len a (n + 1))) ∙ map-range_with_len_more (λ k. k) a n (a + n) refl
+    ∙ ap (λ (r : List ℕ). r ++ (a + n) ∷ []) (map-id (range_with_len a n))
 
 module _ {X : Type 0} (f : ℕ → List X) (a : ℕ) where
   abbrev joined : ℕ → List X

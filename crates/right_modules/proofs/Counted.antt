@@ -1,12 +1,12 @@
 -- The numbers of normal module words, degree after degree, and the degrees that are held.
-use Rattle.std.proofs.Common.{◌≡◌, ◌+◌, ◌++◌, ◌<◌, ◌≤◌, ◌∙◌, ℕ, zero, suc, List, [], ◌∷◌, All, arith, get_or, inl, inr, length, length-append, refl}
+use Rattle.std.proofs.Common.{◌≡◌, ◌+◌, ◌++◌, ◌<◌, ◌≤◌, ℕ, zero, suc, List, [], ◌∷◌, All, arith, get_or, length, length-append, refl}
 use Rattle.std.proofs.Common.{subst, sym, take}
-use Rattle.std.proofs.lemmas.Bool.{cases_lt}
-use Rattle.std.proofs.lemmas.List.{get_or_append_left, get_or_push, get_or-take, length-take}
-use Rattle.std.proofs.lemmas.List.Elements.{All-append, All-cons, All-nil}
+use Rattle.std.proofs.lemmas.List.{get_or-take, length-take}
+use Rattle.std.proofs.lemmas.List.Elements.{All-nil, All-push}
 use Rattle.ideal_laws.specs.Ideal.{ideal_of}
 use Rattle.ideal_laws.specs.declared.presentation.Presentation.{Presentation}
 use Rattle.lead_index.specs.declared.lead.Lead.{Lead}
+use Rattle.hilbert.proofs.Steps.{each-push}
 use Rattle.right_modules.specs.Answered.{AreModuleNumbers, AreModuleOutside, IsFirstLarge, free_letters}
 use Rattle.right_modules.specs.Extended.{AreHeld, AreNormal, TellsOutside}
 use Rattle.right_modules.proofs.ModuleCounts.{counts_module}
@@ -47,15 +47,9 @@ module _ (weights : List ℕ) (free : ℕ) (leads : List Lead) where
       → AreNumbersBelow most (d + 1) (numbers ++ length words ∷ [])
   numbers-more most d numbers words h normal le = record {
     size = omega (arith, h.size, length-append numbers (length words ∷ []));
-    each = λ e lt. elim (cases_lt e d) [
-      | inl below ↦
-          let r = h.each e below in
-          (r.0, r.1, get_or_append_left numbers (length words ∷ []) 0 e (omega (arith, below, h.size)) ∙ r.2)
-      | inr from ↦
-          let same : d ≡ e = omega (arith, lt, from) in
-          (words, subst (λ (n : ℕ). AreNormal weights free leads n words) same normal, get_or_push numbers (length words) 0 e (h.size ∙ same))
-    ];
-    few = All-append (λ n. n ≤ most) numbers (length words ∷ []) h.few (All-cons (λ n. n ≤ most) (length words) [] le (All-nil (λ n. n ≤ most)));
+    each = each-push (λ e n. (ws : List (List ℕ)) × AreNormal weights free leads e ws × (n ≡ length ws)) numbers (length words) d h.size h.each
+        (words, normal, refl);
+    few = All-push (λ n. n ≤ most) numbers (length words) h.few le;
   }
 
 module _ (p : ℕ) (given : Presentation) (gens bound : ℕ) (leads : List Lead) (tells : TellsOutside p given gens bound leads) where

@@ -1,23 +1,23 @@
 -- The words of all last letters are the normal module words of the degree.
-use Rattle.std.proofs.Common.{◌≡◌, ◌≢◌, ◌+◌, ◌-◌, ◌==◌, ◌++◌, ◌<◌, ◌≤◌, ◌∙◌, ℕ, Bool, true, false, cond, ltb, List, [], ◌∷◌, AllPairs, ap, arith}
+use Rattle.std.proofs.Common.{All, ◌≡◌, ◌≢◌, ◌+◌, ◌-◌, ◌==◌, ◌++◌, ◌<◌, ◌≤◌, ◌∙◌, ℕ, Bool, true, false, cond, ltb, List, [], ◌∷◌, AllPairs, ap, arith}
 use Rattle.std.proofs.Common.{eq-eqb, get_or, inl, inr, length, refl, subst, sym}
 use Rattle.std.specs.List.{Contains, flat_map, range_with_len}
 use Rattle.std.proofs.lemmas.Bool.{cases_lt, eqb-true, le-ltb, lt-ltb, ltb-false, ltb-true}
-use Rattle.std.proofs.lemmas.List.{get_or_past}
-use Rattle.std.proofs.lemmas.List.Elements.{All-append, All-cons, All-head, All-nil}
-use Rattle.std.proofs.lemmas.List.Kept.{AllPairs-cons}
+use Rattle.std.proofs.lemmas.List.{get_or_default, get_or_past, same_from_push}
+use Rattle.std.proofs.lemmas.List.Elements.{All-push, All-cons, All-head, All-nil}
 use Rattle.words.specs.Words.{AreWeights, IsOver, degree_of, weight_of}
 use Rattle.words.proofs.Degrees.{Contains-range, range-bounds, range-rising}
-use Rattle.words.proofs.Members.{AllPairs-flat_map, AllPairs-nil, Contains-flat_map, Contains-flat_map_cases, Contains-none}
-use Rattle.words.proofs.Weights.{degree_of-append, degree_of-positive, weight_of-bounds}
+use Rattle.words.proofs.Members.{AllPairs-flat_map, AllPairs-nil, All-from_members, Contains-flat_map, Contains-flat_map_cases, Contains-none}
+use Rattle.words.proofs.Weights.{degree_of-append, degree_of-positive, length-le-degree_of, weight_of-bounds}
 use Rattle.ideal_laws.proofs.Factors.{All-back, All-front}
 use Rattle.ideal_laws.proofs.Neighbours.{ended}
 use Rattle.lead_index.specs.declared.lead.Lead.{Lead}
 use Rattle.lead_index.specs.Leads.{IsFree}
+use Rattle.normal_words.proofs.Blocks.{unless-pairs}
 use Rattle.right_modules.specs.Extended.{AreHeld, AreNormal, ending, extended, stands, unless_stands}
 use Rattle.right_modules.specs.Module.{IsModuleWord}
 use Rattle.right_modules.specs.ModuleDimension.{module_words}
-use Rattle.right_modules.proofs.ModuleWords.{IsFree-front, IsModuleWord-push, module_words-has, module_words-says, same_ends}
+use Rattle.right_modules.proofs.ModuleWords.{IsFree-front, IsModuleWord-push, module_words-has, module_words-says}
 use Rattle.right_modules.proofs.Standing.{extended-has, extended-says, unless_stands-has, unless_stands-says}
 
 -- the words that end with each letter in turn
@@ -58,8 +58,7 @@ module _ (weights : List ℕ) (aw : AreWeights weights) (free : ℕ) where
         let l = left x (front_held x s.front s.among) in
         let a = (l.normal.exactly s.front).0 s.among in
         let b = module_words-says weights aw free (d - weight_of weights x) s.front a.0 in
-        let over = All-append (λ y. y < length weights) s.front (x ∷ []) b.1.0
-        (All-cons (λ y. y < length weights) x [] within (All-nil (λ y. y < length weights))) in
+        let over = All-push (λ y. y < length weights) s.front x b.1.0 within in
         let degree : degree_of weights (s.front ++ x ∷ []) ≡ d = omega (arith, degree_of-append weights s.front (x ∷ []), b.1.1, l.degree) in (
           subst (Contains (module_words weights free d)) s.is (module_words-has weights aw free d (s.front ++ x ∷ [])
               (IsModuleWord-push free s.front x b.0 lt) over degree),
@@ -147,10 +146,6 @@ module _ (weights : List ℕ) (aw : AreWeights weights) (free : ℕ) where
         (has_longer g r.front r.last (subst (IsModuleWord free) is mw) (subst (IsOver (length weights)) is over)
         (ap (degree_of weights) (sym is) ∙ e) (subst (IsFree leads) is f))
 
-    one_apart : (b : Bool) (v : List ℕ) → AllPairs Apart (cond b [] (v ∷ []))
-    one_apart true v = AllPairs-nil Apart
-    one_apart false v = AllPairs-cons Apart v [] (All-nil (Apart v)) (AllPairs-nil Apart)
-
     fronts-apart : (x : ℕ) → AllPairs Apart (fronts x)
     fronts-apart x = elim (cases_lt (weight_of weights x - 1) (length held)) [
       | inl lt ↦ (left x lt).normal.apart
@@ -159,11 +154,11 @@ module _ (weights : List ℕ) (aw : AreWeights weights) (free : ℕ) where
 
     extended-apart : (x : ℕ) → AllPairs Apart (extended leads x (fronts x))
     extended-apart x =
-        AllPairs-flat_map (λ u. unless_stands leads (u ++ x ∷ [])) Apart Apart (λ u. one_apart (stands leads (u ++ x ∷ [])) (u ++ x ∷ []))
+        AllPairs-flat_map (λ u. unless_stands leads (u ++ x ∷ [])) Apart Apart (λ u. unless-pairs Apart (stands leads (u ++ x ∷ [])) (u ++ x ∷ []))
         (λ a b u v other m n e.
         let s = unless_stands-says leads (a ++ x ∷ []) u m in
         let t = unless_stands-says leads (b ++ x ∷ []) v n in
-        other (same_ends a b x x (s.1 ∙ e ∙ sym t.1)).0)
+        other (same_from_push a b x x (s.1 ∙ e ∙ sym t.1)).0)
         (fronts x) (fronts-apart x)
 
     ending-apart : (x : ℕ) → AllPairs Apart (ending weights free leads d held x)
@@ -171,7 +166,7 @@ module _ (weights : List ℕ) (aw : AreWeights weights) (free : ℕ) where
       where
         by_tests : (b c : Bool) → AllPairs Apart (cond b (extended leads x (fronts x)) (cond c (unless_stands leads (x ∷ [])) []))
         by_tests true c = extended-apart x
-        by_tests false true = one_apart (stands leads (x ∷ [])) (x ∷ [])
+        by_tests false true = unless-pairs Apart (stands leads (x ∷ [])) (x ∷ [])
         by_tests false false = AllPairs-nil Apart
 
     -- each word of a letter ends with it
@@ -192,7 +187,17 @@ module _ (weights : List ℕ) (aw : AreWeights weights) (free : ℕ) where
           (λ x y u v lt m n e.
           let a = ends_with x u m in
           let b = ends_with y v n in
-          let same = (same_ends a.0 b.0 x y (a.1 ∙ e ∙ sym b.1)).1 in
+          let same = (same_from_push a.0 b.0 x y (a.1 ∙ e ∙ sym b.1)).1 in
           omega (arith, lt, same))
           (range_with_len 0 (length weights)) (range-rising 0 (length weights));
     }
+
+    -- in degrees below 64 no word has 64 letters
+    pub held_short : d ≤ 64 → All (All (λ v. length v < 64)) held
+    held_short room k ds within =
+        let e : d - (k + 1) + k + 1 ≡ d = omega (arith, within, h.count) in
+        let normal = h.each k (d - (k + 1)) within e in
+        subst (All (λ v. length v < 64)) (get_or_default held k [] ds within)
+        (All-from_members (λ v. length v < 64) (get_or held k []) (λ v m.
+        let degree = (module_words-says weights aw free (d - (k + 1)) v ((normal.exactly v).0 m).0).1.1 in
+        omega (arith, room, e, degree, length-le-degree_of weights aw v)))

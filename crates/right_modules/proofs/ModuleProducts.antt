@@ -2,6 +2,7 @@
 use Rattle.std.proofs.Common.{◌≡◌, ◌≢◌, ◌<◌, ◌&&◌, ℕ, Bool, true, false, List, [], ◌∷◌, ◌++◌, length, refl, sym, ap, ◌∙◌, inl, inr, arith, subst, All, filter}
 use Rattle.std.specs.List.{Contains}
 use Rattle.std.proofs.lemmas.List.Elements.{All-contains, All-head, All-map, All-tail, All-weaker}
+use Rattle.std.proofs.lemmas.Bool.{and_from, and_parts}
 use Rattle.words.specs.Words.{AreWeights, degree_of}
 use Rattle.words.proofs.Members.{All-from_members}
 use Rattle.words.proofs.Weights.{degree_of-positive}
@@ -13,7 +14,7 @@ use Rattle.ideal_laws.specs.Laws.{IsRelation, IsSetting}
 use Rattle.ideal_laws.proofs.Products.{listed_product, product_listed, products}
 use Rattle.right_modules.specs.Laws.{IsModuleSetting}
 use Rattle.right_modules.specs.Module.{IsModuleMultiple, IsModuleWord, IsShaped, is_module_word}
-use Rattle.right_modules.proofs.Filters.{and-first, both, in_filter, filter-says}
+use Rattle.right_modules.proofs.Filters.{in_filter, filter-says}
 use Rattle.right_modules.proofs.Shapes.{is_module_word-is, module_sorted, multiple_words}
 
 -- whether all words are module words
@@ -24,13 +25,14 @@ has_module_words free (t ∷ f) = is_module_word free t.word && has_module_words
 has_module_words-is : (free : ℕ) (f : List Term) → All (λ t. IsModuleWord free t.word) f → has_module_words free f ≡ true
 has_module_words-is free [] h = refl
 has_module_words-is free (t ∷ f) h =
-    both _ _ (is_module_word-is free t.word (All-head (λ (s : Term). IsModuleWord free s.word) t f h))
+    and_from _ _ (is_module_word-is free t.word (All-head (λ (s : Term). IsModuleWord free s.word) t f h))
     (has_module_words-is free f (All-tail (λ (s : Term). IsModuleWord free s.word) t f h))
 
 first_passes : (free : ℕ) (f : List Term) → f ≢ [] → has_module_words free f ≡ true → All (λ t. is_module_word free t.word ≡ false) f → ⊥
 first_passes free [] ne e h = ne refl
 first_passes free (t ∷ f) ne e h =
-    (let a : is_module_word free t.word ≡ true = and-first _ _ e in let b = All-head (λ (s : Term). is_module_word free s.word ≡ false) t f h in differ _ a b)
+    (let a : is_module_word free t.word ≡ true = (and_parts _ _ e).0 in
+    let b = All-head (λ (s : Term). is_module_word free s.word ≡ false) t f h in differ _ a b)
   where
     differ : (b : Bool) → b ≡ true → b ≡ false → ⊥
     differ b e f = cc

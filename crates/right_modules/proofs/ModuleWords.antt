@@ -1,8 +1,8 @@
 -- Module words by their last letter.
-use Rattle.std.proofs.Common.{◌≡◌, ◌++◌, ◌<◌, ◌∙◌, ℕ, List, [], ◌∷◌, ap, arith, drop, length, length-append, refl, subst, take}
+use Rattle.std.proofs.Common.{◌≡◌, ◌++◌, ◌<◌, ◌∙◌, ℕ, List, [], ◌∷◌, ap, arith, drop, length, length-append, subst, take}
 use Rattle.std.specs.List.{Contains}
 use Rattle.std.proofs.lemmas.List.{drop-append-le, length-drop, take-append-le}
-use Rattle.std.proofs.lemmas.List.Elements.{All-append, All-cons, All-contains, All-nil}
+use Rattle.std.proofs.lemmas.List.Elements.{All-contains, All-push}
 use Rattle.words.specs.Words.{AreWeights, IsOver, OccursAt, degree_of, words_of_degree}
 use Rattle.words.proofs.Degrees.{listed_word, words_of_degree-says}
 use Rattle.words.proofs.Members.{All-from_members}
@@ -12,17 +12,6 @@ use Rattle.right_modules.specs.Module.{IsModuleWord, is_module_word}
 use Rattle.right_modules.specs.ModuleDimension.{module_words}
 use Rattle.right_modules.proofs.Filters.{filter-says, in_filter}
 use Rattle.right_modules.proofs.Shapes.{is_module_word-is, is_module_word-says}
-
--- two words with a letter behind them are one where the words and the letters are
-pub same_ends : (u v : List ℕ) (x y : ℕ) → u ++ x ∷ [] ≡ v ++ y ∷ [] → (u ≡ v) × (x ≡ y)
-same_ends [] [] x y e = (refl, cc e)
-same_ends [] (b ∷ v) x y e = absurd (omega (arith, ap length e, length-append v (y ∷ [])))
-same_ends (a ∷ u) [] x y e = absurd (omega (arith, ap length e, length-append u (x ∷ [])))
-same_ends (a ∷ u) (b ∷ v) x y e =
-    let first : a ≡ b = cc e in
-    let rest : u ++ x ∷ [] ≡ v ++ y ∷ [] = cc e in
-    let r = same_ends u v x y rest in
-    (ap (λ (w : List ℕ). a ∷ w) r.0 ∙ ap (λ (c : ℕ). c ∷ v) first, r.1)
 
 -- the front of a free word is free
 pub IsFree-front : (leads : List Lead) (u v : List ℕ) → IsFree leads (u ++ v) → IsFree leads u
@@ -37,7 +26,7 @@ IsFree-front leads u v h at = All-from_members (λ l. OccursAt l.word u at → �
 -- a module word with a free letter behind it is one
 pub IsModuleWord-push : (free : ℕ) (u : List ℕ) (x : ℕ) → IsModuleWord free u → x < free → IsModuleWord free (u ++ x ∷ [])
 IsModuleWord-push free [] x h lt = absurd h
-IsModuleWord-push free (g ∷ u) x h lt = (h.0, All-append (λ y. y < free) u (x ∷ []) h.1 (All-cons (λ y. y < free) x [] lt (All-nil (λ y. y < free))))
+IsModuleWord-push free (g ∷ u) x h lt = (h.0, All-push (λ y. y < free) u x h.1 lt)
 
 module _ (weights : List ℕ) (aw : AreWeights weights) (free : ℕ) where
   -- what the module words of a degree are

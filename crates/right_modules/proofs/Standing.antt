@@ -1,16 +1,15 @@
 -- Whether a word of an index stands in a word, and the words in which none does.
-use Rattle.std.proofs.Common.{◌≡◌, ◌++◌, ◌<◌, ◌∙◌, ℕ, zero, suc, Bool, true, false, cond, List, [], ◌∷◌, ap, arith, get_or, inl}
-use Rattle.std.proofs.Common.{inr, length, length-append, refl, subst, sym, take}
+use Rattle.std.proofs.Common.{◌≡◌, ◌++◌, ◌∙◌, ℕ, zero, suc, Bool, true, false, cond, List, [], ◌∷◌, ap, arith, inl}
+use Rattle.std.proofs.Common.{inr, subst, sym}
 use Rattle.std.specs.List.{Contains}
 use Rattle.std.proofs.lemmas.Bool.{cases_Bool}
 use Rattle.std.proofs.lemmas.List.Elements.{All-contains}
-use Rattle.std.proofs.lemmas.List.Folds.{length-flat_map-take}
 use Rattle.words.specs.Words.{OccursAt}
-use Rattle.words.proofs.Members.{All-from_members, Contains-cases, Contains-first, Contains-flat_map, Contains-flat_map_cases, Contains-none}
+use Rattle.words.proofs.Members.{All-from_members, Contains-first, Contains-flat_map, Contains-flat_map_cases}
 use Rattle.lead_index.specs.declared.lead.Lead.{Lead}
 use Rattle.lead_index.specs.Leads.{IsFirstReducer, IsFree}
 use Rattle.normal_words.specs.Block.{begins}
-use Rattle.normal_words.proofs.Blocks.{IsFree-cons, IsFree-tail, begins_free, free_of_begins}
+use Rattle.normal_words.proofs.Blocks.{IsFree-cons, IsFree-tail, begins_free, free_of_begins, unless-says}
 use Rattle.right_modules.specs.Extended.{extended, stands, unless_stands}
 
 -- in a free word no word of the index stands
@@ -35,23 +34,16 @@ free_from_stands leads (x ∷ w) e = elim (cases_Bool (begins leads (x ∷ w))) 
 pub unless_stands-free : (leads : List Lead) (w : List ℕ) → IsFree leads w → unless_stands leads w ≡ w ∷ []
 unless_stands-free leads w h = ap (λ (b : Bool). cond b [] (w ∷ [])) (stands-free leads w h)
 
--- a word with a reducer is not
-pub unless_stands-met : (leads : List Lead) (w : List ℕ) (at element : ℕ) → IsFirstReducer leads w at element → unless_stands leads w ≡ []
-unless_stands-met leads w at element r = elim (cases_Bool (stands leads w)) [
-  | inl is ↦ ap (λ (b : Bool). cond b [] (w ∷ [])) is
+-- in a word with a reducer one stands
+pub stands-met : (leads : List Lead) (w : List ℕ) (at element : ℕ) → IsFirstReducer leads w at element → stands leads w ≡ true
+stands-met leads w at element r = elim (cases_Bool (stands leads w)) [
+  | inl is ↦ is
   | inr other ↦ absurd (All-contains (λ l. OccursAt l.word w at → ⊥) leads r.starts.lead (free_from_stands leads w other at) r.starts.among r.starts.here)
-]
-
-one_cases : (b : Bool) (v w : List ℕ) → Contains (cond b [] (v ∷ [])) w → (b ≡ false) × (v ≡ w)
-one_cases true v w m = absurd (Contains-none w m)
-one_cases false v w m = elim (Contains-cases v [] w m) [
-  | inl e ↦ (refl, e)
-  | inr n ↦ absurd (Contains-none w n)
 ]
 
 -- what is kept is free
 pub unless_stands-says : (leads : List Lead) (v w : List ℕ) → Contains (unless_stands leads v) w → IsFree leads v × (v ≡ w)
-unless_stands-says leads v w m = let r = one_cases (stands leads v) v w m in (free_from_stands leads v r.0, r.1)
+unless_stands-says leads v w m = let r = unless-says (stands leads v) v w m in (free_from_stands leads v r.0, r.1)
 
 -- what is free is kept
 pub unless_stands-has : (leads : List Lead) (w : List ℕ) → IsFree leads w → Contains (unless_stands leads w) w
@@ -76,20 +68,3 @@ module _ (leads : List Lead) (x : ℕ) where
   pub extended-has : (fronts : List (List ℕ)) (v : List ℕ) → Contains fronts v → IsFree leads (v ++ x ∷ []) → Contains (extended leads x fronts) (v ++ x ∷ [])
   extended-has fronts v m h =
       Contains-flat_map (λ u. unless_stands leads (u ++ x ∷ [])) fronts v (v ++ x ∷ []) m (unless_stands-has leads (v ++ x ∷ []) h)
-
-  -- all extended words are no fewer than those so far with one more
-  pub extended-longer : (old words fronts : List (List ℕ)) (i most : ℕ) (v w : List ℕ) → i < length fronts → v ≡ get_or fronts i v → w ≡ v ++ x ∷ []
-      → words ≡ old ++ extended leads x (take i fronts) → most < length (words ++ unless_stands leads w) → most < length (old ++ extended leads x fronts)
-  extended-longer old words fronts i most v w lt e is so_far more =
-      let one : length (unless_stands leads w) ≡ length (unless_stands leads (get_or fronts i v ++ x ∷ [])) =
-      ap (λ (u : List ℕ). length (unless_stands leads u)) (is ∙ ap (λ (u : List ℕ). u ++ x ∷ []) e) in
-      omega (
-        arith,
-        ap length so_far,
-        length-append old (extended leads x (take i fronts)),
-        length-append old (extended leads x fronts),
-        length-append words (unless_stands leads w),
-        length-flat_map-take (λ u. unless_stands leads (u ++ x ∷ [])) fronts i v lt,
-        one,
-        more,
-      )

@@ -8,7 +8,7 @@ use Rattle.ideal_laws.specs.Ideal.{ideal_of}
 use Rattle.ideal_laws.specs.declared.presentation.Presentation.{Presentation}
 use Rattle.lead_index.specs.declared.lead.Lead.{Lead}
 use Rattle.lead_index.specs.Leads.{IsFree}
-use Rattle.normal_words.specs.Block.{begins}
+use Rattle.normal_words.specs.Block.{begins, unless}
 use Rattle.right_modules.specs.Answered.{free_letters}
 use Rattle.right_modules.specs.Laws.{IsModuleSetting}
 use Rattle.right_modules.specs.Module.{IsModuleLead}
@@ -40,7 +40,7 @@ stands leads (x ∷ w) = cond (begins leads (x ∷ w)) true (stands leads w)
 
 -- the word, where no word of the index stands in it
 abbrev pub unless_stands : List Lead → List ℕ → List (List ℕ)
-unless_stands leads w = cond (stands leads w) [] (w ∷ [])
+unless_stands leads w = unless (stands leads w) w
 
 -- each of the words with the letter behind it, but for those in which a word of the index stands
 abbrev pub extended : List Lead → ℕ → List (List ℕ) → List (List ℕ)

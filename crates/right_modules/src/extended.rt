@@ -1,9 +1,9 @@
 ghost use Rattle.std.specs.Prelude.{◌≡◌, ◌-◌, ◌++◌, ◌<◌, ◌≤◌, ◌∷◌, List, [], ℕ, All, IfOk, IsErrOf, OnOk, length};
 ghost use Rattle.std.specs.Prelude.{slice_index_or};
-ghost use Rattle.right_modules.specs.Extended.{AreHeld, AreNormal, ending, extended, unless_stands};
+ghost use Rattle.right_modules.specs.Extended.{AreHeld, AreNormal, ending, extended, stands};
 
 use lead_index::LeadIndex;
-use normal_words::{NormalFault, push_within};
+use normal_words::{NormalFault, push_unless};
 use std::alloc::Global;
 use words::{Alphabet, Items, NoMemory, Word};
 
@@ -76,7 +76,7 @@ fn push_ending(
     if u32::from(weight) != d {
         return Ok(());
     }
-    push_word(alloc, &[letter], index, most, words)
+    push_unless(alloc, stands(index, &[letter]), &[letter], most, words)
 }
 
 /// The words that a letter of this weight may follow.
@@ -110,7 +110,8 @@ fn push_extended(
     let mut letters = Vec::new(alloc);
     for front in fronts {
         spell(&mut letters, front.letters(), letter)?;
-        push_word(alloc, letters.as_slice(), index, most, words)?;
+        let met = stands(index, letters.as_slice());
+        push_unless(alloc, met, letters.as_slice(), most, words)?;
     }
     Ok(())
 }
@@ -125,24 +126,10 @@ fn spell(letters: &mut Vec<u8>, front: &[u8], letter: u8) -> Result<(), NoMemory
     Ok(())
 }
 
-/// Appends a word, unless a word of the index stands in it.
-fn push_word(
-    alloc: Global,
-    letters: &[u8],
-    index: &LeadIndex,
-    most: u32,
-    words: &mut Vec<Word>,
-) -> Result<(), NormalFault>
-    requires room { length letters.now ≤ 64 }
-    requires few { length words.old.items ≤ most }
-
-    ensures word { OnOk result (words.new.items ≡ words.old.items ++ unless_stands index.now letters.now) }
-    ensures within { OnOk result (length words.new.items ≤ most) }
-    ensures many { IsErrOf result NormalFault.TooMany →
-        most < length (words.old.items ++ unless_stands index.now letters.now) }
+/// Whether a word of the index stands in the word.
+fn stands(index: &LeadIndex, letters: &[u8]) -> bool
+    requires { length letters.now ≤ 64 }
+    ensures { result ≡ stands index.now letters.now }
 {
-    match index.first_reducer(letters) {
-        Some(_) => Ok(()),
-        None => push_within(alloc, letters, most, words),
-    }
+    index.first_reducer(letters).is_some()
 }

@@ -1,9 +1,11 @@
 use Rattle.std.proofs.Common.{◌≡◌, ◌+◌, ◌-◌, ℕ, Err, [], List, length, arith, subst, sym, ap}
 use Rattle.std.specs.List.{Contains}
 use Rattle.words.proofs.Faults.{same_fault}
+use Rattle.ideal_laws.specs.Engine.{Elements}
 use Rattle.anick_chains.specs.declared.tally.ChainCount.{ChainCount}
 use Rattle.anick_chains.specs.declared.tally.Tally.{Tally}
 use Rattle.anick_chains.specs.BasisTips.{leads_of}
+use Rattle.anick_chains.specs.Listing.{IsNumberOf}
 use Rattle.anick_chains.specs.Tallies.{AreCounts, AreTalliedOf, count_total}
 use Rattle.anick_chains.proofs.FirstMany.{few_more, first_many}
 use Rattle.anick_chains.proofs.MinimalChains.{listed_minimal}
@@ -28,19 +30,18 @@ loop-degree-init c =
 pub loop-degree-preserved : goal.loop-degree-preserved
 loop-degree-preserved c =
     let b = c.args.basis.now in
-    let kept = c.done-done.ensures.kept in
     let d = c.loop-degree.degree in
-    let T = Contains (leads_of b.elements) in
     let total = c.count_degree.new.total in
     let tallies = c.count_degree.new.tallies.items in
     let counts = c.count_degree.new.counts.items in
+    let tallied : AreTalliedOf b d total tallies counts =
+    subst (λ (x : Elements). AreTalliedOf x d total tallies counts) c.in_ok-tips.ensures.basis c.in_ok-count_degree.ensures.tallied in
     let same : d ≡ d + 1 - 1 = omega arith in
     record {
-      tallied = subst (λ (n : ℕ). AreTalliedOf b n total tallies counts) same c.in_ok-count_degree.ensures.tallied;
+      tallied = subst (λ (n : ℕ). AreTalliedOf b n total tallies counts) same tallied;
       within = c.in_ok-count_degree.ensures.within;
-      before = few_more T (length b.weights) b.weights c.args.most d total c.loop-degree.invariant.before
-          (tallied_number b kept c.requires.factor_free d total tallies counts c.in_ok-count_degree.ensures.tallied)
-          c.in_ok-count_degree.ensures.within;
+      before = few_more (Contains (leads_of b.elements)) (length b.weights) b.weights c.args.most d total c.loop-degree.invariant.before
+          (tallied_number b c.done-done.ensures.kept c.requires.factor_free d total tallies counts tallied) c.in_ok-count_degree.ensures.within;
     }
 
 pub returns-in_err-count_degree-clause-many : goal.returns-in_err-count_degree-clause-many
@@ -49,7 +50,8 @@ returns-in_err-count_degree-clause-many c = λ degree e.
     (ap Err (same_fault c.from_residual-in_err-count_degree.result _ _ c.from_residual-in_err-count_degree.ensures.1 e)) in
     let b = c.args.basis.now in
     first_many (Contains (leads_of b.elements)) (length b.weights) b.weights c.args.most c.args.bound c.loop-degree.degree degree
-    c.loop-degree.invariant.before (omega (arith, c.loop-degree-test.true)) m.0 m.1 m.2 m.3
+    c.loop-degree.invariant.before (omega (arith, c.loop-degree-test.true)) m.0 m.1
+    (subst (λ (x : Elements). IsNumberOf x c.loop-degree.degree m.1) c.in_ok-tips.ensures.basis m.2) m.3
 
 pub returns-clause-counted : goal.returns-clause-counted
 returns-clause-counted c =

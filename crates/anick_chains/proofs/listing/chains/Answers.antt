@@ -1,8 +1,10 @@
 use Rattle.std.proofs.Common.{◌≡◌, ◌+◌, ◌-◌, ℕ, All, Err, [], length, arith, subst, sym, ap}
 use Rattle.std.specs.List.{Contains}
 use Rattle.words.proofs.Faults.{same_fault}
+use Rattle.ideal_laws.specs.Engine.{Elements}
 use Rattle.anick_chains.specs.BasisTips.{leads_of}
 use Rattle.anick_chains.specs.Listed.{AreListedOf}
+use Rattle.anick_chains.specs.Listing.{IsNumberOf}
 use Rattle.words.specs.Words.{IsOver}
 use Rattle.anick_chains.proofs.FirstMany.{few_more, first_many}
 use Rattle.anick_chains.proofs.Onward.{listed_over}
@@ -27,14 +29,14 @@ loop-degree-preserved c =
     let b = c.args.basis.now in
     let d = c.loop-degree.degree in
     let found = c.push_degree.new.found.items in
-    let T = Contains (leads_of b.elements) in
+    let listed : AreListedOf b d found =
+    subst (λ (x : Elements). AreListedOf x d found) c.in_ok-tips.ensures.basis c.in_ok-push_degree.ensures.listed in
     let same : d ≡ d + 1 - 1 = omega arith in
     record {
-      listed = subst (λ (n : ℕ). AreListedOf b n found) same c.in_ok-push_degree.ensures.listed;
+      listed = subst (λ (n : ℕ). AreListedOf b n found) same listed;
       within = c.in_ok-push_degree.ensures.within;
       before = few_more (Contains (leads_of b.elements)) (length b.weights) b.weights c.args.most d (length found) c.loop-degree.invariant.before
-          (number_listed b c.done-done.ensures.kept c.requires.factor_free d found c.in_ok-push_degree.ensures.listed)
-          c.in_ok-push_degree.ensures.within;
+          (number_listed b c.done-done.ensures.kept c.requires.factor_free d found listed) c.in_ok-push_degree.ensures.within;
     }
 
 pub returns-in_err-push_degree-clause-many : goal.returns-in_err-push_degree-clause-many
@@ -43,7 +45,8 @@ returns-in_err-push_degree-clause-many c = λ degree e.
     (ap Err (same_fault c.from_residual-in_err-push_degree.result _ _ c.from_residual-in_err-push_degree.ensures.1 e)) in
     let b = c.args.basis.now in
     first_many (Contains (leads_of b.elements)) (length b.weights) b.weights c.args.most c.args.bound c.loop-degree.degree degree
-    c.loop-degree.invariant.before (omega (arith, c.loop-degree-test.true)) m.0 m.1 m.2 m.3
+    c.loop-degree.invariant.before (omega (arith, c.loop-degree-test.true)) m.0 m.1
+    (subst (λ (x : Elements). IsNumberOf x c.loop-degree.degree m.1) c.in_ok-tips.ensures.basis m.2) m.3
 
 pub returns-clause-listed : goal.returns-clause-listed
 returns-clause-listed c =

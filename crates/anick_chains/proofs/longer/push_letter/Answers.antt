@@ -13,7 +13,7 @@ pub returns-in-Some : goal.returns-in-Some
 returns-in-Some c =
     let b = c.args.tips.now.basis.now in
     let none = free_letter-tip b.weights b.elements c.args.degree c.args.letter
-    (stands-starts b c.requires.tips.kept c.args.tips.now.index.now c.requires.tips.indexed (c.args.letter ∷ []) c.in-Some.field-0.at
+    (stands-starts b c.requires.tips.kept c.args.tips.now.index c.requires.tips.indexed (c.args.letter ∷ []) c.in-Some.field-0.at
     c.in-Some.field-0.element c.in-Some.ensures.place.starts) in
     sym (ap (λ (rs : List (List ℕ)). c.args.found.now.items ++ rs) none ∙ append-nil c.args.found.now.items)
 
@@ -21,5 +21,5 @@ pub returns-in-None : goal.returns-in-None
 returns-in-None c =
     let b = c.args.tips.now.basis.now in
     let one = free_letter-free b.weights b.elements c.args.degree c.args.letter (omega (arith, c.if-from-degree.false, c.from.ensures, c.weight.ensures.value))
-    (stands-index b c.requires.tips.kept c.args.tips.now.index.now c.requires.tips.indexed (c.args.letter ∷ []) c.in-None.ensures.place) in
+    (stands-index b c.requires.tips.kept c.args.tips.now.index c.requires.tips.indexed (c.args.letter ∷ []) c.in-None.ensures.place) in
     subst (λ (rs : List (List ℕ)). OnOk c.push_word.result (c.push_word.new.found.items ≡ c.args.found.now.items ++ rs)) (sym one) c.push_word.ensures

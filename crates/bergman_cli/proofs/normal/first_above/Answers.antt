@@ -11,17 +11,17 @@ degree_above n bound degree is above = omega (arith, is, above)
 not_above : (n bound degree : ℕ) → n ≡ min degree 65 → bound ≤ 64 → n ≤ bound → bound < degree → ⊥
 not_above n bound degree is few below above = omega (arith, is, few, below, above)
 
-pub returns-then-degree_of-bound : goal.returns-then-degree_of-bound
-returns-then-degree_of-bound c =
+pub returns-then-lead_degree_within-bound : goal.returns-then-lead_degree_within-bound
+returns-then-lead_degree_within-bound c =
     let weights = c.args.alphabet.now.weights in
     let bound = c.args.bound in
     let f = c.index-questions-place.result in
-    let above : bound < c.degree_of.result = search rules in
+    let above : bound < c.lead_degree_within.result = search rules in
     record {
       within = c.loop-place-test.true;
       here = subst (IsAbove weights bound) (c.index-questions-place.is
           ∙ get_or_default c.args.questions.now c.loop-place.place f [] c.loop-place-test.true)
-          (degree_above c.degree_of.result bound (lead_degree weights f) c.degree_of.ensures above);
+          (degree_above c.lead_degree_within.result bound (lead_degree weights f) c.lead_degree_within.ensures above);
       before = c.loop-place.invariant;
     }
 
@@ -32,7 +32,7 @@ loop-place-preserved c =
     let questions = c.args.questions.now in
     let place = c.loop-place.place in
     let f = c.index-questions-place.result in
-    let below : c.degree_of.result ≤ bound = search rules in
+    let below : c.lead_degree_within.result ≤ bound = search rules in
     none_next (IsAbove weights bound) questions place f (c.index-questions-place.is
     ∙ get_or_default questions place f [] c.loop-place-test.true) c.loop-place.invariant
-    (not_above c.degree_of.result bound (lead_degree weights f) c.degree_of.ensures c.requires.bound below)
+    (not_above c.lead_degree_within.result bound (lead_degree weights f) c.lead_degree_within.ensures c.requires.bound below)

@@ -35,7 +35,7 @@ returns-in-Err-TooMany-clause-end g c =
     (c.in-Err-TooMany.ensures.too_many (ap Err c.in-Err-TooMany.field-0-is)) in
     let small = small_degree (lead_degree weights (slice_index_or questions place [])) c.args.basis.now.done (lead_degree weights f)
     (ap (lead_degree weights) (sym at)) (c.requires.within place c.loop-place-test.true) c.done-done.ensures.kept.degrees in
-    let degree : c.degree_of.result ≡ lead_degree weights f = omega (arith, c.degree_of.ensures, small) in
+    let degree : c.lead_degree_within.result ≡ lead_degree weights f = omega (arith, c.lead_degree_within.ensures, small) in
     let value : c.from.result ≡ most_triples = omega (arith, c.from.ensures) in (
       written.0,
       inl (

@@ -13,4 +13,4 @@ lead_over names (t ∷ f) w e h = let is : t.word ≡ w = cc e in subst (IsOver 
 pub degree_within-requires-clause-letters : goal.degree_within-requires-clause-letters
 degree_within-requires-clause-letters c =
     let names = length c.args.alphabet.now.weights in
-    subst (IsOver names) (sym c.letters.ensures) (lead_over names c.args.relation.now c.in-Some.lead.now c.in-Some.ensures c.requires.letters)
+    subst (IsOver names) (sym c.letters.ensures) (lead_over names c.args.element.now c.in-Some.lead.now c.in-Some.ensures c.requires.letters)

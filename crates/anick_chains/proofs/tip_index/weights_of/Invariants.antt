@@ -1,5 +1,5 @@
 use Rattle.std.proofs.Common.{◌≡◌, take}
-use Rattle.anick_chains.proofs.listing.weights_of.Given as goal
+use Rattle.anick_chains.proofs.tip_index.weights_of.Given as goal
 
 abbrev pub invariant-loop-letter : goal.invariant-loop-letter
 invariant-loop-letter l = l.weights.items ≡ take l.letter l.basis.weights

@@ -1,9 +1,0 @@
-use Rattle.std.proofs.Common.{length, subst, sym}
-use Rattle.words.specs.Words.{IsOver}
-use Rattle.degree_loop.proofs.Listing.{lead_over}
-use Rattle.bergman_cli.proofs.normal.degree_of.Goals as goal
-
-pub degree_within-requires-clause-letters : goal.degree_within-requires-clause-letters
-degree_within-requires-clause-letters c =
-    let names = length c.args.alphabet.now.weights in
-    subst (IsOver names) (sym c.letters.ensures) (lead_over names c.args.question.now c.in-Some.lead.now c.in-Some.ensures c.requires)
