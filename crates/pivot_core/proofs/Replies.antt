@@ -62,20 +62,19 @@ told_by problem v (phase.Reading row column holder at) old t e = subst (λ (u : 
 told_by problem v phase.Ended old t e = absurd (none_not_some t e)
 
 module _ (problem : Problem) (crew : ℕ) (setting : IsSetting problem crew) where
-  calling_of : (s t : State) (h : ClaimedPivots problem crew s) (k : IsTaken problem crew s t) →
-      IsCalling problem crew s t k.seat k.sight k.spot k.word k.change
-  calling_of s t h k = calling problem crew s t k.seat k.sight k.spot k.word k.change h.ranges (held_kept problem crew setting s t h k)
+  calling_of : (s t : State) (h : ClaimedPivots problem crew s) (k : IsTaken problem crew s t) → IsCalling k.change
+  calling_of s t h k = calling k.change h.ranges (held_kept problem crew setting s t h k)
       h.published_prefix (h.calls_and_counts.unclaimed k.seat k.change.below) k.move
 
   -- clocks do not fall
   clocks_rise : (s : State) (e : Event) → ClaimedPivots problem crew s → (i : ℕ) → i < crew →
       (view_at problem s i).clock ≤ (view_at problem (after_event problem s e) i).clock
   clocks_rise s e h i lt = taken problem crew s e h.ranges (λ t. (view_at problem s i).clock ≤ (view_at problem t i).clock) (omega arith)
-      (λ t k. each_view problem crew s t k.seat k.sight k.spot k.word k.change (λ j u. (view_at problem s j).clock ≤ u.clock)
+      (λ t k. each_view k.change (λ j u. (view_at problem s j).clock ≤ u.clock)
       (own_clock s t h k (calling_of s t h k)) (λ j lj other. omega arith) i lt)
     where
       own_clock : (s t : State) (h : ClaimedPivots problem crew s) (k : IsTaken problem crew s t) →
-          IsCalling problem crew s t k.seat k.sight k.spot k.word k.change → (view_at problem s k.seat).clock ≤ k.sight.clock
+          IsCalling k.change → (view_at problem s k.seat).clock ≤ k.sight.clock
       own_clock s t h k (silent same le) = le
       own_clock s t h k (called c n) = omega (arith, n.later, n.clock)
 
@@ -89,7 +88,7 @@ module _ (problem : Problem) (crew : ℕ) (setting : IsSetting problem crew) whe
 
   -- a call has a stamp above the clock
   module _ (s t : State) (h : ClaimedPivots problem crew s) (taken_here : IsTaken problem crew s t) where
-    above_clock : IsCalling problem crew s t taken_here.seat taken_here.sight taken_here.spot taken_here.word taken_here.change → (k : Call)
+    above_clock : IsCalling taken_here.change → (k : Call)
         → taken_here.sight.calls ≡ (view_at problem s taken_here.seat).calls ++ k ∷ [] → (view_at problem s taken_here.seat).clock < k.stamp
     above_clock (silent same le) k more = absurd (omega (
       arith,
