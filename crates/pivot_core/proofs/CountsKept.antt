@@ -1,7 +1,7 @@
 -- Calls and counts: every move keeps what is said of all calls together.
-use Rattle.std.proofs.Common.{◌≡◌, ◌≢◌, inl, inr, ℕ, ◌+◌, ◌<◌, ◌≤◌, All, List, [], ◌∷◌, ◌++◌, length, max, get_or, sym, ap, ◌∙◌, arith, subst}
+use Rattle.std.proofs.Common.{◌≡◌, ◌≢◌, inl, inr, ℕ, ◌+◌, ◌<◌, ◌≤◌, All, List, [], ◌∷◌, ◌++◌, length, max, get_or, sym, ap, ◌∙◌, arith, subst, refl}
 use Rattle.std.specs.List.{sum_by}
-use Rattle.std.proofs.lemmas.Bool.{cases_eq}
+use Rattle.std.proofs.lemmas.Bool.{cases_eq, ne_eqb, eq-eqb}
 use Rattle.std.proofs.lemmas.List.{length-append}
 use Rattle.ideal_laws.specs.declared.account.Answer.TheVariants as answer
 use Rattle.ideal_laws.specs.declared.account.Call.{Call}
@@ -15,7 +15,7 @@ use Rattle.pivot_core.specs.Calls.{IsCall, IsUnclaimed, call_count, is_won_at, w
 use Rattle.pivot_core.proofs.CallLists.{sum_by-one_more}
 use Rattle.pivot_core.proofs.CallsKept.{IsCalling, call_held, called, silent}
 use Rattle.pivot_core.proofs.Changes.{IsChange, numbers_at, word_met}
-use Rattle.pivot_core.proofs.Counts.{differ_tested, one_if, same_tested, won_count-free}
+use Rattle.pivot_core.proofs.Counts.{one_if, won_count-free}
 use Rattle.pivot_core.proofs.Effects.{claims_cases, held_before, won_elsewhere, won_free}
 use Rattle.pivot_core.proofs.Moves.{IsMove, IsSettling, IsWonClaim, given_up, goes_on, draws, ends, looks_free, looks_held, puts, wins, loses}
 use Rattle.pivot_core.proofs.Moves.{reads_more, reads_last}
@@ -58,7 +58,7 @@ module _ {problem : Problem} {crew : ℕ} {s t : State} {seat : ℕ} {w : Sight}
         arith,
         one_more_won d (record { seat = v.seat; stamp = v.clock + 1; column = m.column; row = m.row; answer = answer.Won })
             m.later.calls,
-        ap one_if (differ_tested m.column d other),
+        ap one_if (ne_eqb m.column d other),
       )
   won_as_before (loses m) d held =
       omega (
@@ -80,7 +80,7 @@ module _ {problem : Problem} {crew : ℕ} {s t : State} {seat : ℕ} {w : Sight}
         omega (
           arith,
           one_more_won m.column (record { seat = v.seat; stamp = v.clock + 1; column = m.column; row = m.row; answer = answer.Won }) m.later.calls,
-          ap one_if (same_tested m.column),
+          ap one_if (eq-eqb m.column m.column refl),
           won_count-free problem crew s ranges each m.column (won_free c m),
         )
 

@@ -1,6 +1,7 @@
 -- Held rows, place by place and in spans.
-use Rattle.std.proofs.Common.{◌≡◌, ℕ, ◌<◌, ◌≤◌, ◌==◌, List, Option, Some, ltb, refl, sym, arith, subst, get_or}
-use Rattle.std.proofs.lemmas.Bool.{eqb-true, eqb-false, ltb-true, ltb-false}
+use Rattle.std.proofs.Common.{◌≡◌, ℕ, ◌<◌, ◌≤◌, ◌==◌, List, Option, Some, refl, sym, arith, subst, get_or, ◌∙◌}
+use Rattle.std.proofs.lemmas.Option.{same_Some, none-some}
+use Rattle.std.proofs.lemmas.Bool.{cond_both, cond-true, cond-false, lt-ltb, le-ltb, ne_eqb, eqb-false}
 use Rattle.std.proofs.lemmas.List.FromFn.{get_or-map-range_with_len}
 use Rattle.field_table.specs.Residues.{IsFieldModulus}
 use Rattle.linear_algebra.specs.Fields.{Field}
@@ -15,36 +16,27 @@ use Rattle.pivot_core.specs.Words.{row_word}
 use Rattle.pivot_core.specs.Runs.{State, IsHeld, claim_at, held_row, held_rows, holder_of, holders, values, word_at}
 use Rattle.pivot_core.specs.Rule.{HeldInSpan}
 use Rattle.pivot_core.proofs.Effects.{KeepsHeld, held_after, held_row_after}
-use Rattle.pivot_core.proofs.Table.{by_bool, none_not_some, same_some}
 
 pub held_row-at : (problem : Problem) (s : State) (c j : ℕ) → j < problem.m → get_or (held_row problem s c) j 0 ≡ values problem s c j
 held_row-at problem s c j lt = get_or-map-range_with_len (values problem s c) 0 problem.m j j 0 lt (omega arith)
 
 -- a held row is 0 before its column, and from there on has the holder's row words
 pub values-before : (problem : Problem) (s : State) (c j : ℕ) → j < c → values problem s c j ≡ 0
-values-before problem s c j lt =
-    by_bool (λ (k : ℕ). k ≡ 0) (claim_at problem s c == 0) _ _ (λ on. refl)
-    (λ off. by_bool (λ (k : ℕ). k ≡ 0) (ltb j c) _ _ (λ on. refl) (λ off. absurd (omega (arith, lt, ltb-false j c off))))
+values-before problem s c j lt = cond_both (claim_at problem s c == 0) _ _ (λ (k : ℕ). k ≡ 0) (λ on. refl) (λ off. cond-true _ _ _ (lt-ltb j c lt))
 
 pub values-from : (problem : Problem) (s : State) (c j : ℕ) → IsHeld problem s c → c ≤ j →
     values problem s c j ≡ word_at problem s (row_word (holder_of problem s c) j)
-values-from problem s c j h le =
-    by_bool (λ (k : ℕ). k ≡ word_at problem s (row_word (holder_of problem s c) j)) (claim_at problem s c == 0) _ _
-    (λ on. absurd (h.some (eqb-true (claim_at problem s c) 0 on)))
-    (λ off. by_bool (λ (k : ℕ). k ≡ word_at problem s (row_word (holder_of problem s c) j)) (ltb j c) _ _
-    (λ on. absurd (omega (arith, le, ltb-true j c on))) (λ off. refl))
+values-from problem s c j h le = cond-false _ _ _ (ne_eqb (claim_at problem s c) 0 h.some) ∙ cond-false _ _ _ (le-ltb j c le)
 
 -- a column has a holder where it is held
 pub holders-held : (problem : Problem) (s : State) (c : ℕ) → IsHeld problem s c → holders problem s c ≡ Some (holder_of problem s c)
-holders-held problem s c h =
-    by_bool (λ (o : Option ℕ). o ≡ Some (holder_of problem s c)) (claim_at problem s c == 0) _ _
-    (λ on. absurd (h.some (eqb-true (claim_at problem s c) 0 on))) (λ off. refl)
+holders-held problem s c h = cond-false _ _ _ (ne_eqb (claim_at problem s c) 0 h.some)
 
 pub held_holders : (problem : Problem) (s : State) (c r : ℕ) → c < problem.m → holders problem s c ≡ Some r → IsHeld problem s c × (holder_of problem s c ≡ r)
 held_holders problem s c r lt =
-    by_bool (λ (o : Option ℕ). o ≡ Some r → IsHeld problem s c × (holder_of problem s c ≡ r)) (claim_at problem s c == 0) _ _
-    (λ on e. absurd (none_not_some r e))
-    (λ off e. (record { below = lt; some = eqb-false (claim_at problem s c) 0 off }, same_some (holder_of problem s c) r e))
+    cond_both (claim_at problem s c == 0) _ _ (λ (o : Option ℕ). o ≡ Some r → IsHeld problem s c × (holder_of problem s c ≡ r))
+    (λ on e. absurd (none-some r e))
+    (λ off e. (record { below = lt; some = eqb-false (claim_at problem s c) 0 off }, same_Some (holder_of problem s c) r e))
 
 module _ (problem : Problem) (modulus : IsFieldModulus problem.modulus) where
   abbrev pub Kp : Field

@@ -1,5 +1,6 @@
 -- What a step tells a worker, and the worker after it.
 use Rattle.std.proofs.Common.{◌≡◌, ◌≢◌, true, ℕ, ◌+◌, ◌<◌, ◌≤◌, List, Vec, Global, [], ◌∷◌, ◌++◌, Some, length, min, get_or, refl, sym, ap, ◌∙◌, arith, subst}
+use Rattle.std.proofs.lemmas.Option.{same_Some}
 use Rattle.std.specs.Vec.{vec_capacity}
 use Rattle.atomic_table.specs.Table.{Me}
 use Rattle.atomic_table.specs.declared.shared.Seat.{Seat}
@@ -19,7 +20,7 @@ use Rattle.pivot_core.specs.Meets.{IsClaiming, MayMeet}
 use Rattle.pivot_core.proofs.CallRoom.{room_for_call}
 use Rattle.pivot_core.proofs.Kept.{claimed_pivots}
 use Rattle.pivot_core.proofs.Moves.{seat_and_step}
-use Rattle.pivot_core.proofs.Table.{move_of, same_some}
+use Rattle.pivot_core.proofs.Table.{move_of}
 use Rattle.pivot_table.specs.declared.share.Hand.{Hand}
 use Rattle.pivot_table.specs.declared.share.Share.{Share}
 use Rattle.pivot_table.specs.declared.worker.Worker.TheInside as worker
@@ -158,7 +159,7 @@ module _ {race : race.Inside} {w : worker.Inside} (turn : IsTurn race w) where
           let gives : met p (sight_of w.view) old ≡ Some (record { sight = sight_of after; word = made.word; reply = r }) =
           subst (λ (q : Problem). met q (sight_of w.view) old ≡ Some (record { sight = sight_of after; word = made.word; reply = r }))
           (sym turn.problem_is) made.gives in
-          let same = ap (λ (z : Stepped). z.sight) (same_some t.stepped.stepped (record { sight = sight_of after; word = made.word; reply = r })
+          let same = ap (λ (z : Stepped). z.sight) (same_Some t.stepped.stepped (record { sight = sight_of after; word = made.word; reply = r })
           (sym t.stepped.gives ∙ gives)) in
           t.stepped.after ∙ λ i. hand (same i) (sym row i)
 
