@@ -1,5 +1,5 @@
 -- Calls and counts: every move keeps what is said of each view's own calls.
-use Rattle.std.proofs.Common.{◌≡◌, ◌≢◌, ℕ, ◌+◌, ◌<◌, ◌≤◌, All, AllPairs, [], ◌∷◌, ◌++◌, max, refl, sym, ap, ◌∙◌, arith, subst}
+use Rattle.std.proofs.Common.{◌≡◌, ◌≢◌, ℕ, ◌<◌, ◌≤◌, All, AllPairs, [], ◌∷◌, ◌++◌, refl, sym, ap, ◌∙◌, arith, subst}
 use Rattle.std.proofs.lemmas.List.Elements.{All-push, All-weaker}
 use Rattle.std.proofs.lemmas.List.Quantifiers.{all_pairs_push}
 use Rattle.ideal_laws.specs.declared.account.Answer.{Answer}
@@ -10,6 +10,7 @@ use Rattle.pivot_core.specs.declared.view.Phase.{Phase}
 use Rattle.pivot_core.specs.declared.view.Phase.TheVariants as phase
 use Rattle.pivot_core.specs.declared.sight.Sight.{Sight}
 use Rattle.pivot_core.specs.Words.{Spot, row_in, stamp_in}
+use Rattle.pivot_core.specs.Steps.{lost_call, won_call}
 use Rattle.pivot_core.specs.Runs.{State, IsHeld, claim_at, view_at, word_at}
 use Rattle.pivot_core.specs.Rule.{PublishedPrefix, Ranges}
 use Rattle.pivot_core.specs.Calls.{IsAnswered, IsCall, IsUnclaimed}
@@ -90,25 +91,19 @@ module _ {problem : Problem} {crew : ℕ} {s t : State} {seat : ℕ} {w : Sight}
       column = subst (λ (f : Phase). IsUnclaimed f v.calls) was unclaimed;
     })
 
-    won_call : IsWonClaim problem v old w a x → IsCalling
-    won_call m =
-        call_made (record { seat = v.seat; stamp = v.clock + 1; column = m.column; row = m.row; answer = answer.Won }) refl m.was m.later (omega arith) (
+    calling_won : IsWonClaim problem v old w a x → IsCalling
+    calling_won m =
+        call_made (won_call v m.row m.column) refl m.was m.later (omega arith) (
           won_held c ranges published m,
           won_holder c ranges m,
           won_stamp c ranges m,
         )
 
-    lost_call : IsLostClaim problem v old w a x → IsCalling
-    lost_call m =
+    calling_lost : IsLostClaim problem v old w a x → IsCalling
+    calling_lost m =
         let met : claim_at problem s m.column ≡ old = word_met c m.spot in
         let held : IsHeld problem s m.column = record { below = (numbers_at c ranges m.was).1; some = λ e. m.held (sym met ∙ e) } in
-        call_made (record {
-          seat = v.seat;
-          stamp = max v.clock (stamp_in old) + 1;
-          column = m.column;
-          row = m.row;
-          answer = answer.Lost (row_in old) (stamp_in old);
-        }) refl m.was m.later (omega arith) (
+        call_made (lost_call v m.row m.column old) refl m.was m.later (omega arith) (
           held_after problem s t m.column keeps held,
           ap row_in (keeps.claims m.column held ∙ met),
           ap stamp_in (keeps.claims m.column held ∙ met),
@@ -125,8 +120,8 @@ module _ {problem : Problem} {crew : ℕ} {s t : State} {seat : ℕ} {w : Sight}
     calling (looks_free m) = as_before m.later
     calling (looks_held m) = silent m.later.calls (omega (arith, m.later.clock))
     calling (puts m) = as_before m.later
-    calling (wins m) = won_call m
-    calling (loses m) = lost_call m
+    calling (wins m) = calling_won m
+    calling (loses m) = calling_lost m
     calling (reads_more m) = as_before m.later
     calling (reads_last m) = as_before m.later
 

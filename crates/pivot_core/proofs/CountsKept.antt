@@ -1,14 +1,14 @@
 -- Calls and counts: every move keeps what is said of all calls together.
-use Rattle.std.proofs.Common.{◌≡◌, ◌≢◌, inl, inr, ℕ, ◌+◌, ◌<◌, ◌≤◌, All, List, [], ◌∷◌, ◌++◌, length, max, get_or, sym, ap, ◌∙◌, arith, subst, refl}
+use Rattle.std.proofs.Common.{◌≡◌, ◌≢◌, inl, inr, ℕ, ◌+◌, ◌<◌, ◌≤◌, All, List, [], ◌∷◌, ◌++◌, length, get_or, sym, ap, ◌∙◌, arith, subst, refl}
 use Rattle.std.specs.List.{sum_by}
 use Rattle.std.proofs.lemmas.Bool.{cases_eq, ne_eqb, eq-eqb}
 use Rattle.std.proofs.lemmas.List.{length-append}
-use Rattle.ideal_laws.specs.declared.account.Answer.TheVariants as answer
 use Rattle.ideal_laws.specs.declared.account.Call.{Call}
 use Rattle.back_reduce.specs.declared.problem.Problem.{Problem}
 use Rattle.pivot_core.specs.declared.view.Phase.{Phase}
 use Rattle.pivot_core.specs.declared.sight.Sight.{Sight}
-use Rattle.pivot_core.specs.Words.{Spot, claim_of, row_in, stamp_in}
+use Rattle.pivot_core.specs.Words.{Spot, claim_of, stamp_in}
+use Rattle.pivot_core.specs.Steps.{lost_call, won_call}
 use Rattle.pivot_core.specs.Runs.{State, IsHeld, claim_at, view_at, word_at}
 use Rattle.pivot_core.specs.Rule.{Ranges}
 use Rattle.pivot_core.specs.Calls.{IsCall, IsUnclaimed, call_count, is_won_at, won_count}
@@ -56,20 +56,13 @@ module _ {problem : Problem} {crew : ℕ} {s t : State} {seat : ℕ} {w : Sight}
       let other : m.column ≢ d = λ is. held.some (ap (claim_at problem s) (sym is) ∙ won_free c m) in
       omega (
         arith,
-        one_more_won d (record { seat = v.seat; stamp = v.clock + 1; column = m.column; row = m.row; answer = answer.Won })
-            m.later.calls,
+        one_more_won d (won_call v m.row m.column) m.later.calls,
         ap one_if (ne_eqb m.column d other),
       )
   won_as_before (loses m) d held =
       omega (
         arith,
-        one_more_won d (record {
-          seat = v.seat;
-          stamp = max v.clock (stamp_in old) + 1;
-          column = m.column;
-          row = m.row;
-          answer = answer.Lost (row_in old) (stamp_in old);
-        }) m.later.calls,
+        one_more_won d (lost_call v m.row m.column old) m.later.calls,
       )
   won_as_before (reads_more m) d held = same_won d m.later.calls
   won_as_before (reads_last m) d held = same_won d m.later.calls
@@ -79,7 +72,7 @@ module _ {problem : Problem} {crew : ℕ} {s t : State} {seat : ℕ} {w : Sight}
     newly_won m =
         omega (
           arith,
-          one_more_won m.column (record { seat = v.seat; stamp = v.clock + 1; column = m.column; row = m.row; answer = answer.Won }) m.later.calls,
+          one_more_won m.column (won_call v m.row m.column) m.later.calls,
           ap one_if (eq-eqb m.column m.column refl),
           won_count-free problem crew s ranges each m.column (won_free c m),
         )
