@@ -1,13 +1,13 @@
 -- What a move leaves as it was: the counter, the claim words, the row words, and the held rows.
-use Rattle.std.proofs.Common.{◌≡◌, ◌≢◌, ◌⊎◌, inl, inr, ℕ, zero, suc, ◌+◌, ◌<◌, ◌==◌, List, ◌∷◌, map, ltb, refl, sym, ap, ap₂, ◌∙◌, arith, subst}
-use Rattle.std.specs.Prelude.{if◌then◌else◌}
+use Rattle.std.proofs.Common.{◌≡◌, ◌≢◌, ◌⊎◌, inl, inr, ℕ, zero, suc, ◌+◌, ◌<◌, List, ◌∷◌, map, refl, sym, ap, ap₂, ◌∙◌, arith, subst}
+use Rattle.pivot_core.proofs.ClaimWords.{value_in-same}
 use Rattle.std.specs.List.{range_with_len}
 use Rattle.std.proofs.lemmas.Bool.{cases_eq}
 use Rattle.back_reduce.specs.declared.problem.Problem.{Problem}
 use Rattle.pivot_core.specs.declared.view.Phase.{Phase}
 use Rattle.pivot_core.specs.declared.sight.Sight.{Sight}
-use Rattle.pivot_core.specs.Words.{Spot, counter, claim_of, row_word, row_in}
-use Rattle.pivot_core.specs.Runs.{State, IsHeld, claim_at, held_row, holder_of, values, view_at, word_at}
+use Rattle.pivot_core.specs.Words.{Spot, counter, claim_of, row_word, value_in}
+use Rattle.pivot_core.specs.Runs.{State, IsHeld, claim_at, held_row, holder_of, values, view_at, word_at, published_at}
 use Rattle.pivot_core.specs.Phases.{HasRow}
 use Rattle.pivot_core.specs.Rule.{DisjointRows}
 use Rattle.pivot_core.proofs.Changes.{IsChange, quiet, word_met}
@@ -23,7 +23,8 @@ pub record KeepsHeld (problem : Problem) (s t : State) : Type 0 where
 pub held_after : (problem : Problem) (s t : State) (c : ℕ) → KeepsHeld problem s t → IsHeld problem s c → IsHeld problem t c
 held_after problem s t c k h = record { below = h.below; some = λ e. h.some (sym (k.claims c h) ∙ e) }
 
-listed_same : (f g : ℕ → ℕ) (a n : ℕ) → ((j : ℕ) → j < a + n → f j ≡ g j) → map f (range_with_len a n) ≡ map g (range_with_len a n)
+-- lists of numbers by functions that agree
+pub listed_same : (f g : ℕ → ℕ) (a n : ℕ) → ((j : ℕ) → j < a + n → f j ≡ g j) → map f (range_with_len a n) ≡ map g (range_with_len a n)
 listed_same f g a zero h = refl
 listed_same f g a (suc n) h = ap₂ (λ (x : ℕ) (xs : List ℕ). x ∷ xs) (h a (omega arith)) (listed_same f g (a + 1) n (λ j lt. h j (omega (arith, lt))))
 
@@ -119,6 +120,6 @@ module _ {problem : Problem} {crew : ℕ} {s t : State} {seat : ℕ} {w : Sight}
   keeps_held apart move = record {
     claims = same_claims move;
     values = λ d j h lt.
-        ap (λ (k : ℕ). if k == 0 then 0 else if ltb j d then 0 else word_at problem t (row_word (row_in k) j)) (same_claims move d h)
-        ∙ ap (λ (k : ℕ). if claim_at problem s d == 0 then 0 else if ltb j d then 0 else k) (same_rows apart move d j h lt);
+        ap (λ (k : ℕ). value_in k (published_at problem t) d j) (same_claims move d h)
+        ∙ value_in-same (claim_at problem s d) (published_at problem t) (published_at problem s) d j (λ some. same_rows apart move d j h lt);
   }

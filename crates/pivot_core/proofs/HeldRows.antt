@@ -1,7 +1,6 @@
 -- Held rows, place by place and in spans.
-use Rattle.std.proofs.Common.{◌≡◌, ℕ, ◌<◌, ◌≤◌, ◌==◌, List, Option, Some, refl, sym, arith, subst, get_or, ◌∙◌}
-use Rattle.std.proofs.lemmas.Option.{same_Some, none-some}
-use Rattle.std.proofs.lemmas.Bool.{cond_both, cond-true, cond-false, lt-ltb, le-ltb, ne_eqb, eqb-false}
+use Rattle.std.proofs.Common.{◌≡◌, ℕ, ◌<◌, ◌≤◌, List, Some, sym, arith, subst, get_or}
+use Rattle.pivot_core.proofs.ClaimWords.{value_in-from, value_in-before, holder_in-some, holder_in-row}
 use Rattle.std.proofs.lemmas.List.FromFn.{get_or-map-range_with_len}
 use Rattle.field_table.specs.Residues.{IsFieldModulus}
 use Rattle.linear_algebra.specs.Fields.{Field}
@@ -13,7 +12,7 @@ use Rattle.back_reduce.specs.Rows.{IsInRowSpan}
 use Rattle.back_reduce.proofs.RowLists.{OneOf, held_one, one_held}
 use Rattle.back_reduce.proofs.Vectors.{K, V, vec}
 use Rattle.pivot_core.specs.Words.{row_word}
-use Rattle.pivot_core.specs.Runs.{State, IsHeld, claim_at, held_row, held_rows, holder_of, holders, values, word_at}
+use Rattle.pivot_core.specs.Runs.{State, IsHeld, claim_at, held_row, held_rows, holder_of, holders, values, word_at, published_at}
 use Rattle.pivot_core.specs.Rule.{HeldInSpan}
 use Rattle.pivot_core.proofs.Effects.{KeepsHeld, held_after, held_row_after}
 
@@ -22,21 +21,18 @@ held_row-at problem s c j lt = get_or-map-range_with_len (values problem s c) 0 
 
 -- a held row is 0 before its column, and from there on has the holder's row words
 pub values-before : (problem : Problem) (s : State) (c j : ℕ) → j < c → values problem s c j ≡ 0
-values-before problem s c j lt = cond_both (claim_at problem s c == 0) _ _ (λ (k : ℕ). k ≡ 0) (λ on. refl) (λ off. cond-true _ _ _ (lt-ltb j c lt))
+values-before problem s c j lt = value_in-before (claim_at problem s c) (published_at problem s) c j lt
 
 pub values-from : (problem : Problem) (s : State) (c j : ℕ) → IsHeld problem s c → c ≤ j →
     values problem s c j ≡ word_at problem s (row_word (holder_of problem s c) j)
-values-from problem s c j h le = cond-false _ _ _ (ne_eqb (claim_at problem s c) 0 h.some) ∙ cond-false _ _ _ (le-ltb j c le)
+values-from problem s c j h le = value_in-from (claim_at problem s c) (published_at problem s) c j h.some le
 
 -- a column has a holder where it is held
 pub holders-held : (problem : Problem) (s : State) (c : ℕ) → IsHeld problem s c → holders problem s c ≡ Some (holder_of problem s c)
-holders-held problem s c h = cond-false _ _ _ (ne_eqb (claim_at problem s c) 0 h.some)
+holders-held problem s c h = holder_in-some (claim_at problem s c) h.some
 
 pub held_holders : (problem : Problem) (s : State) (c r : ℕ) → c < problem.m → holders problem s c ≡ Some r → IsHeld problem s c × (holder_of problem s c ≡ r)
-held_holders problem s c r lt =
-    cond_both (claim_at problem s c == 0) _ _ (λ (o : Option ℕ). o ≡ Some r → IsHeld problem s c × (holder_of problem s c ≡ r))
-    (λ on e. absurd (none-some r e))
-    (λ off e. (record { below = lt; some = eqb-false (claim_at problem s c) 0 off }, same_Some (holder_of problem s c) r e))
+held_holders problem s c r lt e = let is = holder_in-row (claim_at problem s c) r e in (record { below = lt; some = is.0 }, is.1)
 
 module _ (problem : Problem) (modulus : IsFieldModulus problem.modulus) where
   abbrev pub Kp : Field

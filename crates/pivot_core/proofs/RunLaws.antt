@@ -1,7 +1,6 @@
 -- Held rows over whole runs, and in ended states.
-use Rattle.std.proofs.Common.{◌≡◌, ℕ, ◌<◌, ◌≤◌, ◌==◌, List, [], ◌∷◌, ◌++◌, Option, None, refl, sym, ap, ◌∙◌, arith, subst}
-use Rattle.std.proofs.lemmas.Option.{none-some}
-use Rattle.std.proofs.lemmas.Bool.{cond_both, cond-true}
+use Rattle.std.proofs.Common.{◌≡◌, ℕ, ◌<◌, ◌≤◌, List, [], ◌∷◌, ◌++◌, None, refl, sym, ap, ◌∙◌, arith, subst}
+use Rattle.pivot_core.proofs.ClaimWords.{value_in-free}
 use Rattle.std.specs.List.{sum_by}
 use Rattle.std.proofs.lemmas.List.Elements.{All-get_or}
 use Rattle.std.proofs.lemmas.List.Sums.{get_or-le-sum_by}
@@ -16,7 +15,7 @@ use Rattle.pivot_core.specs.declared.view.Phase.TheVariants as phase
 use Rattle.pivot_core.specs.declared.event.Event.{Event}
 use Rattle.pivot_core.specs.Words.{counter}
 use Rattle.pivot_core.specs.Views.{fresh}
-use Rattle.pivot_core.specs.Runs.{HasEnded, IsHeld, State, after_event, after_events, claim_at, holders, opening, state_after, values, view_at, word_at}
+use Rattle.pivot_core.specs.Runs.{HasEnded, IsHeld, State, after_event, after_events, claim_at, holders, opening, state_after, values, view_at, word_at, published_at}
 use Rattle.pivot_core.specs.Phases.{HasRow, is_ended}
 use Rattle.pivot_core.specs.Claimed.{ClaimedPivots}
 use Rattle.pivot_core.specs.Laws.{HeldRowsArePivots, HeldRowsStay, IsSetting}
@@ -59,8 +58,7 @@ held_rows_stay problem crew setting events more c h =
 
 -- a column without a holder is not held
 values-free : (problem : Problem) (s : State) (c j : ℕ) → holders problem s c ≡ None → values problem s c j ≡ 0
-values-free problem s c j = cond_both (claim_at problem s c == 0) _ _ (λ (o : Option ℕ). o ≡ None → values problem s c j ≡ 0)
-    (λ on e. cond-true _ _ _ on) (λ off e. absurd (none-some _ (sym e)))
+values-free problem s c j none = value_in-free (claim_at problem s c) (published_at problem s) c j none
 
 module _ (problem : Problem) (crew : ℕ) (s : State) (setting : IsSetting problem crew) (h : ClaimedPivots problem crew s) where
   value_at_held : (c k : ℕ) → k < problem.m → IsHeld problem s c → values problem s c k < problem.modulus

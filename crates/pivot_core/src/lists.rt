@@ -2,7 +2,7 @@ ghost use Rattle.std.specs.Prelude.{◌≡◌, ◌<◌, ◌≤◌, All, MatchOpt
 ghost use Rattle.field_table.specs.Residues.{product_of};
 ghost use Rattle.back_reduce.specs.Problems.{row_of};
 ghost use Rattle.pivot_core.specs.Views.{lead_at, zeros};
-ghost use Rattle.pivot_core.specs.Words.{row_in, stamp_in};
+ghost use Rattle.pivot_core.specs.Words.{holder_in, row_in, stamp_in};
 
 use back_reduce::Problem;
 use field_table::Field;
@@ -66,7 +66,7 @@ pub(crate) fn stamp_told(word: u64) -> u32
 }
 
 /// The row in a claim word other than 0.
-pub fn row_told(word: u64) -> u32
+pub(crate) fn row_told(word: u64) -> u32
     ensures { result ≡ row_in word }
 {
     let low = (word % 4294967296) as u32;
@@ -74,6 +74,16 @@ pub fn row_told(word: u64) -> u32
         return 0;
     }
     low - 1
+}
+
+/// The row that holds the column of a claim word, where one does.
+pub fn holder_told(word: u64) -> Option<u32>
+    ensures { result ≡ holder_in word }
+{
+    if word == 0 {
+        return None;
+    }
+    Some(row_told(word))
 }
 
 pub(crate) fn later(first: u32, second: u32) -> u32

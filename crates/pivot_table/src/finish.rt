@@ -17,7 +17,7 @@ use crate::worker::Worker;
 use atomic_table::{Closed, Seat, Table};
 use back_reduce::{PivotRows, Problem};
 use ideal_laws::Call;
-use pivot_core::row_told;
+use pivot_core::holder_told;
 use std::alloc::Global;
 use std::marker::Model;
 
@@ -66,22 +66,19 @@ impl PivotRows for Finish {
     }
 
     fn holder(&self, column: u32) -> Option<u32> {
-        let word = self.cells[1 + column as usize];
-        if word == 0 {
-            return None;
-        }
-        Some(row_told(word))
+        holder_told(self.cells[1 + column as usize])
     }
 
     fn value(&self, column: u32, at: u32) -> u32 {
-        let word = self.cells[1 + column as usize];
-        if word == 0 {
-            return 0;
+        match holder_told(self.cells[1 + column as usize]) {
+            Some(row) => {
+                if at < column {
+                    return 0;
+                }
+                half_told(at, self.cells[row_cell(&self.problem, row, at)])
+            }
+            None => 0,
         }
-        if at < column {
-            return 0;
-        }
-        half_told(at, self.cells[row_cell(&self.problem, row_told(word), at)])
     }
 }
 
