@@ -1,4 +1,4 @@
-ghost use Rattle.std.specs.Prelude.{◌≡◌, ◌<◌, ◌≤◌, All, MatchOption, length, map, max};
+ghost use Rattle.std.specs.Prelude.{◌≡◌, ◌<◌, ◌≤◌, All, MatchOption, length, map};
 ghost use Rattle.field_table.specs.Residues.{product_of};
 ghost use Rattle.back_reduce.specs.Problems.{row_of};
 ghost use Rattle.pivot_core.specs.Views.{lead_at, zeros};
@@ -43,7 +43,8 @@ pub(crate) fn copy_row(problem: &Problem, r: u32, row: &mut [u32])
     problem.rows[r as usize].write(row);
 }
 
-pub(crate) fn clear(row: &mut [u32])
+/// Makes a list zeros.
+pub fn clear(row: &mut [u32])
     ensures { row.new ≡ zeros (length row.old) }
 {
     row.fill(0);
@@ -84,13 +85,4 @@ pub fn holder_told(word: u64) -> Option<u32>
         return None;
     }
     Some(row_told(word))
-}
-
-pub(crate) fn later(first: u32, second: u32) -> u32
-    ensures { result ≡ max first second }
-{
-    if first < second {
-        return second;
-    }
-    first
 }

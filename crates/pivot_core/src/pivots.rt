@@ -80,10 +80,7 @@ pub(crate) fn calls_of(views: Vec<View>, logs: Vec<Vec<Call>>) -> Vec<Vec<Call>>
 {
     let mut logs = logs;
     for view in views {
-        match logs.push(view.calls) {
-            Ok(()) => {}
-            Err(_) => {}
-        }
+        logs.push_reserved(view.calls);
     }
     logs
 }

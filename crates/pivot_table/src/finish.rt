@@ -1,4 +1,4 @@
-ghost use Rattle.std.specs.Prelude.{◌≡◌, ◌<◌, ◌≤◌, ◌++◌, ◌∷◌, [], All, length, map};
+ghost use Rattle.std.specs.Prelude.{◌≡◌, ◌<◌, ◌≤◌, [], All, length, map};
 ghost use Rattle.std.specs.List.{range_with_len};
 ghost use Rattle.std.specs.Vec.{vec_capacity};
 ghost use Rattle.std.specs.Mem.Slots.{slots_items, slots_len, IsFull};
@@ -136,7 +136,7 @@ fn gathered(
         seat,
     } = crew.remove(0);
     let mut seat = seat;
-    keep_log(&mut logs, view.calls);
+    logs.push_reserved(view.calls);
     for taken in 1..count {
         let Worker {
             view,
@@ -144,21 +144,9 @@ fn gathered(
             seat: other,
         } = crew.remove(0);
         table.shared.join_seat::<Gather>(&mut seat, other);
-        keep_log(&mut logs, view.calls);
+        logs.push_reserved(view.calls);
     }
     (seat, logs)
-}
-
-/// Puts the calls of a worker into a list that has room for them.
-fn keep_log(logs: &mut Vec<Vec<Call>>, calls: Vec<Call>)
-    requires room { length logs.old.items < vec_capacity logs.old }
-    ensures kept { map (λ log. log.items) logs.new.items ≡ map (λ log. log.items) logs.old.items ++ calls.items ∷ [] }
-    ensures room { vec_capacity logs.old ≤ vec_capacity logs.new }
-{
-    match logs.push(calls) {
-        Ok(()) => {}
-        Err(_) => {}
-    }
 }
 
 /// The words of a closed table, in a list of their number.
