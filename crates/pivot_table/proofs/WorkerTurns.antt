@@ -84,7 +84,7 @@ module _ {race : race.Inside} {w : worker.Inside} (turn : IsTurn race w) where
   phase_within = subst (λ (q : Problem). IsPhase q.m q.n w.view.phase) turn.problem_is own_sight.numbers
 
   may_next : w.view.phase ≢ phase.Ended → MayMeet p (sight_of w.view) (word_at p s (spot_of w.view.phase))
-  may_next next = steps.may p c own.place own.events x own.stands next
+  may_next next = steps.may own.place own.events own.stands next
 
   -- there is room to count the step
   pub steps_small : w.view.phase ≢ phase.Ended → w.view.steps < 2 ^ 64 - 1
@@ -137,7 +137,7 @@ module _ {race : race.Inside} {w : worker.Inside} (turn : IsTurn race w) where
   claim_asks i new row column is claiming leaves = (
     turn.table,
     cell_there i is,
-    allows_claim race.table.shared.key slots w.seat.id w.seat.me p c x own.seat i still new row column
+    allows_claim race.table.shared.key slots w.seat.id own.seat i still new row column
         (is ∙ ap (λ (f : Phase). cell_of race.setting.problem.m (spot_of f)) claiming) claiming
         (subst (λ (q : Problem). LeavesWord q (sight_of w.view) 0 new) key_problem leaves),
   )
@@ -149,7 +149,7 @@ module _ {race : race.Inside} {w : worker.Inside} (turn : IsTurn race w) where
   load_asks i is load = (
     turn.table,
     cell_there i is,
-    allows_load race.table.shared.key slots w.seat.id w.seat.me p c x own.seat i still
+    allows_load race.table.shared.key slots w.seat.id own.seat i still
         (is ∙ ap (λ (q : Problem). cell_of q.m (spot_of w.view.phase)) key_problem) load,
   )
 
@@ -160,7 +160,7 @@ module _ {race : race.Inside} {w : worker.Inside} (turn : IsTurn race w) where
   draw_asks i is fresh = (
     turn.table,
     cell_there i (is ∙ ap (λ (f : Phase). cell_of race.setting.problem.m (spot_of f)) (sym fresh)),
-    allows_draw race.table.shared.key slots w.seat.id w.seat.me p c x own.seat i still is fresh,
+    allows_draw race.table.shared.key slots w.seat.id own.seat i still is fresh,
   )
 
   -- what the store of a put asks
@@ -171,7 +171,7 @@ module _ {race : race.Inside} {w : worker.Inside} (turn : IsTurn race w) where
   put_asks i new row column to is putting pair = (
     turn.table,
     cell_there i is,
-    allows_put race.table.shared.key slots w.seat.id w.seat.me p c x own.seat i still new row column to
+    allows_put race.table.shared.key slots w.seat.id own.seat i still new row column to
         (is ∙ ap (λ (q : Problem). cell_of q.m (spot_of w.view.phase)) key_problem
         ∙ ap (λ (f : Phase). cell_of race.table.shared.key.problem.m (spot_of f)) putting) putting pair,
   )

@@ -133,7 +133,7 @@ module _ {race : race.Inside} {w : worker.Inside} (turn : IsTurn race w) where
     -- the view may meet the word that it is told
     pub may_met : w.view.phase ≢ phase.Ended → MayMeet race.setting.problem (sight_of w.view) old
     may_met next = subst (λ (q : Problem). MayMeet q (sight_of w.view) old) turn.problem_is
-        (subst (λ (n : ℕ). MayMeet p (sight_of w.view) n) (sym t.stepped.found) (steps.may p c own.place t.stepped.events x t.stepped.stood next))
+        (subst (λ (n : ℕ). MayMeet p (sight_of w.view) n) (sym t.stepped.found) (steps.may own.place t.stepped.events t.stepped.stood next))
 
     -- and has room for the call of a claim
     pub room_met : IsClaiming w.view.phase → length w.view.calls.items < vec_capacity w.view.calls
