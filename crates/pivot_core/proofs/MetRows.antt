@@ -29,34 +29,34 @@ module _ (problem : Problem) (v : Sight) (old : ℕ) where
       (settle problem (record counted { drawn = v.drawn + 1 }) (given_row problem old) old) (reply.Drew (Some old))
   meets_draw is some = by_row (λ t. t) is refl (cond-true _ _ _ (lt-ltb old problem.n some))
 
-  pub meets_free : (row column : ℕ) → v.phase ≡ phase.Looking row column → old ≡ 0 →
+  pub meets_free : {row column : ℕ} → v.phase ≡ phase.Looking row column → old ≡ 0 →
       IsMet problem v old (record counted { phase = phase.Putting row column column }) reply.Free
-  meets_free row column is free = by_row (λ t. t) is refl (cond-true _ _ _ (eq-eqb old 0 free))
+  meets_free is free = by_row (λ t. t) is refl (cond-true _ _ _ (eq-eqb old 0 free))
 
-  pub meets_held : (row column : ℕ) → v.phase ≡ phase.Looking row column → old ≢ 0
+  pub meets_held : {row column : ℕ} → v.phase ≡ phase.Looking row column → old ≢ 0
       → IsMet problem v old (begin problem (record counted { clock = max v.clock (stamp_in old) }) row column (row_in old))
       (reply.Held (row_in old) (stamp_in old))
-  meets_held row column is held = by_row (λ t. t) is refl (cond-false _ _ _ (ne_eqb old 0 held))
+  meets_held is held = by_row (λ t. t) is refl (cond-false _ _ _ (ne_eqb old 0 held))
 
   -- a put goes on in a phase
   abbrev put_row : ℕ → Phase → Stepped
   put_row at f = record { sight = record counted { phase = f }; word = slice_index v.current at; reply = reply.Stored }
 
-  pub meets_put : (row column at : ℕ) → v.phase ≡ phase.Putting row column at → at + 1 < problem.m →
+  pub meets_put : {row column at : ℕ} → v.phase ≡ phase.Putting row column at → at + 1 < problem.m →
       IsMet problem v old (record counted { phase = phase.Putting row column (at + 1) }) reply.Stored
-  meets_put row column at is more = by_row (put_row at) is refl (cond-true _ _ _ (lt-ltb (at + 1) problem.m more))
+  meets_put {at = at} is more = by_row (put_row at) is refl (cond-true _ _ _ (lt-ltb (at + 1) problem.m more))
 
-  pub meets_last_put : (row column at : ℕ) → v.phase ≡ phase.Putting row column at → problem.m ≤ at + 1 →
+  pub meets_last_put : {row column at : ℕ} → v.phase ≡ phase.Putting row column at → problem.m ≤ at + 1 →
       IsMet problem v old (record counted { phase = phase.Claiming row column }) reply.Stored
-  meets_last_put row column at is last = by_row (put_row at) is refl (cond-false _ _ _ (le-ltb (at + 1) problem.m last))
+  meets_last_put {at = at} is last = by_row (put_row at) is refl (cond-false _ _ _ (le-ltb (at + 1) problem.m last))
 
-  pub meets_won : (row column : ℕ) → v.phase ≡ phase.Claiming row column → old ≡ 0 →
+  pub meets_won : {row column : ℕ} → v.phase ≡ phase.Claiming row column → old ≡ 0 →
       IsMet problem v old (after_won problem counted row column) (reply.Claimed answer.Won)
-  meets_won row column is free = by_row (λ t. t) is refl (cond-true _ _ _ (eq-eqb old 0 free))
+  meets_won is free = by_row (λ t. t) is refl (cond-true _ _ _ (eq-eqb old 0 free))
 
-  pub meets_lost : (row column : ℕ) → v.phase ≡ phase.Claiming row column → old ≢ 0 →
+  pub meets_lost : {row column : ℕ} → v.phase ≡ phase.Claiming row column → old ≢ 0 →
       IsMet problem v old (after_lost problem counted row column old) (reply.Claimed (answer.Lost (row_in old) (stamp_in old)))
-  meets_lost row column is held = by_row (λ t. t) is refl (cond-false _ _ _ (ne_eqb old 0 held))
+  meets_lost is held = by_row (λ t. t) is refl (cond-false _ _ _ (ne_eqb old 0 held))
 
   -- the view with one more word seen
   abbrev pub seen_one : ℕ → Sight
@@ -66,10 +66,10 @@ module _ (problem : Problem) (v : Sight) (old : ℕ) where
   abbrev read_row : Sight → Stepped
   read_row w = record { sight = w; word = old; reply = reply.Got old }
 
-  pub meets_read : (row column holder at : ℕ) → v.phase ≡ phase.Reading row column holder at → at + 1 < problem.m
+  pub meets_read : {row column holder at : ℕ} → v.phase ≡ phase.Reading row column holder at → at + 1 < problem.m
       → IsMet problem v old (record (seen_one at) { phase = phase.Reading row column holder (at + 1) }) (reply.Got old)
-  meets_read row column holder at is more = by_row read_row is refl (cond-true _ _ _ (lt-ltb (at + 1) problem.m more))
+  meets_read {at = at} is more = by_row read_row is refl (cond-true _ _ _ (lt-ltb (at + 1) problem.m more))
 
-  pub meets_last_read : (row column holder at : ℕ) → v.phase ≡ phase.Reading row column holder at → problem.m ≤ at + 1
+  pub meets_last_read : {row column holder at : ℕ} → v.phase ≡ phase.Reading row column holder at → problem.m ≤ at + 1
       → IsMet problem v old (settle problem (seen_one at) (difference problem.modulus v.current (set v.seen at old)) row) (reply.Got old)
-  meets_last_read row column holder at is last = by_row read_row is refl (cond-false _ _ _ (le-ltb (at + 1) problem.m last))
+  meets_last_read {at = at} is last = by_row read_row is refl (cond-false _ _ _ (le-ltb (at + 1) problem.m last))

@@ -21,17 +21,17 @@ module _ (problem : Problem) (v : Sight) (old : ℕ) where
   pub leaves_count : v.phase ≡ phase.Fresh → LeavesWord problem v old (old + 1)
   leaves_count is = by_row is refl (cond_both (ltb old problem.n) _ _ (λ (t : Stepped). t.word ≡ old + 1) (λ on. refl) (λ off. refl))
 
-  pub leaves_look : (row column : ℕ) → v.phase ≡ phase.Looking row column → LeavesWord problem v old old
-  leaves_look row column is = by_row is refl (cond_both (old == 0) _ _ (λ (t : Stepped). t.word ≡ old) (λ on. refl) (λ off. refl))
+  pub leaves_look : {row column : ℕ} → v.phase ≡ phase.Looking row column → LeavesWord problem v old old
+  leaves_look is = by_row is refl (cond_both (old == 0) _ _ (λ (t : Stepped). t.word ≡ old) (λ on. refl) (λ off. refl))
 
-  pub leaves_put : (row column at : ℕ) → v.phase ≡ phase.Putting row column at → LeavesWord problem v old (slice_index v.current at)
-  leaves_put row column at is = by_row is refl refl
+  pub leaves_put : {row column at : ℕ} → v.phase ≡ phase.Putting row column at → LeavesWord problem v old (slice_index v.current at)
+  leaves_put is = by_row is refl refl
 
-  pub leaves_won : (row column : ℕ) → v.phase ≡ phase.Claiming row column → old ≡ 0 → LeavesWord problem v old (claim_word (v.clock + 1) row)
-  leaves_won row column is free = by_row is refl (ap (λ (t : Stepped). t.word) (cond-true _ _ _ (eq-eqb old 0 free)))
+  pub leaves_won : {row column : ℕ} → v.phase ≡ phase.Claiming row column → old ≡ 0 → LeavesWord problem v old (claim_word (v.clock + 1) row)
+  leaves_won is free = by_row is refl (ap (λ (t : Stepped). t.word) (cond-true _ _ _ (eq-eqb old 0 free)))
 
-  pub leaves_lost : (row column : ℕ) → v.phase ≡ phase.Claiming row column → old ≢ 0 → LeavesWord problem v old old
-  leaves_lost row column is held = by_row is refl (ap (λ (t : Stepped). t.word) (cond-false _ _ _ (ne_eqb old 0 held)))
+  pub leaves_lost : {row column : ℕ} → v.phase ≡ phase.Claiming row column → old ≢ 0 → LeavesWord problem v old old
+  leaves_lost is held = by_row is refl (ap (λ (t : Stepped). t.word) (cond-false _ _ _ (ne_eqb old 0 held)))
 
-  pub leaves_read : (row column holder at : ℕ) → v.phase ≡ phase.Reading row column holder at → LeavesWord problem v old old
-  leaves_read row column holder at is = by_row is refl refl
+  pub leaves_read : {row column holder at : ℕ} → v.phase ≡ phase.Reading row column holder at → LeavesWord problem v old old
+  leaves_read is = by_row is refl refl

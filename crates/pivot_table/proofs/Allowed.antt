@@ -25,10 +25,7 @@ module _ (k : Setting) (slots id : ℕ) {me : Me ℕ Share} {p : Problem} {c : �
   pub allows_claim : (new row column : ℕ) → i ≡ 1 + column → x.sight.phase ≡ phase.Claiming row column → LeavesWord k.problem x.sight 0 new
       → Allows (IsKept k) slots id me i (λ n. either (n == 0) new n) (met_by a me)
   allows_claim new row column is claiming leaves = by_own (λ m. Allows (IsKept k) slots id m i (λ n. either (n == 0) new n) (met_by a m))
-      (λ s kept homes at small. claims_goes kept id at (λ e. ended_claims (sym claiming ∙ e)) i new row column a is claiming leaves)
-    where
-      ended_claims : phase.Claiming row column ≡ phase.Ended → ⊥
-      ended_claims e = cc e
+      (λ s kept homes at small. claims_goes kept id at (λ e. cc (sym claiming ∙ e)) i new row column a is claiming leaves)
 
   -- what a look and a read owe
   pub allows_load : i ≡ cell_of k.problem.m (spot_of x.sight.phase) → IsLoad x.sight.phase → Allows (IsKept k) slots id me i (λ n. n) (met_by a me)
@@ -38,17 +35,11 @@ module _ (k : Setting) (slots id : ℕ) {me : Me ℕ Share} {p : Problem} {c : �
   -- what a draw owes
   pub allows_draw : i ≡ 0 → x.sight.phase ≡ phase.Fresh → Allows (IsKept k) slots id me i (λ n. (n + 1) % 2 ^ 64) (met_by a me)
   allows_draw is fresh = by_own (λ m. Allows (IsKept k) slots id m i (λ n. (n + 1) % 2 ^ 64) (met_by a m))
-      (λ s kept homes at small. draws_goes kept id at (λ e. fresh_ends (sym fresh ∙ e)) i a is fresh)
-    where
-      fresh_ends : phase.Fresh ≡ phase.Ended → ⊥
-      fresh_ends e = cc e
+      (λ s kept homes at small. draws_goes kept id at (λ e. cc (sym fresh ∙ e)) i a is fresh)
 
   -- what a put owes
   pub allows_put : (new row column to : ℕ) → i ≡ cell_of k.problem.m (row_word row to) → x.sight.phase ≡ phase.Putting row column to
       → new ≡ pair_at (set x.published to (slice_index x.sight.current to)) to
       → Allows (IsKept k) slots id me i (λ n. new) (λ n. put_by a me new)
   allows_put new row column to is putting pair = by_own (λ m. Allows (IsKept k) slots id m i (λ n. new) (λ n. put_by a m new))
-      (λ s kept homes at small. puts_goes kept id at (λ e. puts_end (sym putting ∙ e)) i new row column to a is putting pair)
-    where
-      puts_end : phase.Putting row column to ≡ phase.Ended → ⊥
-      puts_end e = cc e
+      (λ s kept homes at small. puts_goes kept id at (λ e. cc (sym putting ∙ e)) i new row column to a is putting pair)

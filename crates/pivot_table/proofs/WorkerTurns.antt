@@ -91,8 +91,8 @@ module _ {race : race.Inside} {w : worker.Inside} (turn : IsTurn race w) where
   steps_small next = (may_next next).steps
 
   -- where a read stands in the words seen
-  pub read_within : (row column holder at : ℕ) → w.view.phase ≡ phase.Reading row column holder at → at < length w.view.seen.items
-  read_within row column holder at is =
+  pub read_within : {row column holder at : ℕ} → w.view.phase ≡ phase.Reading row column holder at → at < length w.view.seen.items
+  read_within {row} {column} {holder} {at} is =
       let numbers : IsPhase p.m p.n (phase.Reading row column holder at) = subst (IsPhase p.m p.n) is own_sight.numbers in
       omega (arith, numbers.3, own_sight.seen)
 
@@ -113,8 +113,8 @@ module _ {race : race.Inside} {w : worker.Inside} (turn : IsTurn race w) where
       })
 
   -- before a claim, the word may be 0
-  pub may_claim : (row column : ℕ) → w.view.phase ≡ phase.Claiming row column → MayMeet race.setting.problem (sight_of w.view) 0
-  may_claim row column = may_zero (phase.Claiming row column) (λ e. cc e) (λ e. cc e) (record { claim = inl refl; stamp = omega arith })
+  pub may_claim : {row column : ℕ} → w.view.phase ≡ phase.Claiming row column → MayMeet race.setting.problem (sight_of w.view) 0
+  may_claim {row} {column} = may_zero (phase.Claiming row column) (λ e. cc e) (λ e. cc e) (record { claim = inl refl; stamp = omega arith })
 
   -- the cell of the next step is on the table
   pub cell_there : (i : ℕ) → i ≡ cell_of race.setting.problem.m (spot_of w.view.phase) → i < race.table.shared.table_id.words
@@ -177,11 +177,11 @@ module _ {race : race.Inside} {w : worker.Inside} (turn : IsTurn race w) where
   )
 
   -- where a put stands in the lists
-  pub put_within : (row column at : ℕ) → w.view.phase ≡ phase.Putting row column at → (at < length w.view.current.items) × (at < length w.published.items)
-  put_within row column at is =
+  pub put_within : {row column at : ℕ} → w.view.phase ≡ phase.Putting row column at → (at < length w.view.current.items) × (at < length w.published.items)
+  put_within {row} {column} {at} is =
       let numbers : IsPhase p.m p.n (phase.Putting row column at) = subst (IsPhase p.m p.n) is own_sight.numbers in
       (omega (arith, numbers.2, own_sight.current), omega (arith, numbers.2, own.stands.size))
 
   -- whatever word a put has met, it is as if it had met 0
-  pub may_put : (row column at : ℕ) → w.view.phase ≡ phase.Putting row column at → MayMeet race.setting.problem (sight_of w.view) 0
-  may_put row column at = may_zero (phase.Putting row column at) (λ e. cc e) (λ e. cc e) tt
+  pub may_put : {row column at : ℕ} → w.view.phase ≡ phase.Putting row column at → MayMeet race.setting.problem (sight_of w.view) 0
+  may_put {row} {column} {at} = may_zero (phase.Putting row column at) (λ e. cc e) (λ e. cc e) tt

@@ -86,8 +86,8 @@ module _ {race : race.Inside} {w : worker.Inside} (turn : IsTurn race w) where
       by_load phase.Ended load = absurd load
 
   -- nor does a claim
-  pub claim_publishes : (row column : ℕ) → w.view.phase ≡ phase.Claiming row column → w.published.items ≡ published_after p.m x
-  claim_publishes row column is = sym (ap (published_by p.m (sight_of w.view) w.published.items) is)
+  pub claim_publishes : {row column : ℕ} → w.view.phase ≡ phase.Claiming row column → w.published.items ≡ published_after p.m x
+  claim_publishes is = sym (ap (published_by p.m (sight_of w.view) w.published.items) is)
 
   -- a look is told its cell whole
   pub told_look : (cell : ℕ) (me : Me ℕ Share) → is_next kind.Look w.view.phase ≡ true → met_by still w.seat.me cell me → IsTold w cell me
@@ -106,24 +106,24 @@ module _ {race : race.Inside} {w : worker.Inside} (turn : IsTurn race w) where
   told_draw cell me is h = subst (λ (n : ℕ). IsTold w n me) (ap (λ (f : Phase). part_of (spot_of f) cell) is) (told cell me h)
 
   -- the cell of a claim is its word
-  pub told_claim : (cell : ℕ) (me : Me ℕ Share) (row column : ℕ) → w.view.phase ≡ phase.Claiming row column → met_by still w.seat.me cell me → IsTold w cell me
-  told_claim cell me row column is h = subst (λ (n : ℕ). IsTold w n me) (ap (λ (f : Phase). part_of (spot_of f) cell) is) (told cell me h)
+  pub told_claim : (cell : ℕ) (me : Me ℕ Share) {row column : ℕ} → w.view.phase ≡ phase.Claiming row column → met_by still w.seat.me cell me → IsTold w cell me
+  told_claim cell me is h = subst (λ (n : ℕ). IsTold w n me) (ap (λ (f : Phase). part_of (spot_of f) cell) is) (told cell me h)
 
   -- a read takes its half
-  pub told_read : (cell : ℕ) (me : Me ℕ Share) (row column holder at : ℕ) → w.view.phase ≡ phase.Reading row column holder at → met_by still w.seat.me cell me
+  pub told_read : (cell : ℕ) (me : Me ℕ Share) {row column holder at : ℕ} → w.view.phase ≡ phase.Reading row column holder at → met_by still w.seat.me cell me
       → IsTold w (half_at at cell) me
-  told_read cell me row column holder at is h = subst (λ (n : ℕ). IsTold w n me) (ap (λ (f : Phase). part_of (spot_of f) cell) is) (told cell me h)
+  told_read cell me is h = subst (λ (n : ℕ). IsTold w n me) (ap (λ (f : Phase). part_of (spot_of f) cell) is) (told cell me h)
 
   -- which is its word
-  pub told_half : (cell word : ℕ) (me : Me ℕ Share) (row column holder at : ℕ) → w.view.phase ≡ phase.Reading row column holder at → word ≡ half_at at cell
+  pub told_half : (cell word : ℕ) (me : Me ℕ Share) {row column holder at : ℕ} → w.view.phase ≡ phase.Reading row column holder at → word ≡ half_at at cell
       → met_by still w.seat.me cell me → IsTold w word me
-  told_half cell word me row column holder at is half h =
-      subst (λ (n : ℕ). IsTold w n me) (sym half) (told_read cell me row column holder at is h)
+  told_half cell word me is half h =
+      subst (λ (n : ℕ). IsTold w n me) (sym half) (told_read cell me is h)
 
   -- the step of a put does not look at the old word
-  pub made_put : (row column at old : ℕ) (after : Sight) (r : Reply) → w.view.phase ≡ phase.Putting row column at
+  pub made_put : {row column at : ℕ} (old : ℕ) (after : Sight) (r : Reply) → w.view.phase ≡ phase.Putting row column at
       → IsMet race.setting.problem (sight_of w.view) 0 after r → IsMet race.setting.problem (sight_of w.view) old after r
-  made_put row column at old after r is m = record {
+  made_put old after r is m = record {
     word = m.word;
     gives = (let v : Sight = record (sight_of w.view) { steps = w.view.steps + 1 } in
         ap (λ (f : Phase). by_phase race.setting.problem v f old) is ∙ sym (ap (λ (f : Phase). by_phase race.setting.problem v f 0) is) ∙ m.gives);

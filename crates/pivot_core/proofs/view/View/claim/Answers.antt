@@ -23,7 +23,7 @@ returns-then-old-eq0-clause-met c =
     let now : record u { phase = phase.Fresh; current = _; clock = v.clock + 1; calls = _ } ≡ after_won problem u c.args.row c.args.column =
     λ i. record u { phase = phase.Fresh; current = cleared i; clock = v.clock + 1; calls = c.push_reserved.ensures.items i } in
     subst (λ (w : Sight). IsMet problem v c.args.old w (reply.Claimed answer.Won)) (sym now)
-    (meets_won problem v c.args.old c.args.row c.args.column c.requires.phase c.if-old-eq0.true)
+    (meets_won problem v c.args.old c.requires.phase c.if-old-eq0.true)
 
 pub returns-clause-met : goal.returns-clause-met
 returns-clause-met c =
@@ -48,4 +48,4 @@ returns-clause-met c =
     ap₂ (λ (r n : ℕ). reply.Claimed (answer.Lost r n)) c.row_told.ensures c.stamp_told.ensures in
     subst (λ (w : Sight). IsMet problem v old w (reply.Claimed (answer.Lost c.row_told.result c.stamp_told.result))) (sym now)
     (subst (λ (r : Reply). IsMet problem v old (after_lost problem u c.args.row c.args.column old) r) (sym told)
-    (meets_lost problem v old c.args.row c.args.column c.requires.phase c.if-old-eq0.false))
+    (meets_lost problem v old c.requires.phase c.if-old-eq0.false))

@@ -39,4 +39,4 @@ returns-clause-met c =
     subst (λ (w : Sight). IsMet problem v old w (reply.Held c.row_told-holder.result c.stamp_told-stamp.result)) (sym now)
     (subst (λ (r : Reply). IsMet problem v old (begin problem (record v { steps = v.steps + 1; clock = max v.clock (stamp_in old) })
     c.args.row c.args.column (row_in old)) r) (sym told)
-    (meets_held problem v old c.args.row c.args.column c.requires.phase c.if-old-eq0.false))
+    (meets_held problem v old c.requires.phase c.if-old-eq0.false))
