@@ -2,7 +2,7 @@
 use Rattle.std.proofs.Common.{◌≡◌, ◌≢◌, ◌<◌, ◌==◌, ℕ, suc, true, false, Bool, All, AllPairs, Contains, List, [], ◌∷◌, cond, length, get_or, refl, sym}
 use Rattle.std.proofs.Common.{ap, ◌∙◌, arith, inl, inr}
 use Rattle.std.specs.List.{sum_by}
-use Rattle.std.proofs.lemmas.Bool.{cases_eq, eqb-true}
+use Rattle.std.proofs.lemmas.Bool.{cases_eq, eqb-true, eq-eqb}
 use Rattle.std.proofs.lemmas.List.Elements.{All-cons, All-nil}
 use Rattle.std.proofs.lemmas.List.Kept.{AllPairs-cons}
 use Rattle.std.proofs.lemmas.List.Sums.{sum_by-cons}
@@ -12,7 +12,6 @@ use Rattle.ideal_laws.specs.declared.account.Answer.TheVariants as answer
 use Rattle.ideal_laws.specs.declared.account.Call.{Call}
 use Rattle.pivot_core.specs.Calls.{is_won_at}
 use Rattle.pivot_core.specs.History.{ReplaysAfter, answer_after}
-use Rattle.pivot_core.proofs.Counts.{same_tested}
 use Rattle.degree_loop.specs.ClaimHistory.{IsWon}
 
 -- a sum that is not 0 has a part that is not
@@ -60,7 +59,7 @@ taken (l ∷ done) k there won e = elim (Contains-cases l done k there) [
     own : l ≡ k → ⊥
     own is =
         let l_won : l.answer ≡ answer.Won = ap (λ (j : Call). j.answer) is ∙ won in
-        let at : (l.column == k.column) ≡ true = ap (λ (j : Call). j.column == k.column) is ∙ same_tested k.column in
+        let at : (l.column == k.column) ≡ true = ap (λ (j : Call). j.column == k.column) is ∙ eq-eqb k.column k.column refl in
         let lost : answer_after (l ∷ done) k.column ≡ answer.Lost l.row l.stamp =
         ap (λ (a : Answer). elim a as (λ b. Answer) [
           | answer.Won ↦ cond (l.column == k.column) (answer.Lost l.row l.stamp)

@@ -1,5 +1,6 @@
 -- A view that claims has fewer calls than there are rows, and columns.
 use Rattle.std.proofs.Common.{◌≡◌, ◌+◌, ◌<◌, ◌==◌, ℕ, true, Some, length, min, refl, ap, arith, subst, length-append}
+use Rattle.std.proofs.lemmas.Bool.{cond_both}
 use Rattle.back_reduce.specs.declared.problem.Problem.{Problem}
 use Rattle.pivot_core.specs.declared.view.Phase.{Phase}
 use Rattle.pivot_core.specs.declared.view.Phase.TheVariants as phase
@@ -14,7 +15,7 @@ use Rattle.pivot_core.specs.Meets.{IsClaiming}
 use Rattle.pivot_core.proofs.EventsMade.{makes_state}
 use Rattle.pivot_core.proofs.Kept.{event_keeps}
 use Rattle.pivot_core.proofs.StepCounts.{counted}
-use Rattle.pivot_core.proofs.Table.{by_bool, made_change}
+use Rattle.pivot_core.proofs.Table.{made_change}
 
 -- what a claim gives, with one call more
 record IsCalled (problem : Problem) (v : Sight) (old : ℕ) : Type 0 where
@@ -26,7 +27,7 @@ called_at : (problem : Problem) (v : Sight) (old row column : ℕ) → v.phase �
 called_at problem v old row column is = record {
   stepped = _;
   gives = ap (λ (f : Phase). by_phase problem (record v { steps = v.steps + 1 }) f old) is;
-  more = by_bool (λ (t : Stepped). length t.sight.calls ≡ length v.calls + 1) (old == 0) _ _ (λ on. length-append v.calls _) (λ off. length-append v.calls _);
+  more = cond_both (old == 0) _ _ (λ (t : Stepped). length t.sight.calls ≡ length v.calls + 1) (λ on. length-append v.calls _) (λ off. length-append v.calls _);
 }
 
 module _ (problem : Problem) (crew : ℕ) (setting : IsSetting problem crew) (s : State) (h : ClaimedPivots problem crew s) (i : ℕ) (lt : i < crew) where

@@ -1,5 +1,5 @@
 -- Calls and counts: every move keeps what is said of each view's own calls.
-use Rattle.std.proofs.Common.{◌≡◌, ◌≢◌, ℕ, ◌+◌, ◌<◌, ◌≤◌, All, AllPairs, [], ◌∷◌, ◌++◌, max, refl, sym, ap, ◌∙◌, arith, subst}
+use Rattle.std.proofs.Common.{◌≡◌, ◌≢◌, ℕ, ◌<◌, ◌≤◌, All, AllPairs, [], ◌∷◌, ◌++◌, refl, sym, ap, ◌∙◌, arith, subst}
 use Rattle.std.proofs.lemmas.List.Elements.{All-push, All-weaker}
 use Rattle.std.proofs.lemmas.List.Quantifiers.{all_pairs_push}
 use Rattle.ideal_laws.specs.declared.account.Answer.{Answer}
@@ -10,11 +10,11 @@ use Rattle.pivot_core.specs.declared.view.Phase.{Phase}
 use Rattle.pivot_core.specs.declared.view.Phase.TheVariants as phase
 use Rattle.pivot_core.specs.declared.sight.Sight.{Sight}
 use Rattle.pivot_core.specs.Words.{Spot, row_in, stamp_in}
+use Rattle.pivot_core.specs.Steps.{lost_call, won_call}
 use Rattle.pivot_core.specs.Runs.{State, IsHeld, claim_at, view_at, word_at}
-use Rattle.pivot_core.specs.Phases.{IsPhase}
 use Rattle.pivot_core.specs.Rule.{PublishedPrefix, Ranges}
 use Rattle.pivot_core.specs.Calls.{IsAnswered, IsCall, IsUnclaimed}
-use Rattle.pivot_core.proofs.Changes.{IsChange}
+use Rattle.pivot_core.proofs.Changes.{IsChange, numbers_at, word_met}
 use Rattle.pivot_core.proofs.Effects.{KeepsHeld, held_after}
 use Rattle.pivot_core.proofs.HeldKept.{won_held}
 use Rattle.pivot_core.proofs.Moves.{IsLater, IsLostClaim, IsMove, IsWonClaim, draws, ends, looks_free, looks_held, puts, wins, loses, reads_more, reads_last}
@@ -52,7 +52,7 @@ call_held problem s seat clock k h = by_answer k.answer h.answered
     by_answer answer.Won h = h.0
     by_answer (answer.Lost row stamp) h = h.0
 
-module _ (problem : Problem) (crew : ℕ) (s t : State) (seat : ℕ) (w : Sight) (a : Spot) (x : ℕ) (c : IsChange problem crew s t seat w a x) where
+module _ {problem : Problem} {crew : ℕ} {s t : State} {seat : ℕ} {w : Sight} {a : Spot} {x : ℕ} (c : IsChange problem crew s t seat w a x) where
   abbrev v : Sight
   v = view_at problem s seat
 
@@ -74,9 +74,6 @@ module _ (problem : Problem) (crew : ℕ) (s t : State) (seat : ℕ) (w : Sight)
 
   module _ (ranges : Ranges problem crew s) (keeps : KeepsHeld problem s t) (published : PublishedPrefix problem crew s)
       (unclaimed : IsUnclaimed v.phase v.calls) where
-    numbers_at : (row column : ℕ) → v.phase ≡ phase.Claiming row column → IsPhase problem.m problem.n (phase.Claiming row column)
-    numbers_at row column was = subst (IsPhase problem.m problem.n) was (ranges.views seat c.below).numbers
-
     -- the call of a claim
     call_made : (k : Call) {d : ℕ} → k.seat ≡ v.seat → v.phase ≡ phase.Claiming k.row k.column → IsLater v w k.stamp d (v.calls ++ k ∷ [])
         → v.clock < k.stamp → IsAnswered problem t k k.answer → IsCalling
@@ -84,8 +81,8 @@ module _ (problem : Problem) (crew : ℕ) (s t : State) (seat : ℕ) (w : Sight)
       calls = later.calls;
       is = record {
         own = own ∙ ranges.seats seat c.below;
-        column = (numbers_at k.row k.column was).1;
-        row = (numbers_at k.row k.column was).0;
+        column = (numbers_at c ranges was).1;
+        row = (numbers_at c ranges was).0;
         stamp = omega (arith, later.clock);
         answered = answered;
       };
@@ -94,25 +91,19 @@ module _ (problem : Problem) (crew : ℕ) (s t : State) (seat : ℕ) (w : Sight)
       column = subst (λ (f : Phase). IsUnclaimed f v.calls) was unclaimed;
     })
 
-    won_call : IsWonClaim problem v old w a x → IsCalling
-    won_call m =
-        call_made (record { seat = v.seat; stamp = v.clock + 1; column = m.column; row = m.row; answer = answer.Won }) refl m.was m.later (omega arith) (
-          won_held problem crew s t seat w a x c ranges published m,
-          won_holder problem crew s t seat w a x c ranges m,
-          won_stamp problem crew s t seat w a x c ranges m,
+    calling_won : IsWonClaim problem v old w a x → IsCalling
+    calling_won m =
+        call_made (won_call v m.row m.column) refl m.was m.later (omega arith) (
+          won_held c ranges published m,
+          won_holder c ranges m,
+          won_stamp c ranges m,
         )
 
-    lost_call : IsLostClaim problem v old w a x → IsCalling
-    lost_call m =
-        let met : claim_at problem s m.column ≡ old = ap (word_at problem s) (sym m.spot) in
-        let held : IsHeld problem s m.column = record { below = (numbers_at m.row m.column m.was).1; some = λ e. m.held (sym met ∙ e) } in
-        call_made (record {
-          seat = v.seat;
-          stamp = max v.clock (stamp_in old) + 1;
-          column = m.column;
-          row = m.row;
-          answer = answer.Lost (row_in old) (stamp_in old);
-        }) refl m.was m.later (omega arith) (
+    calling_lost : IsLostClaim problem v old w a x → IsCalling
+    calling_lost m =
+        let met : claim_at problem s m.column ≡ old = word_met c m.spot in
+        let held : IsHeld problem s m.column = record { below = (numbers_at c ranges m.was).1; some = λ e. m.held (sym met ∙ e) } in
+        call_made (lost_call v m.row m.column old) refl m.was m.later (omega arith) (
           held_after problem s t m.column keeps held,
           ap row_in (keeps.claims m.column held ∙ met),
           ap stamp_in (keeps.claims m.column held ∙ met),
@@ -129,8 +120,8 @@ module _ (problem : Problem) (crew : ℕ) (s t : State) (seat : ℕ) (w : Sight)
     calling (looks_free m) = as_before m.later
     calling (looks_held m) = silent m.later.calls (omega (arith, m.later.clock))
     calling (puts m) = as_before m.later
-    calling (wins m) = won_call m
-    calling (loses m) = lost_call m
+    calling (wins m) = calling_won m
+    calling (loses m) = calling_lost m
     calling (reads_more m) = as_before m.later
     calling (reads_last m) = as_before m.later
 

@@ -5,10 +5,12 @@ use Rattle.std.proofs.lemmas.Bool.{cases_eq}
 use Rattle.std.proofs.lemmas.List.{get_or-set_same, get_or-set_other, length-set}
 use Rattle.std.proofs.lemmas.List.Sums.{sum_by-set}
 use Rattle.back_reduce.specs.declared.problem.Problem.{Problem}
+use Rattle.pivot_core.specs.declared.view.Phase.{Phase}
 use Rattle.pivot_core.specs.declared.sight.Sight.{Sight}
 use Rattle.pivot_core.specs.Words.{Spot, index_of, IsSpot}
 use Rattle.pivot_core.specs.Views.{fresh}
 use Rattle.pivot_core.specs.Runs.{State, view_at, word_at}
+use Rattle.pivot_core.specs.Phases.{IsPhase}
 use Rattle.pivot_core.specs.Rule.{Ranges}
 use Rattle.pivot_core.proofs.Spots.{same_spot, spot_within}
 
@@ -39,7 +41,18 @@ changed problem crew s seat w a x ranges below there = record {
   view_count = length-set s.views seat w;
 }
 
-module _ (problem : Problem) (crew : ℕ) (s t : State) (seat : ℕ) (w : Sight) (a : Spot) (x : ℕ) (c : IsChange problem crew s t seat w a x) where
+module _ {problem : Problem} {crew : ℕ} {s t : State} {seat : ℕ} {w : Sight} {a : Spot} {x : ℕ} (c : IsChange problem crew s t seat w a x) where
+  -- the numbers of the view's phase are in range
+  pub numbers_at : Ranges problem crew s → {f : Phase} → (view_at problem s seat).phase ≡ f → IsPhase problem.m problem.n f
+  numbers_at ranges is = subst (IsPhase problem.m problem.n) is (ranges.views seat c.below).numbers
+
+  -- the word that was met, and the one that was left
+  pub word_met : {b : Spot} → a ≡ b → word_at problem s b ≡ word_at problem s a
+  word_met spot = ap (word_at problem s) (sym spot)
+
+  pub word_left : {b : Spot} → a ≡ b → word_at problem t b ≡ x
+  word_left spot = ap (word_at problem t) (sym spot) ∙ c.word
+
   -- what holds of the new view, and of each other view that stays, holds of all
   pub each_view : (Q : ℕ → Sight → Type 0) → Q seat w → ((i : ℕ) → i < crew → i ≢ seat → Q i (view_at problem s i)) → (i : ℕ) → i < crew →
       Q i (view_at problem t i)

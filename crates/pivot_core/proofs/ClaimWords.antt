@@ -1,8 +1,11 @@
 -- What a claim word says.
-use Rattle.std.proofs.Common.{◌≡◌, ◌≢◌, ◌+◌, ◌*◌, ◌/◌, ◌%◌, ◌<◌, ◌≤◌, ◌^◌, ◌-◌, ℕ, inl, inr, ap, ◌∙◌, arith}
+use Rattle.std.proofs.Common.{◌≡◌, ◌≢◌, ◌+◌, ◌*◌, ◌/◌, ◌%◌, ◌<◌, ◌≤◌, ◌^◌, ◌-◌, ℕ, inl, inr, ap, ◌∙◌, arith, Some, None, Option, refl, sym, ◌==◌, Bool, true, false, ltb}
+use Rattle.std.specs.Prelude.{if◌then◌else◌}
+use Rattle.std.proofs.lemmas.Bool.{cond-true, cond-false, cond_both, lt-ltb, le-ltb, ne_eqb, eqb-false}
+use Rattle.std.proofs.lemmas.Option.{none-some, same_Some}
 use Rattle.std.proofs.lemmas.Nat.{div-mul-add, mod-mul-add, mul-le}
 use Rattle.back_reduce.specs.declared.problem.Problem.{Problem}
-use Rattle.pivot_core.specs.Words.{IsClaimWord, claim_word, row_in, stamp_in}
+use Rattle.pivot_core.specs.Words.{IsClaimWord, claim_word, row_in, stamp_in, holder_in, value_in}
 
 pub stamp_in-claim_word : (stamp row : ℕ) → row + 1 < 2 ^ 32 → stamp_in (claim_word stamp row) ≡ stamp
 stamp_in-claim_word stamp row small =
@@ -35,3 +38,31 @@ told n word few (inr c) other =
     let row : row_in word ≡ c.row = ap row_in c.form ∙ row_in-claim_word c.stamp c.row (omega (arith, c.below, few)) in
     let stamp : stamp_in word ≡ c.stamp = ap stamp_in c.form ∙ stamp_in-claim_word c.stamp c.row (omega (arith, c.below, few)) in
     record { row = omega (arith, row, c.below); some = omega (arith, stamp, c.some); small = omega (arith, stamp, c.small) }
+
+-- a word other than 0 tells a holder
+pub holder_in-some : (word : ℕ) → word ≢ 0 → holder_in word ≡ Some (row_in word)
+holder_in-some word some = cond-false _ _ _ (ne_eqb word 0 some)
+
+pub holder_in-row : (word row : ℕ) → holder_in word ≡ Some row → (word ≢ 0) × (row_in word ≡ row)
+holder_in-row word row = cond_both (word == 0) _ _ (λ (o : Option ℕ). o ≡ Some row → (word ≢ 0) × (row_in word ≡ row))
+    (λ on e. absurd (none-some row e)) (λ off e. (eqb-false word 0 off, same_Some (row_in word) row e))
+
+-- a held row is 0 before its column, and a column without a holder has none
+pub value_in-before : (word : ℕ) (published : ℕ → ℕ → ℕ) (c j : ℕ) → j < c → value_in word published c j ≡ 0
+value_in-before word published c j lt = cond_both (word == 0) _ _ (λ (k : ℕ). k ≡ 0) (λ on. refl) (λ off. cond-true _ _ _ (lt-ltb j c lt))
+
+pub value_in-free : (word : ℕ) (published : ℕ → ℕ → ℕ) (c j : ℕ) → holder_in word ≡ None → value_in word published c j ≡ 0
+value_in-free word published c j = cond_both (word == 0) _ _ (λ (o : Option ℕ). o ≡ None → value_in word published c j ≡ 0)
+    (λ on none. cond-true _ _ _ on) (λ off none. absurd (none-some (row_in word) (sym none)))
+
+if_same : {A : Type 0} (b : Bool) (x y z : A) → (b ≡ false → y ≡ z) → (if b then x else y) ≡ (if b then x else z)
+if_same true x y z h = refl
+if_same false x y z h = h refl
+
+-- of what is published it takes what the holder has
+pub value_in-same : (word : ℕ) (f g : ℕ → ℕ → ℕ) (c j : ℕ) → (word ≢ 0 → f (row_in word) j ≡ g (row_in word) j) → value_in word f c j ≡ value_in word g c j
+value_in-same word f g c j same = if_same (word == 0) 0 _ _ (λ some. if_same (ltb j c) 0 _ _ (λ from. same (eqb-false word 0 some)))
+
+-- from its column on it has what the holder has published
+pub value_in-from : (word : ℕ) (published : ℕ → ℕ → ℕ) (c j : ℕ) → word ≢ 0 → c ≤ j → value_in word published c j ≡ published (row_in word) j
+value_in-from word published c j some le = cond-false _ _ _ (ne_eqb word 0 some) ∙ cond-false _ _ _ (le-ltb j c le)

@@ -8,7 +8,7 @@ use Rattle.pivot_core.specs.Words.{Spot, counter}
 use Rattle.pivot_core.specs.Runs.{State, view_at, word_at}
 use Rattle.pivot_core.specs.Phases.{is_ended}
 use Rattle.pivot_core.specs.Rule.{CounterSum}
-use Rattle.pivot_core.proofs.Changes.{IsChange}
+use Rattle.pivot_core.proofs.Changes.{IsChange, word_left, word_met}
 use Rattle.pivot_core.proofs.Effects.{counter_cases}
 use Rattle.pivot_core.proofs.Moves.{IsDraw, IsEnd, IsMove, IsSettling, given_up, goes_on, draws, ends, looks_free, looks_held, puts, wins, loses}
 use Rattle.pivot_core.proofs.Moves.{reads_more, reads_last}
@@ -18,7 +18,7 @@ not_ended : (problem : Problem) (y : List ℕ) (row : ℕ) (w : Sight) → IsSet
 not_ended problem y row w (goes_on within now current seen) = ap is_ended now
 not_ended problem y row w (given_up past now current seen) = ap is_ended now
 
-module _ (problem : Problem) (crew : ℕ) (s t : State) (seat : ℕ) (w : Sight) (a : Spot) (x : ℕ) (c : IsChange problem crew s t seat w a x) where
+module _ {problem : Problem} {crew : ℕ} {s t : State} {seat : ℕ} {w : Sight} {a : Spot} {x : ℕ} (c : IsChange problem crew s t seat w a x) where
   abbrev v : Sight
   v = view_at problem s seat
 
@@ -48,8 +48,8 @@ module _ (problem : Problem) (crew : ℕ) (s t : State) (seat : ℕ) (w : Sight)
 
   draw_counter_sum : IsDraw problem v old w a x → CounterSum problem s → CounterSum problem t
   draw_counter_sum m r =
-      let met : word_at problem s counter ≡ old = ap (word_at problem s) (sym m.spot) in
-      let now : word_at problem t counter ≡ old + 1 = ap (word_at problem t) (sym m.spot) ∙ c.word ∙ m.word in
+      let met : word_at problem s counter ≡ old = word_met c m.spot in
+      let now : word_at problem t counter ≡ old + 1 = word_left c m.spot ∙ m.word in
       let before : is_ended v.phase ≡ 0 = ap is_ended m.was in
       let after : is_ended w.phase ≡ 0 = not_ended problem _ old w m.settling in
       let none_ended : ended_in s ≡ 0 = none_of met (ended_in s) refl in
@@ -65,8 +65,8 @@ module _ (problem : Problem) (crew : ℕ) (s t : State) (seat : ℕ) (w : Sight)
 
   end_counter_sum : IsEnd problem v old w a x → CounterSum problem s → CounterSum problem t
   end_counter_sum m r =
-      let met : word_at problem s counter ≡ old = ap (word_at problem s) (sym m.spot) in
-      let now : word_at problem t counter ≡ old + 1 = ap (word_at problem t) (sym m.spot) ∙ c.word ∙ m.word in
+      let met : word_at problem s counter ≡ old = word_met c m.spot in
+      let now : word_at problem t counter ≡ old + 1 = word_left c m.spot ∙ m.word in
       let before : is_ended v.phase ≡ 0 = ap is_ended m.was in
       let after : is_ended w.phase ≡ 1 = ap is_ended m.now in
       let all : drawn_in s ≡ problem.n = whole_of met (ended_in s) refl in
@@ -81,11 +81,11 @@ module _ (problem : Problem) (crew : ℕ) (s t : State) (seat : ℕ) (w : Sight)
       whole_of met (suc k) e = r.whole (omega (arith, e))
 
   -- a move from one phase that has not ended to another
-  goes_over : (f g : Phase) → v.phase ≡ f → w.phase ≡ g → is_ended f ≡ 0 → is_ended g ≡ 0 → is_ended w.phase ≡ is_ended v.phase
-  goes_over f g was now before after = ap is_ended now ∙ after ∙ sym before ∙ sym (ap is_ended was)
+  goes_over : {f g : Phase} → v.phase ≡ f → w.phase ≡ g → is_ended f ≡ 0 → is_ended g ≡ 0 → is_ended w.phase ≡ is_ended v.phase
+  goes_over was now before after = ap is_ended now ∙ after ∙ sym before ∙ sym (ap is_ended was)
 
   pub counter_sum_kept : CounterSum problem s → IsMove problem v old w a x → CounterSum problem t
-  counter_sum_kept r move = elim (counter_cases problem crew s t seat w a x c move) [
+  counter_sum_kept r move = elim (counter_cases c move) [
     | inl (inl m) ↦ draw_counter_sum m r
     | inl (inr m) ↦ end_counter_sum m r
     | inr same ↦ by_move move same
@@ -94,13 +94,13 @@ module _ (problem : Problem) (crew : ℕ) (s t : State) (seat : ℕ) (w : Sight)
       by_move : IsMove problem v old w a x → word_at problem t counter ≡ word_at problem s counter → CounterSum problem t
       by_move (draws m) same = draw_counter_sum m r
       by_move (ends m) same = end_counter_sum m r
-      by_move (looks_free m) same = other_counter_sum same m.later.drawn (goes_over _ _ m.was m.now refl refl) r
-      by_move (looks_held m) same = other_counter_sum same m.later.drawn (goes_over _ _ m.was m.now refl refl) r
+      by_move (looks_free m) same = other_counter_sum same m.later.drawn (goes_over m.was m.now refl refl) r
+      by_move (looks_held m) same = other_counter_sum same m.later.drawn (goes_over m.was m.now refl refl) r
       by_move (puts m) same = elim m.now [
-        | inl more ↦ other_counter_sum same m.later.drawn (goes_over _ _ m.was more.1 refl refl) r
-        | inr last ↦ other_counter_sum same m.later.drawn (goes_over _ _ m.was last.1 refl refl) r
+        | inl more ↦ other_counter_sum same m.later.drawn (goes_over m.was more.1 refl refl) r
+        | inr last ↦ other_counter_sum same m.later.drawn (goes_over m.was last.1 refl refl) r
       ]
-      by_move (wins m) same = other_counter_sum same m.later.drawn (goes_over _ _ m.was m.now refl refl) r
-      by_move (loses m) same = other_counter_sum same m.later.drawn (goes_over _ _ m.was m.now refl refl) r
-      by_move (reads_more m) same = other_counter_sum same m.later.drawn (goes_over _ _ m.was m.now refl refl) r
+      by_move (wins m) same = other_counter_sum same m.later.drawn (goes_over m.was m.now refl refl) r
+      by_move (loses m) same = other_counter_sum same m.later.drawn (goes_over m.was m.now refl refl) r
+      by_move (reads_more m) same = other_counter_sum same m.later.drawn (goes_over m.was m.now refl refl) r
       by_move (reads_last m) same = other_counter_sum same m.later.drawn (not_ended problem _ m.row w m.settling ∙ sym (ap is_ended m.was)) r

@@ -1,7 +1,7 @@
 -- How many calls there are, and how often a column is won.
-use Rattle.std.proofs.Common.{◌≡◌, ◌≢◌, inl, inr, ℕ, ◌*◌, ◌<◌, ◌≤◌, ◌==◌, All, AllPairs, Bool, true, false, cond, length, get_or, refl, ap, ◌∙◌, arith, subst}
+use Rattle.std.proofs.Common.{◌≡◌, ◌≢◌, inl, inr, ℕ, ◌*◌, ◌<◌, ◌≤◌, ◌==◌, All, AllPairs, Bool, cond, length, get_or, refl, ap, ◌∙◌, arith, subst}
 use Rattle.std.specs.List.{sum_by}
-use Rattle.std.proofs.lemmas.Bool.{cases_lt, eqb-true, eqb-false}
+use Rattle.std.proofs.lemmas.Bool.{cases_lt, ne_eqb}
 use Rattle.std.proofs.lemmas.List.{get_or_default}
 use Rattle.std.proofs.lemmas.List.Sums.{sum_by-le}
 use Rattle.std.proofs.lemmas.Nat.{mul-le}
@@ -17,21 +17,6 @@ use Rattle.pivot_core.specs.Calls.{IsCall, call_count, is_won_at, won_count}
 use Rattle.pivot_core.proofs.CallLists.{few_by, no_call, sum_by-none}
 use Rattle.pivot_core.proofs.CallsKept.{call_held}
 
--- two numbers that differ are not tested as one
-pub differ_tested : (a b : ℕ) → a ≢ b → (a == b) ≡ false
-differ_tested a b other = by_answer (a == b) refl
-  where
-    by_answer : (t : Bool) → (a == b) ≡ t → t ≡ false
-    by_answer true e = absurd (other (eqb-true a b e))
-    by_answer false e = refl
-
-pub same_tested : (a : ℕ) → (a == a) ≡ true
-same_tested a = by_answer (a == a) refl
-  where
-    by_answer : (t : Bool) → (a == a) ≡ t → t ≡ true
-    by_answer true e = refl
-    by_answer false e = absurd (eqb-false a a e refl)
-
 abbrev pub one_if : Bool → ℕ
 one_if b = cond b 1 0
 
@@ -40,7 +25,7 @@ pub is_won_at-other : (d : ℕ) (k : Call) → k.column ≢ d → is_won_at d k 
 is_won_at-other d k other = by_answer k.answer
   where
     by_answer : (a : Answer) → elim a as (λ (b : Answer). ℕ) [ answer.Won ↦ cond (k.column == d) 1 0 | answer.Lost row stamp ↦ 0 ] ≡ 0
-    by_answer answer.Won = ap (λ (t : Bool). cond t 1 0) (differ_tested k.column d other)
+    by_answer answer.Won = ap (λ (t : Bool). cond t 1 0) (ne_eqb k.column d other)
     by_answer (answer.Lost row stamp) = refl
 
 module _ (problem : Problem) (crew : ℕ) (s : State) (ranges : Ranges problem crew s) where

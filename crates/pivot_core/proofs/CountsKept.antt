@@ -1,30 +1,27 @@
 -- Calls and counts: every move keeps what is said of all calls together.
-use Rattle.std.proofs.Common.{◌≡◌, ◌≢◌, inl, inr, ℕ, ◌+◌, ◌<◌, ◌≤◌, All, List, [], ◌∷◌, ◌++◌, length, max, get_or, sym, ap, ◌∙◌, arith, subst}
+use Rattle.std.proofs.Common.{◌≡◌, ◌≢◌, inl, inr, ℕ, ◌+◌, ◌<◌, ◌≤◌, All, List, [], ◌∷◌, ◌++◌, length, get_or, sym, ap, ◌∙◌, arith, subst, refl}
 use Rattle.std.specs.List.{sum_by}
-use Rattle.std.proofs.lemmas.Bool.{cases_eq}
+use Rattle.std.proofs.lemmas.Bool.{cases_eq, ne_eqb, eq-eqb}
 use Rattle.std.proofs.lemmas.List.{length-append}
-use Rattle.ideal_laws.specs.declared.account.Answer.TheVariants as answer
 use Rattle.ideal_laws.specs.declared.account.Call.{Call}
 use Rattle.back_reduce.specs.declared.problem.Problem.{Problem}
 use Rattle.pivot_core.specs.declared.view.Phase.{Phase}
-use Rattle.pivot_core.specs.declared.view.Phase.TheVariants as phase
 use Rattle.pivot_core.specs.declared.sight.Sight.{Sight}
-use Rattle.pivot_core.specs.Words.{Spot, claim_of, row_in, stamp_in}
-use Rattle.pivot_core.specs.Views.{lead_at}
+use Rattle.pivot_core.specs.Words.{Spot, claim_of, stamp_in}
+use Rattle.pivot_core.specs.Steps.{lost_call, won_call}
 use Rattle.pivot_core.specs.Runs.{State, IsHeld, claim_at, view_at, word_at}
-use Rattle.pivot_core.specs.Phases.{IsPhase}
 use Rattle.pivot_core.specs.Rule.{Ranges}
 use Rattle.pivot_core.specs.Calls.{IsCall, IsUnclaimed, call_count, is_won_at, won_count}
 use Rattle.pivot_core.proofs.CallLists.{sum_by-one_more}
 use Rattle.pivot_core.proofs.CallsKept.{IsCalling, call_held, called, silent}
-use Rattle.pivot_core.proofs.Changes.{IsChange}
-use Rattle.pivot_core.proofs.Counts.{differ_tested, one_if, same_tested, won_count-free}
+use Rattle.pivot_core.proofs.Changes.{IsChange, numbers_at, word_met}
+use Rattle.pivot_core.proofs.Counts.{one_if, won_count-free}
 use Rattle.pivot_core.proofs.Effects.{claims_cases, held_before, won_elsewhere, won_free}
 use Rattle.pivot_core.proofs.Moves.{IsMove, IsSettling, IsWonClaim, given_up, goes_on, draws, ends, looks_free, looks_held, puts, wins, loses}
 use Rattle.pivot_core.proofs.Moves.{reads_more, reads_last}
 use Rattle.pivot_core.proofs.Rows.{won_stamp}
 
-module _ (problem : Problem) (crew : ℕ) (s t : State) (seat : ℕ) (w : Sight) (a : Spot) (x : ℕ) (c : IsChange problem crew s t seat w a x) where
+module _ {problem : Problem} {crew : ℕ} {s t : State} {seat : ℕ} {w : Sight} {a : Spot} {x : ℕ} (c : IsChange problem crew s t seat w a x) where
   abbrev v : Sight
   v = view_at problem s seat
 
@@ -35,7 +32,7 @@ module _ (problem : Problem) (crew : ℕ) (s t : State) (seat : ℕ) (w : Sight)
   count_sum = c.sums (λ (z : Sight). length z.calls)
 
   -- as many calls, or one more
-  pub call_count-rises : IsCalling problem crew s t seat w a x c → call_count s ≤ call_count t
+  pub call_count-rises : IsCalling c → call_count s ≤ call_count t
   call_count-rises (silent same le) = omega (arith, count_sum, ap length same)
   call_count-rises (called k h) = omega (arith, count_sum, ap length h.calls, length-append v.calls (k ∷ []))
 
@@ -56,23 +53,16 @@ module _ (problem : Problem) (crew : ℕ) (s t : State) (seat : ℕ) (w : Sight)
   won_as_before (looks_held m) d held = same_won d m.later.calls
   won_as_before (puts m) d held = same_won d m.later.calls
   won_as_before (wins m) d held =
-      let other : m.column ≢ d = λ is. held.some (ap (claim_at problem s) (sym is) ∙ won_free problem crew s t seat w a x c m) in
+      let other : m.column ≢ d = λ is. held.some (ap (claim_at problem s) (sym is) ∙ won_free c m) in
       omega (
         arith,
-        one_more_won d (record { seat = v.seat; stamp = v.clock + 1; column = m.column; row = m.row; answer = answer.Won })
-            m.later.calls,
-        ap one_if (differ_tested m.column d other),
+        one_more_won d (won_call v m.row m.column) m.later.calls,
+        ap one_if (ne_eqb m.column d other),
       )
   won_as_before (loses m) d held =
       omega (
         arith,
-        one_more_won d (record {
-          seat = v.seat;
-          stamp = max v.clock (stamp_in old) + 1;
-          column = m.column;
-          row = m.row;
-          answer = answer.Lost (row_in old) (stamp_in old);
-        }) m.later.calls,
+        one_more_won d (lost_call v m.row m.column old) m.later.calls,
       )
   won_as_before (reads_more m) d held = same_won d m.later.calls
   won_as_before (reads_last m) d held = same_won d m.later.calls
@@ -82,13 +72,13 @@ module _ (problem : Problem) (crew : ℕ) (s t : State) (seat : ℕ) (w : Sight)
     newly_won m =
         omega (
           arith,
-          one_more_won m.column (record { seat = v.seat; stamp = v.clock + 1; column = m.column; row = m.row; answer = answer.Won }) m.later.calls,
-          ap one_if (same_tested m.column),
-          won_count-free problem crew s ranges each m.column (won_free problem crew s t seat w a x c m),
+          one_more_won m.column (won_call v m.row m.column) m.later.calls,
+          ap one_if (eq-eqb m.column m.column refl),
+          won_count-free problem crew s ranges each m.column (won_free c m),
         )
 
     pub won_once : ((d : ℕ) → IsHeld problem s d → won_count s d ≡ 1) → IsMove problem v old w a x → (d : ℕ) → IsHeld problem t d → won_count t d ≡ 1
-    won_once h move d held = elim (held_before problem crew s t seat w a x c move d held) [
+    won_once h move d held = elim (held_before c move d held) [
       | inl won ↦ ap (won_count t) won.1 ∙ newly_won won.0
       | inr was ↦ won_as_before move d was ∙ h d was
     ]
@@ -100,8 +90,8 @@ module _ (problem : Problem) (crew : ℕ) (s t : State) (seat : ℕ) (w : Sight)
 
   module _ (ranges : Ranges problem crew s) (clock : v.clock ≤ call_count s)
       (stamps : (d : ℕ) → d < problem.m → stamp_in (claim_at problem s d) ≤ call_count s) where
-    own_stamp : (f : Phase) (column : ℕ) → v.phase ≡ f → a ≡ claim_of column → column < problem.m → stamp_in old ≤ call_count s
-    own_stamp f column is spot lt = subst (λ (b : Spot). stamp_in (word_at problem s b) ≤ call_count s) (sym spot) (stamps column lt)
+    own_stamp : (column : ℕ) → a ≡ claim_of column → column < problem.m → stamp_in old ≤ call_count s
+    own_stamp column spot lt = subst (λ (b : Spot). stamp_in (word_at problem s b) ≤ call_count s) (sym spot) (stamps column lt)
 
     count_by_one : (k : Call) → w.calls ≡ v.calls ++ k ∷ [] → call_count t ≡ call_count s + 1
     count_by_one k more = omega (arith, count_sum, ap length more, length-append v.calls (k ∷ []))
@@ -114,56 +104,54 @@ module _ (problem : Problem) (crew : ℕ) (s t : State) (seat : ℕ) (w : Sight)
     own_clock (ends m) = omega (arith, m.later.clock, clock, count_same m.later.calls)
     own_clock (looks_free m) = omega (arith, m.later.clock, clock, count_same m.later.calls)
     own_clock (looks_held m) =
-        let numbers : IsPhase problem.m problem.n (phase.Looking m.row m.column) =
-        subst (IsPhase problem.m problem.n) m.was (ranges.views seat c.below).numbers in
-        omega (arith, m.later.clock, clock, count_same m.later.calls, own_stamp (phase.Looking m.row m.column) m.column m.was m.spot numbers.1)
+        let numbers = numbers_at c ranges m.was in
+        omega (arith, m.later.clock, clock, count_same m.later.calls, own_stamp m.column m.spot numbers.1)
     own_clock (puts m) = omega (arith, m.later.clock, clock, count_same m.later.calls)
     own_clock (wins m) = omega (arith, m.later.clock, clock, count_by_one _ m.later.calls)
     own_clock (loses m) =
-        let numbers : IsPhase problem.m problem.n (phase.Claiming m.row m.column) =
-        subst (IsPhase problem.m problem.n) m.was (ranges.views seat c.below).numbers in
-        omega (arith, m.later.clock, clock, count_by_one _ m.later.calls, own_stamp (phase.Claiming m.row m.column) m.column m.was m.spot numbers.1)
+        let numbers = numbers_at c ranges m.was in
+        omega (arith, m.later.clock, clock, count_by_one _ m.later.calls, own_stamp m.column m.spot numbers.1)
     own_clock (reads_more m) = omega (arith, m.later.clock, clock, count_same m.later.calls)
     own_clock (reads_last m) = omega (arith, m.later.clock, clock, count_same m.later.calls)
 
-    pub stamps_kept : IsCalling problem crew s t seat w a x c → IsMove problem v old w a x → (d : ℕ) → d < problem.m →
+    pub stamps_kept : IsCalling c → IsMove problem v old w a x → (d : ℕ) → d < problem.m →
         stamp_in (claim_at problem t d) ≤ call_count t
-    stamps_kept calling move d lt = elim (claims_cases problem crew s t seat w a x c move) [
+    stamps_kept calling move d lt = elim (claims_cases c move) [
       | inr stay ↦ omega (arith, ap stamp_in (stay d lt), stamps d lt, call_count-rises calling)
       | inl m ↦ elim (cases_eq d m.column) [
         | inl is ↦ omega (
           arith,
           ap (λ (e : ℕ). stamp_in (claim_at problem t e)) is,
-          won_stamp problem crew s t seat w a x c ranges m,
+          won_stamp c ranges m,
           clock,
           count_by_one _ m.later.calls,
         )
-        | inr other ↦ omega (arith, ap stamp_in (won_elsewhere problem crew s t seat w a x c m d lt other), stamps d lt, call_count-rises calling)
+        | inr other ↦ omega (arith, ap stamp_in (won_elsewhere c m d lt other), stamps d lt, call_count-rises calling)
       ]
     ]
 
   module _ (ranges : Ranges problem crew s) (each : (i : ℕ) → i < crew →
       All (IsCall problem s i (view_at problem s i).clock) (view_at problem s i).calls) (was : IsUnclaimed v.phase v.calls) where
-    now_at : (f : Phase) → w.phase ≡ f → IsUnclaimed f w.calls → IsUnclaimed w.phase w.calls
-    now_at f is h = subst (λ (g : Phase). IsUnclaimed g w.calls) (sym is) h
+    now_at : {f : Phase} → w.phase ≡ f → IsUnclaimed f w.calls → IsUnclaimed w.phase w.calls
+    now_at is h = subst (λ (g : Phase). IsUnclaimed g w.calls) (sym is) h
 
     settled_unclaimed : (y : List ℕ) (row : ℕ) → IsSettling problem y row w → IsUnclaimed w.phase w.calls
-    settled_unclaimed y row (goes_on within now current seen) = now_at (phase.Looking row (lead_at y)) now tt
-    settled_unclaimed y row (given_up past now current seen) = now_at phase.Fresh now tt
+    settled_unclaimed y row (goes_on within now current seen) = now_at now tt
+    settled_unclaimed y row (given_up past now current seen) = now_at now tt
 
     pub own_unclaimed : IsMove problem v old w a x → IsUnclaimed w.phase w.calls
     own_unclaimed (draws m) = settled_unclaimed _ old m.settling
-    own_unclaimed (ends m) = now_at phase.Ended m.now tt
-    own_unclaimed (looks_free m) = now_at (phase.Putting m.row m.column m.column) m.now
-        (subst (All (λ k. k.column ≢ m.column)) (sym m.later.calls) (found_free ranges each m.column (ap (word_at problem s) (sym m.spot) ∙ m.free)))
-    own_unclaimed (looks_held m) = now_at (phase.Reading m.row m.column (row_in old) m.column) m.now tt
+    own_unclaimed (ends m) = now_at m.now tt
+    own_unclaimed (looks_free m) = now_at m.now
+        (subst (All (λ k. k.column ≢ m.column)) (sym m.later.calls) (found_free ranges each m.column (word_met c m.spot ∙ m.free)))
+    own_unclaimed (looks_held m) = now_at m.now tt
     own_unclaimed (puts m) =
         let before : All (λ k. k.column ≢ m.column) v.calls = subst (λ (f : Phase). IsUnclaimed f v.calls) m.was was in
         elim m.now [
-          | inl more ↦ now_at (phase.Putting m.row m.column (m.at + 1)) more.1 (subst (All (λ k. k.column ≢ m.column)) (sym m.later.calls) before)
-          | inr last ↦ now_at (phase.Claiming m.row m.column) last.1 (subst (All (λ k. k.column ≢ m.column)) (sym m.later.calls) before)
+          | inl more ↦ now_at more.1 (subst (All (λ k. k.column ≢ m.column)) (sym m.later.calls) before)
+          | inr last ↦ now_at last.1 (subst (All (λ k. k.column ≢ m.column)) (sym m.later.calls) before)
         ]
-    own_unclaimed (wins m) = now_at phase.Fresh m.now tt
-    own_unclaimed (loses m) = now_at (phase.Reading m.row m.column (row_in old) m.column) m.now tt
-    own_unclaimed (reads_more m) = now_at (phase.Reading m.row m.column m.holder (m.at + 1)) m.now tt
+    own_unclaimed (wins m) = now_at m.now tt
+    own_unclaimed (loses m) = now_at m.now tt
+    own_unclaimed (reads_more m) = now_at m.now tt
     own_unclaimed (reads_last m) = settled_unclaimed _ m.row m.settling

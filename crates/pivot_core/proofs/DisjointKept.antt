@@ -13,7 +13,7 @@ use Rattle.pivot_core.proofs.Moves.{IsDraw, IsMove, IsWonClaim}
 use Rattle.pivot_core.proofs.Spots.{same_column}
 use Rattle.pivot_core.proofs.Rows.{counter_rises, drawn_is, row_before, winner, won_holder, won_none}
 
-module _ (problem : Problem) (crew : ℕ) (s t : State) (seat : ℕ) (w : Sight) (a : Spot) (x : ℕ) (c : IsChange problem crew s t seat w a x) where
+module _ {problem : Problem} {crew : ℕ} {s t : State} {seat : ℕ} {w : Sight} {a : Spot} {x : ℕ} (c : IsChange problem crew s t seat w a x) where
   abbrev v : Sight
   v = view_at problem s seat
 
@@ -27,17 +27,17 @@ module _ (problem : Problem) (crew : ℕ) (s t : State) (seat : ℕ) (w : Sight)
       held : IsHeld problem s e → holder_of problem t e ≡ holder_of problem s e → IsHolder e
 
     holder_before : (e : ℕ) → IsHeld problem t e → IsHolder e
-    holder_before e h = elim (held_before problem crew s t seat w a x c move e h) [
-      | inl here ↦ won here.0 here.1 (ap (holder_of problem t) here.1 ∙ won_holder problem crew s t seat w a x c ranges here.0)
-      | inr there ↦ held there (ap row_in ((keeps_held problem crew s t seat w a x c d move).claims e there))
+    holder_before e h = elim (held_before c move e h) [
+      | inl here ↦ won here.0 here.1 (ap (holder_of problem t) here.1 ∙ won_holder c ranges here.0)
+      | inr there ↦ held there (ap row_in ((keeps_held c d move).claims e there))
     ]
 
     rises : word_at problem s counter ≤ word_at problem t counter
-    rises = counter_rises problem crew s t seat w a x c move
+    rises = counter_rises c move
 
     drawn_row : (i r : ℕ) → i < crew → (i ≡ seat) × IsDraw problem v old w a x × (r ≡ old) ⊎ HasRow (view_at problem s i).phase r →
         r < min (word_at problem t counter) problem.n
-    drawn_row i r lt (inl here) = omega (arith, here.2, here.1.some, (drawn_is problem crew s t seat w a x c here.1).1)
+    drawn_row i r lt (inl here) = omega (arith, here.2, here.1.some, (drawn_is c here.1).1)
     drawn_row i r lt (inr there) = omega (arith, d.drawn i r lt there, rises)
 
     drawn_holder : (e : ℕ) → IsHolder e → holder_of problem t e < min (word_at problem t counter) problem.n
@@ -47,10 +47,8 @@ module _ (problem : Problem) (crew : ℕ) (s t : State) (seat : ℕ) (w : Sight)
     views_still_apart : (i j r : ℕ) → i < crew → j < crew → (i ≡ seat) × IsDraw problem v old w a x × (r ≡ old) ⊎ HasRow (view_at problem s i).phase r
         → (j ≡ seat) × IsDraw problem v old w a x × (r ≡ old) ⊎ HasRow (view_at problem s j).phase r → i ≡ j
     views_still_apart i j r li lj (inl here) (inl here') = here.0 ∙ sym here'.0
-    views_still_apart i j r li lj (inl here) (inr there') = absurd
-        (omega (arith, d.drawn j r lj there', here.2, (drawn_is problem crew s t seat w a x c here.1).0))
-    views_still_apart i j r li lj (inr there) (inl here') = absurd
-        (omega (arith, d.drawn i r li there, here'.2, (drawn_is problem crew s t seat w a x c here'.1).0))
+    views_still_apart i j r li lj (inl here) (inr there') = absurd (omega (arith, d.drawn j r lj there', here.2, (drawn_is c here.1).0))
+    views_still_apart i j r li lj (inr there) (inl here') = absurd (omega (arith, d.drawn i r li there, here'.2, (drawn_is c here'.1).0))
     views_still_apart i j r li lj (inr there) (inr there') = d.views_apart i j r li lj there there'
 
     holders_still_apart : (e f : ℕ) → IsHolder e → IsHolder f → holder_of problem t e ≡ holder_of problem t f → e ≡ f
@@ -68,17 +66,17 @@ module _ (problem : Problem) (crew : ℕ) (s t : State) (seat : ℕ) (w : Sight)
       | inr other ↦ other (d.views_apart i seat m.row lt c.below (subst (HasRow (view_at problem s i).phase) same
           (subst (λ (u : Sight). HasRow u.phase (holder_of problem t e)) (c.others i other) h)) (winner problem v old w a x m))
     ]
-    both_still_apart i e lt (held there same) h = elim (row_before problem crew s t seat w a x c move i (holder_of problem t e) h) [
-      | inl here ↦ omega (arith, d.holders_drawn e there, here.2, same, (drawn_is problem crew s t seat w a x c here.1).0)
+    both_still_apart i e lt (held there same) h = elim (row_before c move i (holder_of problem t e) h) [
+      | inl here ↦ omega (arith, d.holders_drawn e there, here.2, same, (drawn_is c here.1).0)
       | inr was ↦ d.both_apart i e lt there (subst (HasRow (view_at problem s i).phase) same was)
     ]
 
     pub disjoint_rows_kept : DisjointRows problem crew t
     disjoint_rows_kept = record {
-      drawn = λ i r lt h. drawn_row i r lt (row_before problem crew s t seat w a x c move i r h);
+      drawn = λ i r lt h. drawn_row i r lt (row_before c move i r h);
       holders_drawn = λ e h. drawn_holder e (holder_before e h);
-      views_apart = λ i j r li lj h h'. views_still_apart i j r li lj (row_before problem crew s t seat w a x c move i r h)
-          (row_before problem crew s t seat w a x c move j r h');
+      views_apart = λ i j r li lj h h'. views_still_apart i j r li lj (row_before c move i r h)
+          (row_before c move j r h');
       holders_apart = λ e f h h' eq. holders_still_apart e f (holder_before e h) (holder_before f h') eq;
       both_apart = λ i e lt h h'. both_still_apart i e lt (holder_before e h) h';
     }

@@ -1,16 +1,16 @@
 -- What a move leaves as it was: the counter, the claim words, the row words, and the held rows.
-use Rattle.std.proofs.Common.{◌≡◌, ◌≢◌, ◌⊎◌, inl, inr, ℕ, zero, suc, ◌+◌, ◌<◌, ◌==◌, List, ◌∷◌, map, ltb, refl, sym, ap, ap₂, ◌∙◌, arith, subst}
-use Rattle.std.specs.Prelude.{if◌then◌else◌}
+use Rattle.std.proofs.Common.{◌≡◌, ◌≢◌, ◌⊎◌, inl, inr, ℕ, zero, suc, ◌+◌, ◌<◌, List, ◌∷◌, map, refl, sym, ap, ap₂, ◌∙◌, arith, subst}
+use Rattle.pivot_core.proofs.ClaimWords.{value_in-same}
 use Rattle.std.specs.List.{range_with_len}
 use Rattle.std.proofs.lemmas.Bool.{cases_eq}
 use Rattle.back_reduce.specs.declared.problem.Problem.{Problem}
 use Rattle.pivot_core.specs.declared.view.Phase.{Phase}
 use Rattle.pivot_core.specs.declared.sight.Sight.{Sight}
-use Rattle.pivot_core.specs.Words.{Spot, counter, claim_of, row_word, row_in}
-use Rattle.pivot_core.specs.Runs.{State, IsHeld, claim_at, held_row, holder_of, values, view_at, word_at}
+use Rattle.pivot_core.specs.Words.{Spot, counter, claim_of, row_word, value_in}
+use Rattle.pivot_core.specs.Runs.{State, IsHeld, claim_at, held_row, holder_of, values, view_at, word_at, published_at}
 use Rattle.pivot_core.specs.Phases.{HasRow}
 use Rattle.pivot_core.specs.Rule.{DisjointRows}
-use Rattle.pivot_core.proofs.Changes.{IsChange, quiet}
+use Rattle.pivot_core.proofs.Changes.{IsChange, quiet, word_met}
 use Rattle.pivot_core.proofs.Moves.{IsDraw, IsEnd, IsPut, IsWonClaim, IsMove, draws, ends, looks_free, looks_held, puts, wins, loses, reads_more, reads_last}
 use Rattle.pivot_core.proofs.Spots.{claim_not_counter, claim_not_row, claims_apart, counter_not_claim, counter_not_row, row_not_claim}
 use Rattle.pivot_core.proofs.Spots.{row_not_counter, row_words_apart}
@@ -23,14 +23,15 @@ pub record KeepsHeld (problem : Problem) (s t : State) : Type 0 where
 pub held_after : (problem : Problem) (s t : State) (c : ℕ) → KeepsHeld problem s t → IsHeld problem s c → IsHeld problem t c
 held_after problem s t c k h = record { below = h.below; some = λ e. h.some (sym (k.claims c h) ∙ e) }
 
-listed_same : (f g : ℕ → ℕ) (a n : ℕ) → ((j : ℕ) → j < a + n → f j ≡ g j) → map f (range_with_len a n) ≡ map g (range_with_len a n)
+-- lists of numbers by functions that agree
+pub listed_same : (f g : ℕ → ℕ) (a n : ℕ) → ((j : ℕ) → j < a + n → f j ≡ g j) → map f (range_with_len a n) ≡ map g (range_with_len a n)
 listed_same f g a zero h = refl
 listed_same f g a (suc n) h = ap₂ (λ (x : ℕ) (xs : List ℕ). x ∷ xs) (h a (omega arith)) (listed_same f g (a + 1) n (λ j lt. h j (omega (arith, lt))))
 
 pub held_row_after : (problem : Problem) (s t : State) (c : ℕ) → KeepsHeld problem s t → IsHeld problem s c → held_row problem t c ≡ held_row problem s c
 held_row_after problem s t c k h = listed_same (values problem t c) (values problem s c) 0 problem.m (λ j lt. k.values c j h (omega (arith, lt)))
 
-module _ (problem : Problem) (crew : ℕ) (s t : State) (seat : ℕ) (w : Sight) (a : Spot) (x : ℕ) (c : IsChange problem crew s t seat w a x) where
+module _ {problem : Problem} {crew : ℕ} {s t : State} {seat : ℕ} {w : Sight} {a : Spot} {x : ℕ} (c : IsChange problem crew s t seat w a x) where
   abbrev v : Sight
   v = view_at problem s seat
 
@@ -45,39 +46,39 @@ module _ (problem : Problem) (crew : ℕ) (s t : State) (seat : ℕ) (w : Sight)
   pub claims_cases : IsMove problem v old w a x → IsWonClaim problem v old w a x ⊎ ((d : ℕ) → d < problem.m → claim_at problem t d ≡ claim_at problem s d)
   claims_cases (draws m) = inr (λ d lt. c.words (claim_of d) lt (elsewhere (claim_of d) counter m.spot (claim_not_counter d)))
   claims_cases (ends m) = inr (λ d lt. c.words (claim_of d) lt (elsewhere (claim_of d) counter m.spot (claim_not_counter d)))
-  claims_cases (looks_free m) = inr (λ d lt. quiet problem crew s t seat w a x c m.word (claim_of d) lt)
-  claims_cases (looks_held m) = inr (λ d lt. quiet problem crew s t seat w a x c m.word (claim_of d) lt)
+  claims_cases (looks_free m) = inr (λ d lt. quiet c m.word (claim_of d) lt)
+  claims_cases (looks_held m) = inr (λ d lt. quiet c m.word (claim_of d) lt)
   claims_cases (puts m) = inr (λ d lt. c.words (claim_of d) lt (elsewhere (claim_of d) (row_word m.row m.at) m.spot (claim_not_row d m.row m.at)))
   claims_cases (wins m) = inl m
-  claims_cases (loses m) = inr (λ d lt. quiet problem crew s t seat w a x c m.word (claim_of d) lt)
-  claims_cases (reads_more m) = inr (λ d lt. quiet problem crew s t seat w a x c m.word (claim_of d) lt)
-  claims_cases (reads_last m) = inr (λ d lt. quiet problem crew s t seat w a x c m.word (claim_of d) lt)
+  claims_cases (loses m) = inr (λ d lt. quiet c m.word (claim_of d) lt)
+  claims_cases (reads_more m) = inr (λ d lt. quiet c m.word (claim_of d) lt)
+  claims_cases (reads_last m) = inr (λ d lt. quiet c m.word (claim_of d) lt)
 
   -- a row word is put, or all row words stay
   pub rows_cases : IsMove problem v old w a x → IsPut problem v old w a x
       ⊎ ((r j : ℕ) → r < problem.n → j < problem.m → word_at problem t (row_word r j) ≡ word_at problem s (row_word r j))
   rows_cases (draws m) = inr (λ r j lr lj. c.words (row_word r j) (lr, lj) (elsewhere (row_word r j) counter m.spot (row_not_counter r j)))
   rows_cases (ends m) = inr (λ r j lr lj. c.words (row_word r j) (lr, lj) (elsewhere (row_word r j) counter m.spot (row_not_counter r j)))
-  rows_cases (looks_free m) = inr (λ r j lr lj. quiet problem crew s t seat w a x c m.word (row_word r j) (lr, lj))
-  rows_cases (looks_held m) = inr (λ r j lr lj. quiet problem crew s t seat w a x c m.word (row_word r j) (lr, lj))
+  rows_cases (looks_free m) = inr (λ r j lr lj. quiet c m.word (row_word r j) (lr, lj))
+  rows_cases (looks_held m) = inr (λ r j lr lj. quiet c m.word (row_word r j) (lr, lj))
   rows_cases (puts m) = inl m
   rows_cases (wins m) = inr (λ r j lr lj. c.words (row_word r j) (lr, lj) (elsewhere (row_word r j) (claim_of m.column) m.spot (row_not_claim r j m.column)))
-  rows_cases (loses m) = inr (λ r j lr lj. quiet problem crew s t seat w a x c m.word (row_word r j) (lr, lj))
-  rows_cases (reads_more m) = inr (λ r j lr lj. quiet problem crew s t seat w a x c m.word (row_word r j) (lr, lj))
-  rows_cases (reads_last m) = inr (λ r j lr lj. quiet problem crew s t seat w a x c m.word (row_word r j) (lr, lj))
+  rows_cases (loses m) = inr (λ r j lr lj. quiet c m.word (row_word r j) (lr, lj))
+  rows_cases (reads_more m) = inr (λ r j lr lj. quiet c m.word (row_word r j) (lr, lj))
+  rows_cases (reads_last m) = inr (λ r j lr lj. quiet c m.word (row_word r j) (lr, lj))
 
   -- a row is drawn, or the view ends, or the counter stays
   pub counter_cases : IsMove problem v old w a x → (IsDraw problem v old w a x ⊎ IsEnd problem v old w a x)
       ⊎ (word_at problem t counter ≡ word_at problem s counter)
   counter_cases (draws m) = inl (inl m)
   counter_cases (ends m) = inl (inr m)
-  counter_cases (looks_free m) = inr (quiet problem crew s t seat w a x c m.word counter tt)
-  counter_cases (looks_held m) = inr (quiet problem crew s t seat w a x c m.word counter tt)
+  counter_cases (looks_free m) = inr (quiet c m.word counter tt)
+  counter_cases (looks_held m) = inr (quiet c m.word counter tt)
   counter_cases (puts m) = inr (c.words counter tt (elsewhere counter (row_word m.row m.at) m.spot (counter_not_row m.row m.at)))
   counter_cases (wins m) = inr (c.words counter tt (elsewhere counter (claim_of m.column) m.spot (counter_not_claim m.column)))
-  counter_cases (loses m) = inr (quiet problem crew s t seat w a x c m.word counter tt)
-  counter_cases (reads_more m) = inr (quiet problem crew s t seat w a x c m.word counter tt)
-  counter_cases (reads_last m) = inr (quiet problem crew s t seat w a x c m.word counter tt)
+  counter_cases (loses m) = inr (quiet c m.word counter tt)
+  counter_cases (reads_more m) = inr (quiet c m.word counter tt)
+  counter_cases (reads_last m) = inr (quiet c m.word counter tt)
 
   -- where a column is won, the others keep their claim words
   pub won_elsewhere : (m : IsWonClaim problem v old w a x) (d : ℕ) → d < problem.m → d ≢ m.column → claim_at problem t d ≡ claim_at problem s d
@@ -85,7 +86,7 @@ module _ (problem : Problem) (crew : ℕ) (s t : State) (seat : ℕ) (w : Sight)
 
   -- a won column was free
   pub won_free : (m : IsWonClaim problem v old w a x) → claim_at problem s m.column ≡ 0
-  won_free m = ap (word_at problem s) (sym m.spot) ∙ m.free
+  won_free m = word_met c m.spot ∙ m.free
 
   -- a column that is held after a move is the one that was won, or was held
   pub held_before : IsMove problem v old w a x → (d : ℕ) → IsHeld problem t d → ((m : IsWonClaim problem v old w a x) × (d ≡ m.column)) ⊎ IsHeld problem s d
@@ -119,6 +120,6 @@ module _ (problem : Problem) (crew : ℕ) (s t : State) (seat : ℕ) (w : Sight)
   keeps_held apart move = record {
     claims = same_claims move;
     values = λ d j h lt.
-        ap (λ (k : ℕ). if k == 0 then 0 else if ltb j d then 0 else word_at problem t (row_word (row_in k) j)) (same_claims move d h)
-        ∙ ap (λ (k : ℕ). if claim_at problem s d == 0 then 0 else if ltb j d then 0 else k) (same_rows apart move d j h lt);
+        ap (λ (k : ℕ). value_in k (published_at problem t) d j) (same_claims move d h)
+        ∙ value_in-same (claim_at problem s d) (published_at problem t) (published_at problem s) d j (λ some. same_rows apart move d j h lt);
   }

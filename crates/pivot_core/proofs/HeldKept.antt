@@ -43,7 +43,7 @@ current_inside problem modulus s r current lt held h =
     (IsInSpan-scaled k ℕ P (k.inv a) given (IsInSpan-one k ℕ P given (problem_row problem.modulus modulus problem r lt)))
     (IsInSpan-scaled k ℕ P (k.neg (k.inv a)) h.rest (held_within problem modulus s held h.rest h.inside)))
 
-module _ (problem : Problem) (crew : ℕ) (s t : State) (seat : ℕ) (w : Sight) (a : Spot) (x : ℕ) (c : IsChange problem crew s t seat w a x) where
+module _ {problem : Problem} {crew : ℕ} {s t : State} {seat : ℕ} {w : Sight} {a : Spot} {x : ℕ} (c : IsChange problem crew s t seat w a x) where
   abbrev v : Sight
   v = view_at problem s seat
 
@@ -54,9 +54,9 @@ module _ (problem : Problem) (crew : ℕ) (s t : State) (seat : ℕ) (w : Sight)
     -- the column that was won is held
     pub won_held : IsHeld problem t m.column
     won_held = record {
-      below = (won_numbers problem crew s t seat w a x c ranges m).1;
+      below = (won_numbers c ranges m).1;
       some =
-          λ e. claim_word-other (v.clock + 1) m.row (sym (won_word problem crew s t seat w a x c m ∙ m.word) ∙ e);
+          λ e. claim_word-other (v.clock + 1) m.row (sym (won_word c m ∙ m.word) ∙ e);
     }
 
     view_published : IsPublished problem s (phase.Claiming m.row m.column) v.current
@@ -67,8 +67,8 @@ module _ (problem : Problem) (crew : ℕ) (s t : State) (seat : ℕ) (w : Sight)
       | inl before ↦ view_published.before m.row j refl before ∙ sym (values-before problem t m.column j before)
       | inr from ↦ sym (
           values-from problem t m.column j won_held from
-          ∙ ap (λ (r : ℕ). word_at problem t (row_word r j)) (won_holder problem crew s t seat w a x c ranges m)
-          ∙ c.words (row_word m.row j) ((won_numbers problem crew s t seat w a x c ranges m).0, lt) (λ e. row_not_claim m.row j m.column (e ∙ m.spot))
+          ∙ ap (λ (r : ℕ). word_at problem t (row_word r j)) (won_holder c ranges m)
+          ∙ c.words (row_word m.row j) ((won_numbers c ranges m).0, lt) (λ e. row_not_claim m.row j m.column (e ∙ m.spot))
           ∙ view_published.published m.row j refl from lt)
     ]
 
@@ -85,20 +85,20 @@ module _ (problem : Problem) (crew : ℕ) (s t : State) (seat : ℕ) (w : Sight)
   pub held_in_span_kept : Ranges problem crew s → DisjointRows problem crew s → PublishedPrefix problem crew s →
       CurrentModuloHeld problem crew s → HeldInSpan problem s → IsMove problem v old w a x → HeldInSpan problem t
   held_in_span_kept ranges apart published modulo h move = record {
-    residues = λ d held. elim (held_before problem crew s t seat w a x c move d held) [
+    residues = λ d held. elim (held_before c move d held) [
       | inl won ↦ subst (λ (e : ℕ). IsRow problem.modulus problem.m (held_row problem t e)) (sym won.1)
           (subst (IsRow problem.modulus problem.m) (sym (won_row ranges published won.0)) (won_is_row ranges published won.0))
       | inr was ↦ subst (IsRow problem.modulus problem.m) (sym (still d was)) (h.residues d was)
     ];
-    one = λ d held. elim (held_before problem crew s t seat w a x c move d held) [
+    one = λ d held. elim (held_before c move d held) [
       | inl won ↦ ap (λ (row : List ℕ). get_or row d 0) (ap (held_row problem t) won.1 ∙ won_row ranges published won.0)
           ∙ ap (λ (e : ℕ). get_or v.current e 0) won.1 ∙ won_one ranges published won.0
       | inr was ↦ ap (λ (row : List ℕ). get_or row d 0) (still d was) ∙ h.one d was
     ];
-    inside = λ modulus d held. elim (held_before problem crew s t seat w a x c move d held) [
+    inside = λ modulus d held. elim (held_before c move d held) [
       | inl won ↦ subst (λ (row : List ℕ). IsInRowSpan problem.modulus modulus (rows_of problem) (vector_of problem modulus row))
           (sym (ap (held_row problem t) won.1 ∙ won_row ranges published won.0))
-          (current_inside problem modulus s won.0.row v.current (won_numbers problem crew s t seat w a x c ranges won.0).0 h
+          (current_inside problem modulus s won.0.row v.current (won_numbers c ranges won.0).0 h
           (modulo modulus seat won.0.row c.below (winner problem v old w a x won.0)))
       | inr was ↦ subst (λ (row : List ℕ). IsInRowSpan problem.modulus modulus (rows_of problem) (vector_of problem modulus row))
           (sym (still d was)) (h.inside modulus d was)
@@ -106,4 +106,4 @@ module _ (problem : Problem) (crew : ℕ) (s t : State) (seat : ℕ) (w : Sight)
   }
     where
       still : (d : ℕ) → IsHeld problem s d → held_row problem t d ≡ held_row problem s d
-      still d was = held_row_after problem s t d (keeps_held problem crew s t seat w a x c apart move) was
+      still d was = held_row_after problem s t d (keeps_held c apart move) was

@@ -1,6 +1,6 @@
 -- Held rows, place by place and in spans.
-use Rattle.std.proofs.Common.{◌≡◌, ℕ, ◌<◌, ◌≤◌, ◌==◌, List, Option, Some, ltb, refl, sym, arith, subst, get_or}
-use Rattle.std.proofs.lemmas.Bool.{eqb-true, eqb-false, ltb-true, ltb-false}
+use Rattle.std.proofs.Common.{◌≡◌, ℕ, ◌<◌, ◌≤◌, List, Some, sym, arith, subst, get_or}
+use Rattle.pivot_core.proofs.ClaimWords.{value_in-from, value_in-before, holder_in-some, holder_in-row}
 use Rattle.std.proofs.lemmas.List.FromFn.{get_or-map-range_with_len}
 use Rattle.field_table.specs.Residues.{IsFieldModulus}
 use Rattle.linear_algebra.specs.Fields.{Field}
@@ -12,39 +12,27 @@ use Rattle.back_reduce.specs.Rows.{IsInRowSpan}
 use Rattle.back_reduce.proofs.RowLists.{OneOf, held_one, one_held}
 use Rattle.back_reduce.proofs.Vectors.{K, V, vec}
 use Rattle.pivot_core.specs.Words.{row_word}
-use Rattle.pivot_core.specs.Runs.{State, IsHeld, claim_at, held_row, held_rows, holder_of, holders, values, word_at}
+use Rattle.pivot_core.specs.Runs.{State, IsHeld, claim_at, held_row, held_rows, holder_of, holders, values, word_at, published_at}
 use Rattle.pivot_core.specs.Rule.{HeldInSpan}
 use Rattle.pivot_core.proofs.Effects.{KeepsHeld, held_after, held_row_after}
-use Rattle.pivot_core.proofs.Table.{by_bool, none_not_some, same_some}
 
 pub held_row-at : (problem : Problem) (s : State) (c j : ℕ) → j < problem.m → get_or (held_row problem s c) j 0 ≡ values problem s c j
 held_row-at problem s c j lt = get_or-map-range_with_len (values problem s c) 0 problem.m j j 0 lt (omega arith)
 
 -- a held row is 0 before its column, and from there on has the holder's row words
 pub values-before : (problem : Problem) (s : State) (c j : ℕ) → j < c → values problem s c j ≡ 0
-values-before problem s c j lt =
-    by_bool (λ (k : ℕ). k ≡ 0) (claim_at problem s c == 0) _ _ (λ on. refl)
-    (λ off. by_bool (λ (k : ℕ). k ≡ 0) (ltb j c) _ _ (λ on. refl) (λ off. absurd (omega (arith, lt, ltb-false j c off))))
+values-before problem s c j lt = value_in-before (claim_at problem s c) (published_at problem s) c j lt
 
 pub values-from : (problem : Problem) (s : State) (c j : ℕ) → IsHeld problem s c → c ≤ j →
     values problem s c j ≡ word_at problem s (row_word (holder_of problem s c) j)
-values-from problem s c j h le =
-    by_bool (λ (k : ℕ). k ≡ word_at problem s (row_word (holder_of problem s c) j)) (claim_at problem s c == 0) _ _
-    (λ on. absurd (h.some (eqb-true (claim_at problem s c) 0 on)))
-    (λ off. by_bool (λ (k : ℕ). k ≡ word_at problem s (row_word (holder_of problem s c) j)) (ltb j c) _ _
-    (λ on. absurd (omega (arith, le, ltb-true j c on))) (λ off. refl))
+values-from problem s c j h le = value_in-from (claim_at problem s c) (published_at problem s) c j h.some le
 
 -- a column has a holder where it is held
 pub holders-held : (problem : Problem) (s : State) (c : ℕ) → IsHeld problem s c → holders problem s c ≡ Some (holder_of problem s c)
-holders-held problem s c h =
-    by_bool (λ (o : Option ℕ). o ≡ Some (holder_of problem s c)) (claim_at problem s c == 0) _ _
-    (λ on. absurd (h.some (eqb-true (claim_at problem s c) 0 on))) (λ off. refl)
+holders-held problem s c h = holder_in-some (claim_at problem s c) h.some
 
 pub held_holders : (problem : Problem) (s : State) (c r : ℕ) → c < problem.m → holders problem s c ≡ Some r → IsHeld problem s c × (holder_of problem s c ≡ r)
-held_holders problem s c r lt =
-    by_bool (λ (o : Option ℕ). o ≡ Some r → IsHeld problem s c × (holder_of problem s c ≡ r)) (claim_at problem s c == 0) _ _
-    (λ on e. absurd (none_not_some r e))
-    (λ off e. (record { below = lt; some = eqb-false (claim_at problem s c) 0 off }, same_some (holder_of problem s c) r e))
+held_holders problem s c r lt e = let is = holder_in-row (claim_at problem s c) r e in (record { below = lt; some = is.0 }, is.1)
 
 module _ (problem : Problem) (modulus : IsFieldModulus problem.modulus) where
   abbrev pub Kp : Field

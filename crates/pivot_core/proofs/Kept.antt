@@ -29,7 +29,7 @@ module _ (problem : Problem) (crew : ℕ) (setting : IsSetting problem crew) whe
 
   module _ (s t : State) (h : Rule s) (k : IsTaken problem crew s t) where
     pub held_kept : KeepsHeld problem s t
-    held_kept = keeps_held problem crew s t k.seat k.sight k.spot k.word k.change h.disjoint_rows k.move
+    held_kept = keeps_held k.change h.disjoint_rows k.move
 
     -- clocks are far below the greatest stamp
     pub clock_small : (i : ℕ) → i < crew → (view_at problem s i).clock + 1 < 2 ^ 32
@@ -39,48 +39,48 @@ module _ (problem : Problem) (crew : ℕ) (setting : IsSetting problem crew) whe
 
     calls_kept : CallsAndCounts problem crew t
     calls_kept =
-        let now = calling problem crew s t k.seat k.sight k.spot k.word k.change h.ranges held_kept h.published_prefix
+        let now = calling k.change h.ranges held_kept h.published_prefix
         (h.calls_and_counts.unclaimed k.seat k.change.below) k.move in
         let own = h.calls_and_counts.each k.seat k.change.below in
         record {
-          each = each_view problem crew s t k.seat k.sight k.spot k.word k.change (λ i v. All (IsCall problem t i v.clock) v.calls)
-              (own_each problem crew s t k.seat k.sight k.spot k.word k.change held_kept own now)
+          each = each_view k.change (λ i v. All (IsCall problem t i v.clock) v.calls)
+              (own_each k.change held_kept own now)
               (λ i lt other j d within. call_stays problem s t held_kept i (view_at problem s i).clock (view_at problem s i).clock
               (omega arith) _ (h.calls_and_counts.each i lt j d within));
-          columns = each_view problem crew s t k.seat k.sight k.spot k.word k.change (λ i v. AllPairs (λ e f. e.column ≢ f.column) v.calls)
-              (own_columns problem crew s t k.seat k.sight k.spot k.word k.change held_kept own now
+          columns = each_view k.change (λ i v. AllPairs (λ e f. e.column ≢ f.column) v.calls)
+              (own_columns k.change held_kept own now
               (h.calls_and_counts.columns k.seat k.change.below)) (λ i lt other. h.calls_and_counts.columns i lt);
-          rising = each_view problem crew s t k.seat k.sight k.spot k.word k.change (λ i v. AllPairs (λ e f. e.stamp < f.stamp) v.calls)
-              (own_rising problem crew s t k.seat k.sight k.spot k.word k.change held_kept own now
+          rising = each_view k.change (λ i v. AllPairs (λ e f. e.stamp < f.stamp) v.calls)
+              (own_rising k.change held_kept own now
               (h.calls_and_counts.rising k.seat k.change.below)) (λ i lt other. h.calls_and_counts.rising i lt);
-          won = won_once problem crew s t k.seat k.sight k.spot k.word k.change h.ranges h.calls_and_counts.each h.calls_and_counts.won k.move;
-          clocks = each_view problem crew s t k.seat k.sight k.spot k.word k.change (λ i v. v.clock ≤ call_count t)
-              (own_clock problem crew s t k.seat k.sight k.spot k.word k.change h.ranges (h.calls_and_counts.clocks k.seat k.change.below)
+          won = won_once k.change h.ranges h.calls_and_counts.each h.calls_and_counts.won k.move;
+          clocks = each_view k.change (λ i v. v.clock ≤ call_count t)
+              (own_clock k.change h.ranges (h.calls_and_counts.clocks k.seat k.change.below)
               h.calls_and_counts.stamps k.move)
-              (λ i lt other. omega (arith, h.calls_and_counts.clocks i lt, call_count-rises problem crew s t k.seat k.sight k.spot k.word k.change now));
-          stamps = stamps_kept problem crew s t k.seat k.sight k.spot k.word k.change h.ranges
+              (λ i lt other. omega (arith, h.calls_and_counts.clocks i lt, call_count-rises k.change now));
+          stamps = stamps_kept k.change h.ranges
               (h.calls_and_counts.clocks k.seat k.change.below) h.calls_and_counts.stamps now k.move;
-          unclaimed = each_view problem crew s t k.seat k.sight k.spot k.word k.change (λ i v. IsUnclaimed v.phase v.calls)
-              (own_unclaimed problem crew s t k.seat k.sight k.spot k.word k.change h.ranges h.calls_and_counts.each
+          unclaimed = each_view k.change (λ i v. IsUnclaimed v.phase v.calls)
+              (own_unclaimed k.change h.ranges h.calls_and_counts.each
               (h.calls_and_counts.unclaimed k.seat k.change.below) k.move) (λ i lt other. h.calls_and_counts.unclaimed i lt);
-          steps = each_view problem crew s t k.seat k.sight k.spot k.word k.change (λ i v. IsBounded problem.m v.phase v.drawn v.steps)
-              (own_bounded problem crew s t k.seat k.sight k.spot k.word k.change setting.field h.ranges h.held_in_span h.published_prefix
+          steps = each_view k.change (λ i v. IsBounded problem.m v.phase v.drawn v.steps)
+              (own_bounded k.change setting.field h.ranges h.held_in_span h.published_prefix
               h.read_prefix (h.calls_and_counts.steps k.seat k.change.below) k.move) (λ i lt other. h.calls_and_counts.steps i lt);
         }
 
     pub rule_kept : Rule t
     rule_kept = record {
-      ranges = ranges_kept problem crew s t k.seat k.sight k.spot k.word k.change h.ranges (λ won. clock_small k.seat k.change.below) k.move;
-      counter_sum = counter_sum_kept problem crew s t k.seat k.sight k.spot k.word k.change h.counter_sum k.move;
-      disjoint_rows = disjoint_rows_kept problem crew s t k.seat k.sight k.spot k.word k.change h.ranges h.disjoint_rows k.move;
-      held_in_span = held_in_span_kept problem crew s t k.seat k.sight k.spot k.word k.change h.ranges h.disjoint_rows h.published_prefix
+      ranges = ranges_kept k.change h.ranges (λ won. clock_small k.seat k.change.below) k.move;
+      counter_sum = counter_sum_kept k.change h.counter_sum k.move;
+      disjoint_rows = disjoint_rows_kept k.change h.ranges h.disjoint_rows k.move;
+      held_in_span = held_in_span_kept k.change h.ranges h.disjoint_rows h.published_prefix
           h.current_modulo_held h.held_in_span k.move;
-      published_prefix = published_prefix_kept problem crew s t k.seat k.sight k.spot k.word k.change h.ranges h.disjoint_rows setting.field
+      published_prefix = published_prefix_kept k.change h.ranges h.disjoint_rows setting.field
           h.published_prefix k.move;
-      read_prefix = read_prefix_kept problem crew s t k.seat k.sight k.spot k.word k.change h.ranges h.disjoint_rows h.read_prefix k.move;
-      current_modulo_held = current_modulo_kept problem crew s t k.seat k.sight k.spot k.word k.change h.ranges h.disjoint_rows
+      read_prefix = read_prefix_kept k.change h.ranges h.disjoint_rows h.read_prefix k.move;
+      current_modulo_held = current_modulo_kept k.change h.ranges h.disjoint_rows
           h.read_prefix h.current_modulo_held k.move;
-      settled_in_span = settled_in_span_kept problem crew s t k.seat k.sight k.spot k.word k.change h.ranges h.disjoint_rows
+      settled_in_span = settled_in_span_kept k.change h.ranges h.disjoint_rows
           h.published_prefix h.read_prefix h.current_modulo_held h.settled_in_span k.move;
       calls_and_counts = calls_kept;
     }

@@ -1,7 +1,7 @@
 -- Calls in order that tell what their columns hold are a history of the one-thread object.
 use Rattle.std.proofs.Common.{◌≡◌, ℕ, zero, suc, ◌+◌, ◌<◌, ◌==◌, All, AllPairs, cond, List, [], ◌∷◌, get_or, refl, sym, ap, ap₂, ◌∙◌, arith, subst}
 use Rattle.std.specs.List.{sum_by}
-use Rattle.std.proofs.lemmas.Bool.{eqb-true}
+use Rattle.std.proofs.lemmas.Bool.{cond_both, eqb-true, eq-eqb}
 use Rattle.std.proofs.lemmas.List.Elements.{All-cons, All-head, All-nil, All-tail}
 use Rattle.std.proofs.lemmas.List.Sums.{sum_by-cons}
 use Rattle.ideal_laws.specs.declared.account.Answer.{Answer}
@@ -14,9 +14,8 @@ use Rattle.pivot_core.specs.Calls.{IsAnswered, IsCall, is_won_at}
 use Rattle.pivot_core.specs.History.{Replays, ReplaysAfter, answer_after}
 use Rattle.pivot_core.proofs.CallLists.{sum_by-none}
 use Rattle.pivot_core.proofs.CallsKept.{call_held}
-use Rattle.pivot_core.proofs.Counts.{one_if, same_tested}
+use Rattle.pivot_core.proofs.Counts.{one_if}
 use Rattle.pivot_core.proofs.SortedCalls.{IsNotAfter, not_after_stamp}
-use Rattle.pivot_core.proofs.Table.{by_bool}
 
 module _ (problem : Problem) (s : State) where
   -- a call in range that tells what its column holds
@@ -41,7 +40,7 @@ module _ (problem : Problem) (s : State) where
       by_answer (answer_after ks c) (answer_after-free ks c (omega (arith, parts))) k.answer (omega (arith, parts))
     where
       by_answer : (rest : Answer) → rest ≡ answer.Won → (a : Answer) → won_part c k a ≡ 0 → after_one k a c rest ≡ answer.Won
-      by_answer rest is answer.Won none = by_bool (λ (x : Answer). x ≡ answer.Won) (k.column == c) _ _
+      by_answer rest is answer.Won none = cond_both (k.column == c) _ _ (λ (x : Answer). x ≡ answer.Won)
           (λ on. absurd (omega (arith, none, ap one_if on))) (λ off. is)
       by_answer rest is (answer.Lost row stamp) none = is
 
@@ -54,7 +53,7 @@ module _ (problem : Problem) (s : State) where
     where
       by_answer : (rest : Answer) → (0 < sum_by (is_won_at c) ks → rest ≡ lost_at c) → (a : Answer) → IsAnswered problem s k a
           → 0 < won_part c k a + sum_by (is_won_at c) ks → after_one k a c rest ≡ lost_at c
-      by_answer rest more answer.Won h some = by_bool (λ (x : Answer). x ≡ lost_at c) (k.column == c) _ _
+      by_answer rest more answer.Won h some = cond_both (k.column == c) _ _ (λ (x : Answer). x ≡ lost_at c)
           (λ on. (let at : lost_at k.column ≡ lost_at c = ap lost_at (eqb-true k.column c on) in ap₂ (λ (r n : ℕ). answer.Lost r n) (sym h.1) (sym h.2) ∙ at))
           (λ off. more (omega (arith, some, ap one_if off)))
       by_answer rest more (answer.Lost row stamp) h some = more (omega (arith, some))
@@ -64,7 +63,7 @@ module _ (problem : Problem) (s : State) where
   not_won_late c l h late = by_answer l.answer h.answered
     where
       by_answer : (a : Answer) → IsAnswered problem s l a → won_part c l a ≡ 0
-      by_answer answer.Won h = by_bool (λ (n : ℕ). n ≡ 0) (l.column == c) _ _
+      by_answer answer.Won h = cond_both (l.column == c) _ _ (λ (n : ℕ). n ≡ 0)
           (λ on. (let same : stamp_in (claim_at problem s l.column) ≡ stamp_in (claim_at problem s c) =
           ap (λ (d : ℕ). stamp_in (claim_at problem s d)) (eqb-true l.column c on) in
           absurd (omega (arith, h.2, same, late))))
@@ -76,7 +75,7 @@ module _ (problem : Problem) (s : State) where
       → (a : Answer) → IsAnswered problem s k a → sum_by (is_won_at k.column) done +
       (won_part k.column k a + sum_by (is_won_at k.column) ks) ≡ 1 → a ≡ answer_after done k.column
   next_answer done k ks before later follow answer.Won h once =
-      sym (answer_after-free done k.column (omega (arith, once, ap one_if (same_tested k.column))))
+      sym (answer_after-free done k.column (omega (arith, once, ap one_if (eq-eqb k.column k.column refl))))
   next_answer done k ks before later follow (answer.Lost row stamp) h once =
       let none : sum_by (is_won_at k.column) ks ≡ 0 = sum_by-none (is_won_at k.column) ks
       (λ j d within. not_won_late k.column (get_or ks j d) (later j d within)

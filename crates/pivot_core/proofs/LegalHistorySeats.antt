@@ -1,14 +1,13 @@
 -- The calls of one seat among sorted and joined calls.
-use Rattle.std.proofs.Common.{◌≡◌, ◌≢◌, ℕ, zero, suc, ◌<◌, ◌≤◌, ◌==◌, All, AllPairs, Bool, true, false, true≢false, cond, List, [], ◌∷◌, ◌++◌, length}
+use Rattle.std.proofs.Common.{◌≡◌, ◌≢◌, ℕ, zero, suc, ◌<◌, ◌≤◌, ◌==◌, All, AllPairs, Bool, true, false, true≢false, cond, List, [], ◌∷◌, ◌++◌, length, refl}
 use Rattle.std.proofs.Common.{get_or, refl, sym, ap, ap₂, ◌∙◌, arith, subst}
-use Rattle.std.proofs.lemmas.Bool.{eqb-false, eqb-true}
+use Rattle.std.proofs.lemmas.Bool.{eqb-false, eqb-true, ne_eqb, eq-eqb}
 use Rattle.std.proofs.lemmas.List.{append-nil}
 use Rattle.std.proofs.lemmas.List.Elements.{All-cons, All-from_get_or, All-head, All-nil, All-tail, filter-append}
 use Rattle.std.proofs.lemmas.List.Kept.{AllPairs-cons}
 use Rattle.ideal_laws.specs.declared.account.Call.{Call}
 use Rattle.pivot_core.specs.History.{insert_call, is_not_after, joined_calls, sorted_calls}
 use Rattle.pivot_core.specs.Laws.{calls_of}
-use Rattle.pivot_core.proofs.Counts.{differ_tested, same_tested}
 use Rattle.pivot_core.proofs.SortedCalls.{All-joined_calls, not_after-same_seat}
 
 -- stamps that rise, and stamps that do not fall
@@ -33,13 +32,13 @@ module _ (i : ℕ) where
   calls_of-all : (ks : List Call) → All (λ k. k.seat ≡ i) ks → calls_of i ks ≡ ks
   calls_of-all [] h = refl
   calls_of-all (k ∷ ks) h =
-      calls_of-own k ks (ap (λ (n : ℕ). n == i) (All-head (λ l. l.seat ≡ i) k ks h) ∙ same_tested i)
+      calls_of-own k ks (ap (λ (n : ℕ). n == i) (All-head (λ l. l.seat ≡ i) k ks h) ∙ eq-eqb i i refl)
       ∙ ap (λ (ls : List Call). k ∷ ls) (calls_of-all ks (All-tail (λ l. l.seat ≡ i) k ks h))
 
   pub calls_of-none : (ks : List Call) → All IsElsewhere ks → calls_of i ks ≡ []
   calls_of-none [] h = refl
   calls_of-none (k ∷ ks) h =
-      calls_of-other k ks (differ_tested k.seat i (All-head (λ l. l.seat ≢ i) k ks h)) ∙ calls_of-none ks (All-tail (λ l. l.seat ≢ i) k ks h)
+      calls_of-other k ks (ne_eqb k.seat i (All-head (λ l. l.seat ≢ i) k ks h)) ∙ calls_of-none ks (All-tail (λ l. l.seat ≢ i) k ks h)
 
   -- an insertion of another seat's call leaves the seat's calls
   insert_call-other : (k : Call) (ls : List Call) → (k.seat == i) ≡ false → calls_of i (insert_call k ls) ≡ calls_of i ls
@@ -52,7 +51,7 @@ module _ (i : ℕ) where
 
   -- and that of its own call, of a stamp that is not above theirs, puts it first
   insert_call-own : (k : Call) (ls : List Call) → k.seat ≡ i → All (IsNotAbove k) (calls_of i ls) → calls_of i (insert_call k ls) ≡ k ∷ calls_of i ls
-  insert_call-own k [] own below = calls_of-own k [] (ap (λ (n : ℕ). n == i) own ∙ same_tested i)
+  insert_call-own k [] own below = calls_of-own k [] (ap (λ (n : ℕ). n == i) own ∙ eq-eqb i i refl)
   insert_call-own k (l ∷ ls) own below = by_answer (insert_call-own k ls own) (is_not_after k l) refl
     where
       by_seat : (All (IsNotAbove k) (calls_of i ls) → calls_of i (insert_call k ls) ≡ k ∷ calls_of i ls)
@@ -66,7 +65,7 @@ module _ (i : ℕ) where
 
       by_answer : (All (IsNotAbove k) (calls_of i ls) → calls_of i (insert_call k ls) ≡ k ∷ calls_of i ls)
           → (b : Bool) → is_not_after k l ≡ b → calls_of i (cond b (k ∷ l ∷ ls) (l ∷ insert_call k ls)) ≡ k ∷ calls_of i (l ∷ ls)
-      by_answer rest true e = calls_of-own k (l ∷ ls) (ap (λ (n : ℕ). n == i) own ∙ same_tested i)
+      by_answer rest true e = calls_of-own k (l ∷ ls) (ap (λ (n : ℕ). n == i) own ∙ eq-eqb i i refl)
       by_answer rest false e = by_seat rest e (l.seat == i) refl
 
   -- so where they rise a sort leaves them
@@ -117,7 +116,7 @@ calls_of-pairs R (k ∷ ks) h = AllPairs-cons (λ j l. j.seat ≡ l.seat → R j
     tail i false off = subst (AllPairs R) (calls_of-other i k ks off) (h i)
 
     here : All (R k) (calls_of k.seat ks)
-    here j d within = subst (AllPairs R) (calls_of-own k.seat k ks (same_tested k.seat)) (h k.seat) zero (suc j) d (omega arith) (omega (arith, within))
+    here j d within = subst (AllPairs R) (calls_of-own k.seat k ks (eq-eqb k.seat k.seat refl)) (h k.seat) zero (suc j) d (omega arith) (omega (arith, within))
 
     first : (ls : List Call) → All (R k) (calls_of k.seat ls) → All (λ l. k.seat ≡ l.seat → R k l) ls
     first [] all = All-nil (λ l. k.seat ≡ l.seat → R k l)

@@ -1,5 +1,5 @@
 -- Current row modulo held rows: every move keeps the clause.
-use Rattle.std.proofs.Common.{◌≡◌, inl, inr, ℕ, ◌+◌, ◌<◌, List, length, set, refl, sym, ◌∙◌, arith, subst}
+use Rattle.std.proofs.Common.{◌≡◌, inl, inr, ℕ, ◌<◌, List, length, set, refl, sym, ◌∙◌, arith, subst}
 use Rattle.std.proofs.lemmas.List.{length-set}
 use Rattle.std.proofs.lemmas.List.FromFn.{fill_by_all}
 use Rattle.field_table.specs.Residues.{IsFieldModulus}
@@ -7,9 +7,8 @@ use Rattle.back_reduce.specs.declared.problem.Problem.{Problem}
 use Rattle.back_reduce.specs.Rows.{IsRow}
 use Rattle.back_reduce.proofs.RowLists.{row_is}
 use Rattle.pivot_core.specs.declared.view.Phase.{Phase}
-use Rattle.pivot_core.specs.declared.view.Phase.TheVariants as phase
 use Rattle.pivot_core.specs.declared.sight.Sight.{Sight}
-use Rattle.pivot_core.specs.Words.{Spot, row_in}
+use Rattle.pivot_core.specs.Words.{Spot}
 use Rattle.pivot_core.specs.Views.{difference, given_row, lead_at, made_monic}
 use Rattle.pivot_core.specs.Runs.{State, IsHeld, held_row, values, view_at, word_at}
 use Rattle.pivot_core.specs.Phases.{HasRow}
@@ -24,7 +23,7 @@ use Rattle.pivot_core.proofs.PublishedKept.{difference_row, leading}
 use Rattle.pivot_core.proofs.ReadKept.{whole_read}
 use Rattle.pivot_core.proofs.Rows.{row_in_phase, row_of_phase}
 
-module _ (problem : Problem) (crew : ℕ) (s t : State) (seat : ℕ) (w : Sight) (a : Spot) (x : ℕ) (c : IsChange problem crew s t seat w a x) where
+module _ {problem : Problem} {crew : ℕ} {s t : State} {seat : ℕ} {w : Sight} {a : Spot} {x : ℕ} (c : IsChange problem crew s t seat w a x) where
   abbrev v : Sight
   v = view_at problem s seat
 
@@ -35,14 +34,14 @@ module _ (problem : Problem) (crew : ℕ) (s t : State) (seat : ℕ) (w : Sight)
       (m : IsLastRead problem v old w a x) where
     -- what was seen is the held row
     pub seen_held : IsHeld problem s m.column
-    seen_held = (whole_read problem crew s t seat w a x c ranges read m.row m.column m.holder m.at m.was m.spot m.last).0
+    seen_held = (whole_read c ranges read m.row m.column m.holder m.at m.was m.spot m.last).0
 
     seen_size : length (set v.seen m.at old) ≡ problem.m
     seen_size = length-set v.seen m.at old ∙ (ranges.views seat c.below).seen
 
     seen_is : set v.seen m.at old ≡ held_row problem s m.column
     seen_is = fill_by_all (values problem s m.column) (set v.seen m.at old) problem.m 0 seen_size
-        (λ j lt. (whole_read problem crew s t seat w a x c ranges read m.row m.column m.holder m.at m.was m.spot m.last).1 j lt
+        (λ j lt. (whole_read c ranges read m.row m.column m.holder m.at m.was m.spot m.last).1 j lt
         ∙ held_row-at problem s m.column j lt)
 
     pub seen_in_span : HeldSpan problem modulus s (vector_of problem modulus (set v.seen m.at old))
@@ -64,11 +63,11 @@ module _ (problem : Problem) (crew : ℕ) (s t : State) (seat : ℕ) (w : Sight)
   module _ (modulus : IsFieldModulus problem.modulus) (ranges : Ranges problem crew s) (read : ReadPrefix problem crew s)
       (keeps : KeepsHeld problem s t) (was : IsOwnModulo modulus s v) where
     -- a row that stays current, as it is
-    same_row : (f g : Phase) → v.phase ≡ f → w.phase ≡ g → ((r : ℕ) → HasRow g r → HasRow f r) → w.current ≡ v.current → IsOwnModulo modulus t w
-    same_row f g is now rows current r has =
+    same_row : {f g : Phase} → v.phase ≡ f → w.phase ≡ g → ((r : ℕ) → HasRow g r → HasRow f r) → w.current ≡ v.current → IsOwnModulo modulus t w
+    same_row is now rows current r has =
         subst (IsModulo problem modulus t (given_row problem r)) (sym current)
         (modulo_grows problem modulus s t keeps (given_row problem r) v.current
-        (was r (row_of_phase v.phase f r is (rows r (row_in_phase w.phase g r now has)))))
+        (was r (row_of_phase r is (rows r (row_in_phase r now has)))))
 
     -- a row that goes on as y
     settled_modulo : (y : List ℕ) (row : ℕ) → IsSettling problem y row w →
@@ -77,25 +76,23 @@ module _ (problem : Problem) (crew : ℕ) (s t : State) (seat : ℕ) (w : Sight)
     settled_modulo y row (goes_on within now current seen) h r has =
         subst (IsModulo problem modulus t (given_row problem r)) (sym current)
         (subst (λ (q : ℕ). IsModulo problem modulus t (given_row problem q) (made_monic problem.modulus y))
-        (row_in_phase w.phase (phase.Looking row (lead_at y)) r now has) (h within))
-    settled_modulo y row (given_up past now current seen) h r has = absurd (row_in_phase w.phase phase.Fresh r now has)
+        (row_in_phase r now has) (h within))
+    settled_modulo y row (given_up past now current seen) h r has = absurd (row_in_phase r now has)
 
     own_modulo : IsMove problem v old w a x → IsOwnModulo modulus t w
     own_modulo (draws m) = settled_modulo (given_row problem old) old m.settling (λ within.
         (let entry = leading problem modulus (given_row problem old) (row_is problem old m.some) within in
         begins_modulo problem modulus t (given_row problem old) entry.0 entry.1))
-    own_modulo (ends m) = λ r has. absurd (row_in_phase w.phase phase.Ended r m.now has)
-    own_modulo (looks_free m) = same_row (phase.Looking m.row m.column) (phase.Putting m.row m.column m.column) m.was m.now (λ r has. has) m.same.current
-    own_modulo (looks_held m) = same_row (phase.Looking m.row m.column) (phase.Reading m.row m.column (row_in old) m.column) m.was m.now
-        (λ r has. has) m.current
+    own_modulo (ends m) = λ r has. absurd (row_in_phase r m.now has)
+    own_modulo (looks_free m) = same_row m.was m.now (λ r has. has) m.same.current
+    own_modulo (looks_held m) = same_row m.was m.now (λ r has. has) m.current
     own_modulo (puts m) = elim m.now [
-      | inl more ↦ same_row (phase.Putting m.row m.column m.at) (phase.Putting m.row m.column (m.at + 1)) m.was more.1 (λ r has. has) m.same.current
-      | inr last ↦ same_row (phase.Putting m.row m.column m.at) (phase.Claiming m.row m.column) m.was last.1 (λ r has. has) m.same.current
+      | inl more ↦ same_row m.was more.1 (λ r has. has) m.same.current
+      | inr last ↦ same_row m.was last.1 (λ r has. has) m.same.current
     ]
-    own_modulo (wins m) = λ r has. absurd (row_in_phase w.phase phase.Fresh r m.now has)
-    own_modulo (loses m) = same_row (phase.Claiming m.row m.column) (phase.Reading m.row m.column (row_in old) m.column) m.was m.now (λ r has. has) m.current
-    own_modulo (reads_more m) = same_row (phase.Reading m.row m.column m.holder m.at) (phase.Reading m.row m.column m.holder (m.at + 1))
-        m.was m.now (λ r has. has) m.current
+    own_modulo (wins m) = λ r has. absurd (row_in_phase r m.now has)
+    own_modulo (loses m) = same_row m.was m.now (λ r has. has) m.current
+    own_modulo (reads_more m) = same_row m.was m.now (λ r has. has) m.current
     own_modulo (reads_last m) =
         let seen : List ℕ = set v.seen m.at old in
         let y : List ℕ = difference problem.modulus v.current seen in
@@ -103,12 +100,12 @@ module _ (problem : Problem) (crew : ℕ) (s t : State) (seat : ℕ) (w : Sight)
         (let entry = leading problem modulus y (left_is_row modulus ranges read m) within in
         modulo_grows problem modulus s t keeps (given_row problem m.row) (made_monic problem.modulus y)
         (loses_row problem modulus v.current seen y (same_sizes modulus ranges read m) refl s (given_row problem m.row)
-        (was m.row (row_of_phase v.phase (phase.Reading m.row m.column m.holder m.at) m.row m.was refl)) (seen_in_span modulus ranges read m) entry.0 entry.1)))
+        (was m.row (row_of_phase m.row m.was refl)) (seen_in_span modulus ranges read m) entry.0 entry.1)))
 
   pub current_modulo_kept : Ranges problem crew s → DisjointRows problem crew s → ReadPrefix problem crew s →
       CurrentModuloHeld problem crew s → IsMove problem v old w a x → CurrentModuloHeld problem crew t
   current_modulo_kept ranges apart read h move modulus i r lt has =
-      let keeps = keeps_held problem crew s t seat w a x c apart move in
-      each_view problem crew s t seat w a x c (λ j u. IsOwnModulo modulus t u)
+      let keeps = keeps_held c apart move in
+      each_view c (λ j u. IsOwnModulo modulus t u)
       (own_modulo modulus ranges read keeps (λ q own. h modulus seat q c.below own) move)
       (λ j lj other q own. modulo_grows problem modulus s t keeps (given_row problem q) (view_at problem s j).current (h modulus j q lj own)) i lt r has

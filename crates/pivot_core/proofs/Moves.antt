@@ -1,13 +1,13 @@
 -- What a step makes of a view, kind by kind.
 use Rattle.std.proofs.Common.{◌≡◌, ◌≢◌, ◌⊎◌, ℕ, ◌+◌, ◌<◌, ◌≤◌, List, [], ◌∷◌, ◌++◌, max, set}
 use Rattle.std.specs.Prelude.{slice_index}
-use Rattle.ideal_laws.specs.declared.account.Answer.TheVariants as answer
 use Rattle.ideal_laws.specs.declared.account.Call.{Call}
 use Rattle.back_reduce.specs.declared.problem.Problem.{Problem}
 use Rattle.pivot_core.specs.declared.view.Phase.TheVariants as phase
 use Rattle.pivot_core.specs.declared.sight.Sight.{Sight}
 use Rattle.pivot_core.specs.Words.{Spot, counter, claim_of, row_word, claim_word, row_in, stamp_in}
 use Rattle.pivot_core.specs.Views.{difference, given_row, lead_at, made_monic, zeros}
+use Rattle.pivot_core.specs.Steps.{lost_call, won_call}
 
 -- a row goes on as y, or is given up where y is 0
 pub data IsSettling (problem : Problem) (y : List ℕ) (row : ℕ) (w : Sight) : Type 0 where
@@ -90,8 +90,7 @@ module _ (problem : Problem) (v : Sight) (old : ℕ) (w : Sight) (a : Spot) (x :
     pub now : w.phase ≡ phase.Fresh
     pub current : w.current ≡ zeros problem.m
     pub seen : w.seen ≡ v.seen
-    pub later : IsLater v w (v.clock + 1) v.drawn (v.calls ++ record
-        { seat = v.seat; stamp = v.clock + 1; column = column; row = row; answer = answer.Won } ∷ [])
+    pub later : IsLater v w (v.clock + 1) v.drawn (v.calls ++ won_call v row column ∷ [])
 
   pub record IsLostClaim : Type 0 where
     pub row : ℕ
@@ -103,14 +102,7 @@ module _ (problem : Problem) (v : Sight) (old : ℕ) (w : Sight) (a : Spot) (x :
     pub now : w.phase ≡ phase.Reading row column (row_in old) column
     pub current : w.current ≡ v.current
     pub seen : w.seen ≡ zeros problem.m
-    pub later : IsLater v w (max v.clock (stamp_in old) + 1) v.drawn
-        (v.calls ++ record {
-          seat = v.seat;
-          stamp = max v.clock (stamp_in old) + 1;
-          column = column;
-          row = row;
-          answer = answer.Lost (row_in old) (stamp_in old);
-        } ∷ [])
+    pub later : IsLater v w (max v.clock (stamp_in old) + 1) v.drawn (v.calls ++ lost_call v row column old ∷ [])
 
   pub record IsMoreRead : Type 0 where
     pub row : ℕ

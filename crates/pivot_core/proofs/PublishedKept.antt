@@ -13,12 +13,12 @@ use Rattle.back_reduce.proofs.Vectors.{length-plus_multiple}
 use Rattle.pivot_core.specs.declared.view.Phase.{Phase}
 use Rattle.pivot_core.specs.declared.view.Phase.TheVariants as phase
 use Rattle.pivot_core.specs.declared.sight.Sight.{Sight}
-use Rattle.pivot_core.specs.Words.{Spot, row_in, row_word}
+use Rattle.pivot_core.specs.Words.{Spot, row_word}
 use Rattle.pivot_core.specs.Views.{difference, given_row, inverse_of, lead_at}
 use Rattle.pivot_core.specs.Runs.{State, view_at, word_at}
 use Rattle.pivot_core.specs.Phases.{HasRow, IsPhase, column_of, published_upto}
 use Rattle.pivot_core.specs.Rule.{DisjointRows, PublishedPrefix, Ranges}
-use Rattle.pivot_core.proofs.Changes.{IsChange, each_view}
+use Rattle.pivot_core.proofs.Changes.{IsChange, each_view, numbers_at, word_left}
 use Rattle.pivot_core.proofs.Effects.{rows_cases}
 use Rattle.pivot_core.proofs.Monic.{lead_at-other, made_monic-before, made_monic-one}
 use Rattle.pivot_core.proofs.Moves.{IsMove, IsPut, IsSettling, given_up, goes_on, draws, ends, looks_free, looks_held, puts, wins, loses, reads_more}
@@ -101,7 +101,7 @@ module _ (problem : Problem) (modulus : IsFieldModulus problem.modulus) where
           published = λ r j has from upto. absurd has;
         })
 
-module _ (problem : Problem) (crew : ℕ) (s t : State) (seat : ℕ) (w : Sight) (a : Spot) (x : ℕ) (c : IsChange problem crew s t seat w a x) where
+module _ {problem : Problem} {crew : ℕ} {s t : State} {seat : ℕ} {w : Sight} {a : Spot} {x : ℕ} (c : IsChange problem crew s t seat w a x) where
   abbrev v : Sight
   v = view_at problem s seat
 
@@ -114,10 +114,10 @@ module _ (problem : Problem) (crew : ℕ) (s t : State) (seat : ℕ) (w : Sight)
         word_at problem t (row_word r j) ≡ word_at problem s (row_word r j)
     other_row move i r j lt other has lj =
         let lr : r < problem.n = omega (arith, apart.drawn i r lt has) in
-        elim (rows_cases problem crew s t seat w a x c move) [
+        elim (rows_cases c move) [
           | inr stay ↦ stay r j lr lj
           | inl m ↦ c.words (row_word r j) (lr, lj) (λ e. row_words_apart r m.row j m.at
-              (λ is. other (apart.views_apart i seat r lt c.below has (row_of_phase v.phase (phase.Putting m.row m.column m.at) r m.was
+              (λ is. other (apart.views_apart i seat r lt c.below has (row_of_phase r m.was
               (sym is)))) (e ∙ m.spot))
         ]
 
@@ -135,19 +135,19 @@ module _ (problem : Problem) (crew : ℕ) (s t : State) (seat : ℕ) (w : Sight)
 
     module _ (modulus : IsFieldModulus problem.modulus) (was : IsPublished problem s v.phase v.current) where
       -- the clause of the view before, at its phase
-      was_at : (f : Phase) → v.phase ≡ f → IsPublished problem s f v.current
-      was_at f is = subst (λ (g : Phase). IsPublished problem s g v.current) is was
+      was_at : {f : Phase} → v.phase ≡ f → IsPublished problem s f v.current
+      was_at is = subst (λ (g : Phase). IsPublished problem s g v.current) is was
 
-      now_at : (f : Phase) → w.phase ≡ f → w.current ≡ v.current → IsPublished problem t f v.current → IsPublished problem t w.phase w.current
-      now_at f is current h = subst (λ (g : Phase). IsPublished problem t g w.current) (sym is) (subst (IsPublished problem t f) (sym current) h)
+      now_at : {f : Phase} → w.phase ≡ f → w.current ≡ v.current → IsPublished problem t f v.current → IsPublished problem t w.phase w.current
+      now_at {f} is current h = subst (λ (g : Phase). IsPublished problem t g w.current) (sym is) (subst (IsPublished problem t f) (sym current) h)
 
       -- a row goes on in a phase where nothing is published
-      unpublished : (f g : Phase) → v.phase ≡ f → w.phase ≡ g → w.current ≡ v.current → ((r : ℕ) → HasRow g r → HasRow f r) →
+      unpublished : {f g : Phase} → v.phase ≡ f → w.phase ≡ g → w.current ≡ v.current → ((r : ℕ) → HasRow g r → HasRow f r) →
           column_of g ≡ column_of f → ((j : ℕ) → column_of g ≤ j → j < published_upto problem.m g → ⊥)
           → IsPublished problem t w.phase w.current
-      unpublished f g is now current rows columns none =
-          let h = was_at f is in
-          now_at g now current (record {
+      unpublished is now current rows columns none =
+          let h = was_at is in
+          now_at now current (record {
             residues = λ r has. h.residues r (rows r has);
             before = λ r j has low. h.before r j (rows r has) (omega (arith, low, columns));
             one = λ r has. ap (λ (k : ℕ). get_or v.current k 0) columns ∙ h.one r (rows r has);
@@ -157,38 +157,35 @@ module _ (problem : Problem) (crew : ℕ) (s t : State) (seat : ℕ) (w : Sight)
       -- the word that was put, and those before it
       put_words : (m : IsPut problem v old w a x) (j : ℕ) → m.column ≤ j → j < m.at + 1 → word_at problem t (row_word m.row j) ≡ get_or v.current j 0
       put_words m j from upto = elim (cases_eq j m.at) [
-        | inl is ↦ ap (λ (k : ℕ). word_at problem t (row_word m.row k)) is ∙ ap (word_at problem t) (sym m.spot) ∙ c.word ∙ m.word
+        | inl is ↦ ap (λ (k : ℕ). word_at problem t (row_word m.row k)) is ∙ word_left c m.spot ∙ m.word
             ∙ ap (λ (k : ℕ). get_or v.current k 0) (sym is)
         | inr other ↦ (
-            let numbers : IsPhase problem.m problem.n (phase.Putting m.row m.column m.at) =
-            subst (IsPhase problem.m problem.n) m.was (ranges.views seat c.below).numbers in
+            let numbers = numbers_at c ranges m.was in
             c.words (row_word m.row j) (numbers.0, omega (arith, numbers.2, upto)) (λ e. places_apart m.row m.row j m.at other (e ∙ m.spot))
-            ∙ (was_at (phase.Putting m.row m.column m.at) m.was).published m.row j refl from (omega (arith, upto, other)))
+            ∙ (was_at m.was).published m.row j refl from (omega (arith, upto, other)))
       ]
 
       own_published : IsMove problem v old w a x → IsPublished problem t w.phase w.current
       own_published (draws m) = settled_published problem modulus t w (given_row problem old) old (row_is problem old m.some) m.settling
-      own_published (ends m) = now_at phase.Ended m.now m.same.current
+      own_published (ends m) = now_at m.now m.same.current
           (record {
             residues = λ r has. absurd has;
             before = λ r j has low. absurd has;
             one = λ r has. absurd has;
             published = λ r j has from upto. absurd has;
           })
-      own_published (looks_free m) = unpublished (phase.Looking m.row m.column) (phase.Putting m.row m.column m.column) m.was m.now
-          m.same.current (λ r has. has) refl (λ j from upto. omega (arith, from, upto))
-      own_published (looks_held m) = unpublished (phase.Looking m.row m.column) (phase.Reading m.row m.column (row_in old) m.column) m.was
-          m.now m.current (λ r has. has) refl (λ j from upto. omega (arith, upto))
+      own_published (looks_free m) = unpublished m.was m.now m.same.current (λ r has. has) refl (λ j from upto. omega (arith, from, upto))
+      own_published (looks_held m) = unpublished m.was m.now m.current (λ r has. has) refl (λ j from upto. omega (arith, upto))
       own_published (puts m) =
-          let h = was_at (phase.Putting m.row m.column m.at) m.was in
+          let h = was_at m.was in
           elim m.now [
-            | inl more ↦ now_at (phase.Putting m.row m.column (m.at + 1)) more.1 m.same.current (record {
+            | inl more ↦ now_at more.1 m.same.current (record {
               residues = h.residues;
               before = h.before;
               one = h.one;
               published = λ r j has from upto. subst (λ (q : ℕ). word_at problem t (row_word q j) ≡ get_or v.current j 0) has (put_words m j from upto);
             })
-            | inr last ↦ now_at (phase.Claiming m.row m.column) last.1 m.same.current (record {
+            | inr last ↦ now_at last.1 m.same.current (record {
               residues = h.residues;
               before = h.before;
               one = h.one;
@@ -203,16 +200,14 @@ module _ (problem : Problem) (crew : ℕ) (s t : State) (seat : ℕ) (w : Sight)
             one = λ r has. absurd has;
             published = λ r j has from upto. absurd has;
           })
-      own_published (loses m) = unpublished (phase.Claiming m.row m.column) (phase.Reading m.row m.column (row_in old) m.column) m.was m.now
-          m.current (λ r has. has) refl (λ j from upto. omega (arith, upto))
-      own_published (reads_more m) = unpublished (phase.Reading m.row m.column m.holder m.at)
-          (phase.Reading m.row m.column m.holder (m.at + 1)) m.was m.now m.current (λ r has. has) refl (λ j from upto. omega (arith, upto))
+      own_published (loses m) = unpublished m.was m.now m.current (λ r has. has) refl (λ j from upto. omega (arith, upto))
+      own_published (reads_more m) = unpublished m.was m.now m.current (λ r has. has) refl (λ j from upto. omega (arith, upto))
       own_published (reads_last m) = settled_published problem modulus t w (difference problem.modulus v.current (set v.seen m.at old)) m.row
           (difference_row problem.modulus problem.m v.current (set v.seen m.at old) (omega (arith, modulus.two_or_more))
           (ranges.views seat c.below).current (length-set v.seen m.at old ∙ (ranges.views seat c.below).seen)) m.settling
 
     pub published_prefix_kept : IsFieldModulus problem.modulus → PublishedPrefix problem crew s → IsMove problem v old w a x → PublishedPrefix problem crew t
     published_prefix_kept modulus h move = published_all problem crew t
-        (each_view problem crew s t seat w a x c (λ i u. IsPublished problem t u.phase u.current)
+        (each_view c (λ i u. IsPublished problem t u.phase u.current)
         (own_published modulus (published_view problem crew s h seat c.below) move)
         (λ i lt other. other_published move i lt other (published_view problem crew s h i lt)))

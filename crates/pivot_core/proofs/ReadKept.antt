@@ -9,9 +9,8 @@ use Rattle.pivot_core.specs.declared.sight.Sight.{Sight}
 use Rattle.pivot_core.specs.Words.{Spot, claim_of, row_in, row_word}
 use Rattle.pivot_core.specs.Views.{zeros}
 use Rattle.pivot_core.specs.Runs.{State, IsHeld, claim_at, held_row, holder_of, view_at, word_at}
-use Rattle.pivot_core.specs.Phases.{IsPhase}
 use Rattle.pivot_core.specs.Rule.{DisjointRows, IsRead, Ranges, ReadPrefix}
-use Rattle.pivot_core.proofs.Changes.{IsChange, each_view}
+use Rattle.pivot_core.proofs.Changes.{IsChange, each_view, numbers_at, word_met}
 use Rattle.pivot_core.proofs.Effects.{KeepsHeld, held_after, held_row_after, keeps_held}
 use Rattle.pivot_core.proofs.HeldRows.{held_row-at, values-before, values-from}
 use Rattle.pivot_core.proofs.Moves.{IsMove, IsSettling, given_up, goes_on, draws, ends, looks_free, looks_held, puts, wins, loses, reads_more, reads_last}
@@ -57,7 +56,7 @@ reads_one problem s row column holder at old seen from lt size met h j upto = el
   | inr other ↦ get_or-set_other seen at j old 0 other ∙ h.2 j (omega (arith, upto, other))
 ]
 
-module _ (problem : Problem) (crew : ℕ) (s t : State) (seat : ℕ) (w : Sight) (a : Spot) (x : ℕ) (c : IsChange problem crew s t seat w a x) where
+module _ {problem : Problem} {crew : ℕ} {s t : State} {seat : ℕ} {w : Sight} {a : Spot} {x : ℕ} (c : IsChange problem crew s t seat w a x) where
   abbrev v : Sight
   v = view_at problem s seat
 
@@ -65,40 +64,37 @@ module _ (problem : Problem) (crew : ℕ) (s t : State) (seat : ℕ) (w : Sight)
   old = word_at problem s a
 
   module _ (ranges : Ranges problem crew s) (keeps : KeepsHeld problem s t) (was : IsRead problem s v.phase v.seen) where
-    now_at : (f : Phase) → w.phase ≡ f → IsRead problem t f w.seen → IsRead problem t w.phase w.seen
-    now_at f is h = subst (λ (g : Phase). IsRead problem t g w.seen) (sym is) h
+    now_at : {f : Phase} → w.phase ≡ f → IsRead problem t f w.seen → IsRead problem t w.phase w.seen
+    now_at is h = subst (λ (g : Phase). IsRead problem t g w.seen) (sym is) h
 
     -- a column that was found held
-    begins : (f : Phase) (row column : ℕ) → v.phase ≡ f → column < problem.m → old ≢ 0 → a ≡ claim_of column →
+    begins : (row column : ℕ) → column < problem.m → old ≢ 0 → a ≡ claim_of column →
         w.phase ≡ phase.Reading row column (row_in old) column → w.seen ≡ zeros problem.m → IsRead problem t w.phase w.seen
-    begins f row column is lt other spot now seen =
-        let met : claim_at problem s column ≡ old = ap (word_at problem s) (sym spot) in
+    begins row column lt other spot now seen =
+        let met : claim_at problem s column ≡ old = word_met c spot in
         let held : IsHeld problem s column = record { below = lt; some = λ e. other (sym met ∙ e) } in
-        now_at (phase.Reading row column (row_in old) column) now
+        now_at now
         (subst (λ (k : ℕ). IsRead problem t (phase.Reading row column k column) w.seen) (ap row_in met)
         (still_read problem s t keeps (phase.Reading row column (holder_of problem s column) column) w.seen
         (begins_read problem s row column w.seen held seen)))
 
     own_read : IsMove problem v old w a x → IsRead problem t w.phase w.seen
     own_read (draws m) = settled_read problem t _ old w m.settling
-    own_read (ends m) = now_at phase.Ended m.now tt
-    own_read (looks_free m) = now_at (phase.Putting m.row m.column m.column) m.now tt
+    own_read (ends m) = now_at m.now tt
+    own_read (looks_free m) = now_at m.now tt
     own_read (looks_held m) =
-        let numbers : IsPhase problem.m problem.n (phase.Looking m.row m.column) =
-        subst (IsPhase problem.m problem.n) m.was (ranges.views seat c.below).numbers in
-        begins (phase.Looking m.row m.column) m.row m.column m.was numbers.1 m.held m.spot m.now m.seen
+        let numbers = numbers_at c ranges m.was in
+        begins m.row m.column numbers.1 m.held m.spot m.now m.seen
     own_read (puts m) = elim m.now [
-      | inl more ↦ now_at (phase.Putting m.row m.column (m.at + 1)) more.1 tt
-      | inr last ↦ now_at (phase.Claiming m.row m.column) last.1 tt
+      | inl more ↦ now_at more.1 tt
+      | inr last ↦ now_at last.1 tt
     ]
-    own_read (wins m) = now_at phase.Fresh m.now tt
+    own_read (wins m) = now_at m.now tt
     own_read (loses m) =
-        let numbers : IsPhase problem.m problem.n (phase.Claiming m.row m.column) =
-        subst (IsPhase problem.m problem.n) m.was (ranges.views seat c.below).numbers in
-        begins (phase.Claiming m.row m.column) m.row m.column m.was numbers.1 m.held m.spot m.now m.seen
+        let numbers = numbers_at c ranges m.was in
+        begins m.row m.column numbers.1 m.held m.spot m.now m.seen
     own_read (reads_more m) =
-        let numbers : IsPhase problem.m problem.n (phase.Reading m.row m.column m.holder m.at) =
-        subst (IsPhase problem.m problem.n) m.was (ranges.views seat c.below).numbers in
+        let numbers = numbers_at c ranges m.was in
         let h : IsRead problem s (phase.Reading m.row m.column m.holder m.at) v.seen = subst (λ (f : Phase). IsRead problem s f v.seen) m.was was in
         let more : IsRead problem s (phase.Reading m.row m.column m.holder (m.at + 1)) (set v.seen m.at old) = (
           h.0,
@@ -106,7 +102,7 @@ module _ (problem : Problem) (crew : ℕ) (s t : State) (seat : ℕ) (w : Sight)
           reads_one problem s m.row m.column m.holder m.at old v.seen numbers.2 numbers.3 (ranges.views seat c.below).seen (ap (word_at problem s) m.spot) h,
           λ j from lt. get_or-set_other v.seen m.at j old 0 (λ e. omega (arith, e, from)) ∙ h.3 j (omega (arith, from)) lt,
         ) in
-        now_at (phase.Reading m.row m.column m.holder (m.at + 1)) m.now
+        now_at m.now
         (subst (IsRead problem t (phase.Reading m.row m.column m.holder (m.at + 1))) (sym m.seen)
         (still_read problem s t keeps (phase.Reading m.row m.column m.holder (m.at + 1)) (set v.seen m.at old) more))
     own_read (reads_last m) = settled_read problem t _ m.row w m.settling
@@ -114,8 +110,8 @@ module _ (problem : Problem) (crew : ℕ) (s t : State) (seat : ℕ) (w : Sight)
   pub read_prefix_kept : Ranges problem crew s → DisjointRows problem crew s → ReadPrefix problem crew s → IsMove problem v old w a x →
       ReadPrefix problem crew t
   read_prefix_kept ranges apart h move =
-      let keeps = keeps_held problem crew s t seat w a x c apart move in
-      each_view problem crew s t seat w a x c (λ i u. IsRead problem t u.phase u.seen) (own_read ranges keeps (h seat c.below) move)
+      let keeps = keeps_held c apart move in
+      each_view c (λ i u. IsRead problem t u.phase u.seen) (own_read ranges keeps (h seat c.below) move)
       (λ i lt other. still_read problem s t keeps (view_at problem s i).phase (view_at problem s i).seen (h i lt))
 
   -- when a read ends, what was seen is the held row of the column
@@ -123,8 +119,7 @@ module _ (problem : Problem) (crew : ℕ) (s t : State) (seat : ℕ) (w : Sight)
       v.phase ≡ phase.Reading row column holder at → a ≡ row_word holder at → problem.m ≤ at + 1
       → IsHeld problem s column × ((j : ℕ) → j < problem.m → get_or (set v.seen at old) j 0 ≡ get_or (held_row problem s column) j 0)
   whole_read ranges h row column holder at is spot last =
-      let numbers : IsPhase problem.m problem.n (phase.Reading row column holder at) =
-      subst (IsPhase problem.m problem.n) is (ranges.views seat c.below).numbers in
+      let numbers = numbers_at c ranges is in
       let was : IsRead problem s (phase.Reading row column holder at) v.seen = subst (λ (f : Phase). IsRead problem s f v.seen) is (h seat c.below) in (
         was.0,
         λ j lt. reads_one problem s row column holder at old v.seen numbers.2 numbers.3 (ranges.views seat c.below).seen

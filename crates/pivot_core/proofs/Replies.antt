@@ -1,6 +1,7 @@
 -- What replies tell: looks find what calls left, and calls come after what was met.
-use Rattle.std.proofs.Common.{◌≡◌, ◌≢◌, ℕ, ◌+◌, ◌<◌, ◌≤◌, ◌==◌, List, [], ◌∷◌, ◌++◌, Some, length, ltb, refl, sym, ap, ap₂, ◌∙◌, arith, subst}
-use Rattle.std.proofs.lemmas.Bool.{eqb-true}
+use Rattle.std.proofs.Common.{◌≡◌, ◌≢◌, ℕ, ◌+◌, ◌<◌, ◌≤◌, ◌==◌, List, [], ◌∷◌, ◌++◌, Some, length, ltb, sym, ap, ap₂, ◌∙◌, arith, subst}
+use Rattle.std.proofs.lemmas.Option.{same_Some, none-some}
+use Rattle.std.proofs.lemmas.Bool.{cond_both, cond-false, ne_eqb}
 use Rattle.std.proofs.lemmas.List.{append_cancel_left, length-append}
 use Rattle.ideal_laws.specs.declared.account.Answer.{Answer}
 use Rattle.ideal_laws.specs.declared.account.Answer.TheVariants as answer
@@ -21,15 +22,15 @@ use Rattle.pivot_core.proofs.CallsKept.{call_held, called, calling, silent, IsCa
 use Rattle.pivot_core.proofs.Changes.{each_view}
 use Rattle.pivot_core.proofs.Kept.{claimed_pivots, event_keeps, held_kept}
 use Rattle.pivot_core.proofs.RunLaws.{after_events-append}
-use Rattle.pivot_core.proofs.Table.{IsTaken, by_bool, made_change, made_next, move_of, none_not_some, same_some, taken}
+use Rattle.pivot_core.proofs.Table.{IsTaken, made_change, made_next, move_of, taken}
 
 -- a look at a column that is held
 held_reply : (problem : Problem) (v : Sight) (row column old : ℕ) (t : Stepped) → v.phase ≡ phase.Looking row column → old ≢ 0 →
     met problem v old ≡ Some t → t.reply ≡ reply.Held (row_in old) (stamp_in old)
 held_reply problem v row column old t is other e =
-    let gives = same_some _ t (ap (λ (f : Phase). by_phase problem (record v { steps = v.steps + 1 }) f old) (sym is) ∙ e) in
+    let gives = same_Some _ t (ap (λ (f : Phase). by_phase problem (record v { steps = v.steps + 1 }) f old) (sym is) ∙ e) in
     sym (ap (λ (u : Stepped). u.reply) gives)
-    ∙ by_bool (λ (u : Stepped). u.reply ≡ reply.Held (row_in old) (stamp_in old)) (old == 0) _ _ (λ on. absurd (other (eqb-true old 0 on))) (λ off. refl)
+    ∙ ap (λ (u : Stepped). u.reply) (cond-false _ _ _ (ne_eqb old 0 other))
 
 pub looks_find_calls : LooksFindCalls
 looks_find_calls problem crew setting events e row column kind is k there same t gives =
@@ -51,31 +52,30 @@ looks_find_calls problem crew setting events e row column kind is k there same t
 
 -- a stamp that was told is in the clock
 told_by : (problem : Problem) (v : Sight) (f : Phase) (old : ℕ) (t : Stepped) → by_phase problem v f old ≡ Some t → stamp_told t.reply ≤ t.sight.clock
-told_by problem v phase.Fresh old t e = subst (λ (u : Stepped). stamp_told u.reply ≤ u.sight.clock) (same_some _ t e)
-    (by_bool (λ (u : Stepped). stamp_told u.reply ≤ u.sight.clock) (ltb old problem.n) _ _ (λ on. omega arith) (λ off. omega arith))
-told_by problem v (phase.Looking row column) old t e = subst (λ (u : Stepped). stamp_told u.reply ≤ u.sight.clock) (same_some _ t e)
-    (by_bool (λ (u : Stepped). stamp_told u.reply ≤ u.sight.clock) (old == 0) _ _ (λ on. omega arith) (λ off. omega arith))
-told_by problem v (phase.Putting row column at) old t e = subst (λ (u : Stepped). stamp_told u.reply ≤ u.sight.clock) (same_some _ t e) (omega arith)
-told_by problem v (phase.Claiming row column) old t e = subst (λ (u : Stepped). stamp_told u.reply ≤ u.sight.clock) (same_some _ t e)
-    (by_bool (λ (u : Stepped). stamp_told u.reply ≤ u.sight.clock) (old == 0) _ _ (λ on. omega arith) (λ off. omega arith))
-told_by problem v (phase.Reading row column holder at) old t e = subst (λ (u : Stepped). stamp_told u.reply ≤ u.sight.clock) (same_some _ t e) (omega arith)
-told_by problem v phase.Ended old t e = absurd (none_not_some t e)
+told_by problem v phase.Fresh old t e = subst (λ (u : Stepped). stamp_told u.reply ≤ u.sight.clock) (same_Some _ t e)
+    (cond_both (ltb old problem.n) _ _ (λ (u : Stepped). stamp_told u.reply ≤ u.sight.clock) (λ on. omega arith) (λ off. omega arith))
+told_by problem v (phase.Looking row column) old t e = subst (λ (u : Stepped). stamp_told u.reply ≤ u.sight.clock) (same_Some _ t e)
+    (cond_both (old == 0) _ _ (λ (u : Stepped). stamp_told u.reply ≤ u.sight.clock) (λ on. omega arith) (λ off. omega arith))
+told_by problem v (phase.Putting row column at) old t e = subst (λ (u : Stepped). stamp_told u.reply ≤ u.sight.clock) (same_Some _ t e) (omega arith)
+told_by problem v (phase.Claiming row column) old t e = subst (λ (u : Stepped). stamp_told u.reply ≤ u.sight.clock) (same_Some _ t e)
+    (cond_both (old == 0) _ _ (λ (u : Stepped). stamp_told u.reply ≤ u.sight.clock) (λ on. omega arith) (λ off. omega arith))
+told_by problem v (phase.Reading row column holder at) old t e = subst (λ (u : Stepped). stamp_told u.reply ≤ u.sight.clock) (same_Some _ t e) (omega arith)
+told_by problem v phase.Ended old t e = absurd (none-some t e)
 
 module _ (problem : Problem) (crew : ℕ) (setting : IsSetting problem crew) where
-  calling_of : (s t : State) (h : ClaimedPivots problem crew s) (k : IsTaken problem crew s t) →
-      IsCalling problem crew s t k.seat k.sight k.spot k.word k.change
-  calling_of s t h k = calling problem crew s t k.seat k.sight k.spot k.word k.change h.ranges (held_kept problem crew setting s t h k)
+  calling_of : (s t : State) (h : ClaimedPivots problem crew s) (k : IsTaken problem crew s t) → IsCalling k.change
+  calling_of s t h k = calling k.change h.ranges (held_kept problem crew setting s t h k)
       h.published_prefix (h.calls_and_counts.unclaimed k.seat k.change.below) k.move
 
   -- clocks do not fall
   clocks_rise : (s : State) (e : Event) → ClaimedPivots problem crew s → (i : ℕ) → i < crew →
       (view_at problem s i).clock ≤ (view_at problem (after_event problem s e) i).clock
   clocks_rise s e h i lt = taken problem crew s e h.ranges (λ t. (view_at problem s i).clock ≤ (view_at problem t i).clock) (omega arith)
-      (λ t k. each_view problem crew s t k.seat k.sight k.spot k.word k.change (λ j u. (view_at problem s j).clock ≤ u.clock)
+      (λ t k. each_view k.change (λ j u. (view_at problem s j).clock ≤ u.clock)
       (own_clock s t h k (calling_of s t h k)) (λ j lj other. omega arith) i lt)
     where
       own_clock : (s t : State) (h : ClaimedPivots problem crew s) (k : IsTaken problem crew s t) →
-          IsCalling problem crew s t k.seat k.sight k.spot k.word k.change → (view_at problem s k.seat).clock ≤ k.sight.clock
+          IsCalling k.change → (view_at problem s k.seat).clock ≤ k.sight.clock
       own_clock s t h k (silent same le) = le
       own_clock s t h k (called c n) = omega (arith, n.later, n.clock)
 
@@ -89,7 +89,7 @@ module _ (problem : Problem) (crew : ℕ) (setting : IsSetting problem crew) whe
 
   -- a call has a stamp above the clock
   module _ (s t : State) (h : ClaimedPivots problem crew s) (taken_here : IsTaken problem crew s t) where
-    above_clock : IsCalling problem crew s t taken_here.seat taken_here.sight taken_here.spot taken_here.word taken_here.change → (k : Call)
+    above_clock : IsCalling taken_here.change → (k : Call)
         → taken_here.sight.calls ≡ (view_at problem s taken_here.seat).calls ++ k ∷ [] → (view_at problem s taken_here.seat).clock < k.stamp
     above_clock (silent same le) k more = absurd (omega (
       arith,

@@ -6,22 +6,22 @@ use Rattle.pivot_core.specs.declared.view.Phase.{Phase}
 use Rattle.pivot_core.specs.declared.view.Phase.TheVariants as phase
 use Rattle.pivot_core.specs.declared.sight.Sight.{Sight}
 use Rattle.pivot_core.specs.Words.{Spot, counter, row_in, stamp_in}
-use Rattle.pivot_core.specs.Views.{given_row, lead_at}
+use Rattle.pivot_core.specs.Views.{given_row}
 use Rattle.pivot_core.specs.Runs.{State, claim_at, holder_of, view_at, word_at}
-use Rattle.pivot_core.specs.Phases.{HasRow, IsPhase}
+use Rattle.pivot_core.specs.Phases.{HasRow}
 use Rattle.pivot_core.specs.Rule.{Ranges}
-use Rattle.pivot_core.proofs.Changes.{IsChange}
+use Rattle.pivot_core.proofs.Changes.{IsChange, numbers_at, word_left, word_met}
 use Rattle.pivot_core.proofs.ClaimWords.{few_rows, row_in-claim_word, stamp_in-claim_word}
 use Rattle.pivot_core.proofs.Effects.{counter_cases}
 use Rattle.pivot_core.proofs.Moves.{IsDraw, IsMove, IsSettling, IsWonClaim, given_up, goes_on, draws, ends, looks_free, looks_held, puts, wins, loses}
 use Rattle.pivot_core.proofs.Moves.{reads_more, reads_last}
 
 -- a current row by its phase, and back
-pub row_in_phase : (f g : Phase) (r : ℕ) → f ≡ g → HasRow f r → HasRow g r
-row_in_phase f g r is h = subst (λ (e : Phase). HasRow e r) is h
+pub row_in_phase : {f g : Phase} (r : ℕ) → f ≡ g → HasRow f r → HasRow g r
+row_in_phase r is h = subst (λ (e : Phase). HasRow e r) is h
 
-pub row_of_phase : (f g : Phase) (r : ℕ) → f ≡ g → HasRow g r → HasRow f r
-row_of_phase f g r is h = subst (λ (e : Phase). HasRow e r) (sym is) h
+pub row_of_phase : {f g : Phase} (r : ℕ) → f ≡ g → HasRow g r → HasRow f r
+row_of_phase r is h = subst (λ (e : Phase). HasRow e r) (sym is) h
 
 -- a view has one current row
 pub one_row : (f : Phase) (r q : ℕ) → HasRow f r → HasRow f q → r ≡ q
@@ -33,42 +33,38 @@ one_row (phase.Reading row column holder at) r q h k = sym h ∙ k
 one_row phase.Ended r q h k = absurd h
 
 pub settled_row : (problem : Problem) (y : List ℕ) (row : ℕ) (w : Sight) → IsSettling problem y row w → (r : ℕ) → HasRow w.phase r → row ≡ r
-settled_row problem y row w (goes_on within now current seen) r h = row_in_phase w.phase (phase.Looking row (lead_at y)) r now h
-settled_row problem y row w (given_up past now current seen) r h = absurd (row_in_phase w.phase phase.Fresh r now h)
+settled_row problem y row w (goes_on within now current seen) r h = row_in_phase r now h
+settled_row problem y row w (given_up past now current seen) r h = absurd (row_in_phase r now h)
 
 module _ (problem : Problem) (v : Sight) (old : ℕ) (w : Sight) (a : Spot) (x : ℕ) where
   -- the current row after a move is the one that was drawn, or was current
   pub own_row : IsMove problem v old w a x → (r : ℕ) → HasRow w.phase r → (IsDraw problem v old w a x × (r ≡ old)) ⊎ HasRow v.phase r
   own_row (draws m) r h = inl (m, sym (settled_row problem (given_row problem old) old w m.settling r h))
-  own_row (ends m) r h = absurd (row_in_phase w.phase phase.Ended r m.now h)
-  own_row (looks_free m) r h = inr (row_of_phase v.phase (phase.Looking m.row m.column) r m.was
-      (row_in_phase w.phase (phase.Putting m.row m.column m.column) r m.now h))
-  own_row (looks_held m) r h = inr (row_of_phase v.phase (phase.Looking m.row m.column) r m.was
-      (row_in_phase w.phase (phase.Reading m.row m.column (row_in old) m.column) r m.now h))
+  own_row (ends m) r h = absurd (row_in_phase r m.now h)
+  own_row (looks_free m) r h = inr (row_of_phase r m.was (row_in_phase r m.now h))
+  own_row (looks_held m) r h = inr (row_of_phase r m.was (row_in_phase r m.now h))
   own_row (puts m) r h = elim m.now [
-    | inl more ↦ inr (row_of_phase v.phase (phase.Putting m.row m.column m.at) r m.was
-        (row_in_phase w.phase (phase.Putting m.row m.column (m.at + 1)) r more.1 h))
-    | inr last ↦ inr (row_of_phase v.phase (phase.Putting m.row m.column m.at) r m.was (row_in_phase w.phase (phase.Claiming m.row m.column) r last.1 h))
+    | inl more ↦ inr (row_of_phase r m.was
+        (row_in_phase r more.1 h))
+    | inr last ↦ inr (row_of_phase r m.was (row_in_phase r last.1 h))
   ]
-  own_row (wins m) r h = absurd (row_in_phase w.phase phase.Fresh r m.now h)
-  own_row (loses m) r h = inr (row_of_phase v.phase (phase.Claiming m.row m.column) r m.was
-      (row_in_phase w.phase (phase.Reading m.row m.column (row_in old) m.column) r m.now h))
-  own_row (reads_more m) r h = inr (row_of_phase v.phase (phase.Reading m.row m.column m.holder m.at) r m.was
-      (row_in_phase w.phase (phase.Reading m.row m.column m.holder (m.at + 1)) r m.now h))
-  own_row (reads_last m) r h = inr (row_of_phase v.phase (phase.Reading m.row m.column m.holder m.at) r m.was (settled_row problem _ m.row w m.settling r h))
+  own_row (wins m) r h = absurd (row_in_phase r m.now h)
+  own_row (loses m) r h = inr (row_of_phase r m.was (row_in_phase r m.now h))
+  own_row (reads_more m) r h = inr (row_of_phase r m.was (row_in_phase r m.now h))
+  own_row (reads_last m) r h = inr (row_of_phase r m.was (settled_row problem _ m.row w m.settling r h))
 
   -- the row that wins was current, and none is after
   pub winner : (m : IsWonClaim problem v old w a x) → HasRow v.phase m.row
-  winner m = row_of_phase v.phase (phase.Claiming m.row m.column) m.row m.was refl
+  winner m = row_of_phase m.row m.was refl
 
   pub won_none : (m : IsWonClaim problem v old w a x) (r : ℕ) → HasRow w.phase r → ⊥
-  won_none m r h = row_in_phase w.phase phase.Fresh r m.now h
+  won_none m r h = row_in_phase r m.now h
 
   -- a draw wins nothing
   pub draw_not_won : IsDraw problem v old w a x → IsWonClaim problem v old w a x → ⊥
-  draw_not_won d m = row_in_phase v.phase phase.Fresh m.row d.was (winner m)
+  draw_not_won d m = row_in_phase m.row d.was (winner m)
 
-module _ (problem : Problem) (crew : ℕ) (s t : State) (seat : ℕ) (w : Sight) (a : Spot) (x : ℕ) (c : IsChange problem crew s t seat w a x) where
+module _ {problem : Problem} {crew : ℕ} {s t : State} {seat : ℕ} {w : Sight} {a : Spot} {x : ℕ} (c : IsChange problem crew s t seat w a x) where
   abbrev v : Sight
   v = view_at problem s seat
 
@@ -76,11 +72,11 @@ module _ (problem : Problem) (crew : ℕ) (s t : State) (seat : ℕ) (w : Sight)
   old = word_at problem s a
 
   pub won_numbers : Ranges problem crew s → (m : IsWonClaim problem v old w a x) → (m.row < problem.n) × (m.column < problem.m)
-  won_numbers r m = subst (IsPhase problem.m problem.n) m.was (r.views seat c.below).numbers
+  won_numbers r m = numbers_at c r m.was
 
   -- the claim word of the column that was won
   pub won_word : (m : IsWonClaim problem v old w a x) → claim_at problem t m.column ≡ x
-  won_word m = ap (word_at problem t) (sym m.spot) ∙ c.word
+  won_word m = word_left c m.spot
 
   pub won_holder : Ranges problem crew s → (m : IsWonClaim problem v old w a x) → holder_of problem t m.column ≡ m.row
   won_holder r m =
@@ -94,17 +90,15 @@ module _ (problem : Problem) (crew : ℕ) (s t : State) (seat : ℕ) (w : Sight)
 
   -- the counter does not fall
   pub counter_rises : IsMove problem v old w a x → word_at problem s counter ≤ word_at problem t counter
-  counter_rises move = elim (counter_cases problem crew s t seat w a x c move) [
-    | inl (inl m) ↦ (let met : word_at problem s counter ≡ old = ap (word_at problem s) (sym m.spot) in
-        let now : word_at problem t counter ≡ old + 1 = ap (word_at problem t) (sym m.spot) ∙ c.word ∙ m.word in omega (arith, met, now))
-    | inl (inr m) ↦ (let met : word_at problem s counter ≡ old = ap (word_at problem s) (sym m.spot) in
-        let now : word_at problem t counter ≡ old + 1 = ap (word_at problem t) (sym m.spot) ∙ c.word ∙ m.word in omega (arith, met, now))
+  counter_rises move = elim (counter_cases c move) [
+    | inl (inl m) ↦ omega (arith, word_met c m.spot, word_left c m.spot, m.word)
+    | inl (inr m) ↦ omega (arith, word_met c m.spot, word_left c m.spot, m.word)
     | inr same ↦ omega (arith, same)
   ]
 
   -- a row that is drawn is the counter before
   pub drawn_is : (m : IsDraw problem v old w a x) → (word_at problem s counter ≡ old) × (word_at problem t counter ≡ old + 1)
-  drawn_is m = (ap (word_at problem s) (sym m.spot), ap (word_at problem t) (sym m.spot) ∙ c.word ∙ m.word)
+  drawn_is m = (word_met c m.spot, word_left c m.spot ∙ m.word)
 
   -- a current row after the move is the one that was drawn, or was current for the same view, which did not win
   pub row_before : IsMove problem v old w a x → (i r : ℕ) → HasRow (view_at problem t i).phase r

@@ -1,5 +1,6 @@
 -- Held rows over whole runs, and in ended states.
-use Rattle.std.proofs.Common.{◌≡◌, ℕ, ◌<◌, ◌≤◌, ◌==◌, true, false, List, [], ◌∷◌, ◌++◌, Option, None, refl, sym, ap, ◌∙◌, arith, subst}
+use Rattle.std.proofs.Common.{◌≡◌, ℕ, ◌<◌, ◌≤◌, List, [], ◌∷◌, ◌++◌, None, refl, sym, ap, ◌∙◌, arith, subst}
+use Rattle.pivot_core.proofs.ClaimWords.{value_in-free}
 use Rattle.std.specs.List.{sum_by}
 use Rattle.std.proofs.lemmas.List.Elements.{All-get_or}
 use Rattle.std.proofs.lemmas.List.Sums.{get_or-le-sum_by}
@@ -14,14 +15,14 @@ use Rattle.pivot_core.specs.declared.view.Phase.TheVariants as phase
 use Rattle.pivot_core.specs.declared.event.Event.{Event}
 use Rattle.pivot_core.specs.Words.{counter}
 use Rattle.pivot_core.specs.Views.{fresh}
-use Rattle.pivot_core.specs.Runs.{HasEnded, IsHeld, State, after_event, after_events, claim_at, holders, opening, state_after, values, view_at, word_at}
+use Rattle.pivot_core.specs.Runs.{HasEnded, IsHeld, State, after_event, after_events, claim_at, holders, opening, state_after, values, view_at, word_at, published_at}
 use Rattle.pivot_core.specs.Phases.{HasRow, is_ended}
 use Rattle.pivot_core.specs.Claimed.{ClaimedPivots}
 use Rattle.pivot_core.specs.Laws.{HeldRowsArePivots, HeldRowsStay, IsSetting}
 use Rattle.pivot_core.proofs.Effects.{KeepsHeld, held_after, held_row_after}
 use Rattle.pivot_core.proofs.HeldRows.{HeldSpan, Kp, OneHeld, held_holders, held_row-at, held_within, values-before}
 use Rattle.pivot_core.proofs.Kept.{claimed_pivots, event_keeps, held_kept}
-use Rattle.pivot_core.proofs.Table.{by_bool, taken, none_not_some}
+use Rattle.pivot_core.proofs.Table.{taken}
 
 pub after_events-append : (problem : Problem) (s : State) (es fs : List Event) →
     after_events problem s (es ++ fs) ≡ after_events problem (after_events problem s es) fs
@@ -57,12 +58,7 @@ held_rows_stay problem crew setting events more c h =
 
 -- a column without a holder is not held
 values-free : (problem : Problem) (s : State) (c j : ℕ) → holders problem s c ≡ None → values problem s c j ≡ 0
-values-free problem s c j = by_bool (λ (o : Option ℕ). o ≡ None → values problem s c j ≡ 0) (claim_at problem s c == 0) _ _
-    (λ on e. by_bool (λ (k : ℕ). k ≡ 0) (claim_at problem s c == 0) _ _ (λ on. refl) (λ off. absurd (true_false (sym on ∙ off))))
-    (λ off e. absurd (none_not_some _ (sym e)))
-  where
-    true_false : true ≡ false → ⊥
-    true_false e = cc e
+values-free problem s c j none = value_in-free (claim_at problem s c) (published_at problem s) c j none
 
 module _ (problem : Problem) (crew : ℕ) (s : State) (setting : IsSetting problem crew) (h : ClaimedPivots problem crew s) where
   value_at_held : (c k : ℕ) → k < problem.m → IsHeld problem s c → values problem s c k < problem.modulus

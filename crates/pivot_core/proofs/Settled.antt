@@ -1,6 +1,6 @@
 -- What settle gives, case by case.
-use Rattle.std.proofs.Common.{◌≡◌, ◌<◌, ◌≤◌, ℕ, List, ltb, map, length, get_or, refl, sym, ap, ◌∙◌, arith}
-use Rattle.std.proofs.lemmas.Bool.{ltb-true, ltb-false}
+use Rattle.std.proofs.Common.{◌≡◌, ◌<◌, ◌≤◌, ℕ, List, map, length, get_or, sym, ap, ◌∙◌}
+use Rattle.std.proofs.lemmas.Bool.{cond-true, cond-false, lt-ltb, le-ltb}
 use Rattle.field_table.specs.Residues.{product_of}
 use Rattle.back_reduce.specs.declared.problem.Problem.{Problem}
 use Rattle.pivot_core.specs.declared.view.Phase.TheVariants as phase
@@ -9,23 +9,14 @@ use Rattle.pivot_core.specs.Views.{lead_at, made_monic, settle, zeros}
 use Rattle.pivot_core.proofs.ModuloRows.{zero_row}
 use Rattle.pivot_core.proofs.Monic.{inverse_of-is}
 use Rattle.pivot_core.proofs.Zeros.{zeros_by}
-use Rattle.pivot_core.proofs.Table.{by_bool}
 
 pub settle-on : (problem : Problem) (v : Sight) (y : List ℕ) (row : ℕ) → lead_at y < problem.m
     → settle problem v y row ≡ record v { phase = phase.Looking row (lead_at y); current = made_monic problem.modulus y; seen = zeros problem.m }
-settle-on problem v y row lt =
-    by_bool (λ (w : Sight). w ≡ record v {
-      phase = phase.Looking row (lead_at y);
-      current = made_monic problem.modulus y;
-      seen = zeros problem.m;
-    }) (ltb (lead_at y) problem.m) _ _
-    (λ on. refl) (λ off. absurd (omega (arith, lt, ltb-false (lead_at y) problem.m off)))
+settle-on problem v y row lt = cond-true _ _ _ (lt-ltb (lead_at y) problem.m lt)
 
 pub settle-off : (problem : Problem) (v : Sight) (y : List ℕ) (row : ℕ) → problem.m ≤ lead_at y
     → settle problem v y row ≡ record v { phase = phase.Fresh; current = zeros problem.m; seen = zeros problem.m }
-settle-off problem v y row le =
-    by_bool (λ (w : Sight). w ≡ record v { phase = phase.Fresh; current = zeros problem.m; seen = zeros problem.m }) (ltb (lead_at y) problem.m) _ _
-    (λ on. absurd (omega (arith, le, ltb-true (lead_at y) problem.m on))) (λ off. refl)
+settle-off problem v y row le = cond-false _ _ _ (le-ltb (lead_at y) problem.m le)
 
 -- a row scaled by an inverse of its leading entry is made monic
 pub made_monic-is : (p : ℕ) (y : List ℕ) (i : ℕ) → i < p → product_of p (get_or y (lead_at y) 0) i ≡ 1 → map (λ x. product_of p i x) y ≡ made_monic p y

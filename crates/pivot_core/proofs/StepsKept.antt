@@ -8,13 +8,12 @@ use Rattle.back_reduce.proofs.Vectors.{length-plus_multiple, plus_multiple-at}
 use Rattle.pivot_core.specs.declared.view.Phase.{Phase}
 use Rattle.pivot_core.specs.declared.view.Phase.TheVariants as phase
 use Rattle.pivot_core.specs.declared.sight.Sight.{Sight}
-use Rattle.pivot_core.specs.Words.{Spot, row_in}
+use Rattle.pivot_core.specs.Words.{Spot}
 use Rattle.pivot_core.specs.Views.{difference, given_row, lead_at}
 use Rattle.pivot_core.specs.Runs.{State, view_at, word_at}
-use Rattle.pivot_core.specs.Phases.{IsPhase}
 use Rattle.pivot_core.specs.Rule.{HeldInSpan, PublishedPrefix, Ranges, ReadPrefix}
 use Rattle.pivot_core.specs.Calls.{IsBounded, steps_of_row}
-use Rattle.pivot_core.proofs.Changes.{IsChange}
+use Rattle.pivot_core.proofs.Changes.{IsChange, numbers_at}
 use Rattle.pivot_core.proofs.HeldRows.{held_row-at, values-before}
 use Rattle.pivot_core.proofs.Monic.{lead_at-from}
 use Rattle.pivot_core.proofs.Moves.{IsDraw, IsLastRead, IsMove, IsSettling, IsWonClaim, given_up, goes_on, draws, ends, looks_free, looks_held, puts}
@@ -41,7 +40,7 @@ difference_ones p y x j two same lt one one' =
     difference_at p y x j same lt ∙ ap (λ (k : ℕ). (k + (p - 1) % p * get_or x j 0) % p) one ∙ ap (λ (k : ℕ). (1 + (p - 1) % p * k) % p) one'
     ∙ ap (λ (k : ℕ). (1 + k) % p) (mul-one ((p - 1) % p) ∙ less) ∙ ap (λ (k : ℕ). k % p) (omega (arith, two)) ∙ mod_self p
 
-module _ (problem : Problem) (crew : ℕ) (s t : State) (seat : ℕ) (w : Sight) (a : Spot) (x : ℕ) (c : IsChange problem crew s t seat w a x) where
+module _ {problem : Problem} {crew : ℕ} {s t : State} {seat : ℕ} {w : Sight} {a : Spot} {x : ℕ} (c : IsChange problem crew s t seat w a x) where
   abbrev v : Sight
   v = view_at problem s seat
 
@@ -56,13 +55,12 @@ module _ (problem : Problem) (crew : ℕ) (s t : State) (seat : ℕ) (w : Sight)
     -- what is left of a row leads at a later column
     left_leads : (k : IsLastRead problem v old w a x) → k.column + 1 ≤ lead_at (difference problem.modulus v.current (set v.seen k.at old))
     left_leads k =
-        let numbers : IsPhase m problem.n (phase.Reading k.row k.column k.holder k.at) =
-        subst (IsPhase m problem.n) k.was (ranges.views seat c.below).numbers in
+        let numbers = numbers_at c ranges k.was in
         let seen = set v.seen k.at old in
         let own : IsPublished problem s (phase.Reading k.row k.column k.holder k.at) v.current =
         subst (λ (f : Phase). IsPublished problem s f v.current) k.was (published_view problem crew s published seat c.below) in
-        let whole = whole_read problem crew s t seat w a x c ranges read k.row k.column k.holder k.at k.was k.spot k.last in
-        let sizes : length v.current ≡ length seen = same_sizes problem crew s t seat w a x c modulus ranges read k in
+        let whole = whole_read c ranges read k.row k.column k.holder k.at k.was k.spot k.last in
+        let sizes : length v.current ≡ length seen = same_sizes c modulus ranges read k in
         let wide : length v.current ≡ m = (ranges.views seat c.below).current in
         lead_at-from (difference problem.modulus v.current seen) (k.column + 1)
         (omega (arith, length-plus_multiple problem.modulus (negative_of problem.modulus 1) v.current seen, wide, numbers.2, numbers.3))
@@ -78,38 +76,35 @@ module _ (problem : Problem) (crew : ℕ) (s t : State) (seat : ℕ) (w : Sight)
         ])
 
     module _ (was : IsBounded m v.phase v.drawn v.steps) where
-      was_at : (f : Phase) → v.phase ≡ f → IsBounded m f v.drawn v.steps
-      was_at f is = subst (λ (g : Phase). IsBounded m g v.drawn v.steps) is was
+      was_at : {f : Phase} → v.phase ≡ f → IsBounded m f v.drawn v.steps
+      was_at is = subst (λ (g : Phase). IsBounded m g v.drawn v.steps) is was
 
-      now_at : (f : Phase) (d n : ℕ) → w.phase ≡ f → w.drawn ≡ d → w.steps ≡ n → IsBounded m f d n → IsBounded m w.phase w.drawn w.steps
-      now_at f d n is drawn steps h = subst (λ (g : Phase). IsBounded m g w.drawn w.steps) (sym is)
+      now_at : {f : Phase} {d n : ℕ} → w.phase ≡ f → w.drawn ≡ d → w.steps ≡ n → IsBounded m f d n → IsBounded m w.phase w.drawn w.steps
+      now_at {f} {d} is drawn steps h = subst (λ (g : Phase). IsBounded m g w.drawn w.steps) (sym is)
           (subst (λ (e : ℕ). IsBounded m f e w.steps) (sym drawn) (subst (IsBounded m f d) (sym steps) h))
-
-      numbers_at : (f : Phase) → v.phase ≡ f → IsPhase m problem.n f
-      numbers_at f is = subst (IsPhase m problem.n) is (ranges.views seat c.below).numbers
 
       row_is_some : 1 ≤ steps_of_row m
       row_is_some = omega arith
 
       own_draw : (k : IsDraw problem v old w a x) → IsSettling problem (given_row problem old) old w → IsBounded m w.phase w.drawn w.steps
       own_draw k (goes_on within now current seen) =
-          let before : v.steps ≤ v.drawn * steps_of_row m = was_at phase.Fresh k.was in
+          let before : v.steps ≤ v.drawn * steps_of_row m = was_at k.was in
           let same : (v.drawn + 1 - 1) * steps_of_row m ≡ v.drawn * steps_of_row m =
           ap (λ (d : ℕ). d * steps_of_row m) (let e : v.drawn + 1 - 1 ≡ v.drawn = omega arith in e) in
-          now_at (phase.Looking old (lead_at (given_row problem old))) (v.drawn + 1) (v.steps + 1) now k.later.drawn k.later.steps
+          now_at now k.later.drawn k.later.steps
           (omega arith, omega (arith, before, same))
       own_draw k (given_up past now current seen) =
-          let before : v.steps ≤ v.drawn * steps_of_row m = was_at phase.Fresh k.was in
+          let before : v.steps ≤ v.drawn * steps_of_row m = was_at k.was in
           let more = one_row_more (v.drawn + 1) (steps_of_row m) (omega arith) in
           let same : (v.drawn + 1 - 1) * steps_of_row m ≡ v.drawn * steps_of_row m =
           ap (λ (d : ℕ). d * steps_of_row m) (let e : v.drawn + 1 - 1 ≡ v.drawn = omega arith in e) in
-          now_at phase.Fresh (v.drawn + 1) (v.steps + 1) now k.later.drawn k.later.steps (omega (arith, before, same, more, row_is_some))
+          now_at now k.later.drawn k.later.steps (omega (arith, before, same, more, row_is_some))
 
       own_won : IsWonClaim problem v old w a x → IsBounded m w.phase w.drawn w.steps
       own_won k =
-          let numbers = numbers_at (phase.Claiming k.row k.column) k.was in
-          let before = was_at (phase.Claiming k.row k.column) k.was in
-          now_at phase.Fresh v.drawn (v.steps + 1) k.now k.later.drawn k.later.steps
+          let numbers = numbers_at c ranges k.was in
+          let before = was_at k.was in
+          now_at k.now k.later.drawn k.later.steps
           (omega (
             arith,
             before.1,
@@ -122,10 +117,10 @@ module _ (problem : Problem) (crew : ℕ) (s t : State) (seat : ℕ) (w : Sight)
       own_last : (k : IsLastRead problem v old w a x) → IsSettling problem (difference problem.modulus v.current (set v.seen k.at old))
           k.row w → IsBounded m w.phase w.drawn w.steps
       own_last k (goes_on within now current seen) =
-          let numbers = numbers_at (phase.Reading k.row k.column k.holder k.at) k.was in
-          let before = was_at (phase.Reading k.row k.column k.holder k.at) k.was in
+          let numbers = numbers_at c ranges k.was in
+          let before = was_at k.was in
           let y = difference problem.modulus v.current (set v.seen k.at old) in
-          now_at (phase.Looking k.row (lead_at y)) v.drawn (v.steps + 1) now k.later.drawn k.later.steps (
+          now_at now k.later.drawn k.later.steps (
             before.0,
             omega (
               arith,
@@ -138,9 +133,9 @@ module _ (problem : Problem) (crew : ℕ) (s t : State) (seat : ℕ) (w : Sight)
             ),
           )
       own_last k (given_up past now current seen) =
-          let numbers = numbers_at (phase.Reading k.row k.column k.holder k.at) k.was in
-          let before = was_at (phase.Reading k.row k.column k.holder k.at) k.was in
-          now_at phase.Fresh v.drawn (v.steps + 1) now k.later.drawn k.later.steps
+          let numbers = numbers_at c ranges k.was in
+          let before = was_at k.was in
+          now_at now k.later.drawn k.later.steps
           (omega (
             arith,
             before.1,
@@ -155,33 +150,33 @@ module _ (problem : Problem) (crew : ℕ) (s t : State) (seat : ℕ) (w : Sight)
       pub own_bounded : IsMove problem v old w a x → IsBounded m w.phase w.drawn w.steps
       own_bounded (draws k) = own_draw k k.settling
       own_bounded (ends k) =
-          let before : v.steps ≤ v.drawn * steps_of_row m = was_at phase.Fresh k.was in
-          now_at phase.Ended v.drawn (v.steps + 1) k.now k.later.drawn k.later.steps (omega (arith, before))
+          let before : v.steps ≤ v.drawn * steps_of_row m = was_at k.was in
+          now_at k.now k.later.drawn k.later.steps (omega (arith, before))
       own_bounded (looks_free k) =
-          let before = was_at (phase.Looking k.row k.column) k.was in
-          now_at (phase.Putting k.row k.column k.column) v.drawn (v.steps + 1) k.now k.later.drawn k.later.steps (before.0, omega (arith, before.1))
+          let before = was_at k.was in
+          now_at k.now k.later.drawn k.later.steps (before.0, omega (arith, before.1))
       own_bounded (looks_held k) =
-          let before = was_at (phase.Looking k.row k.column) k.was in
-          now_at (phase.Reading k.row k.column (row_in old) k.column) v.drawn (v.steps + 1) k.now k.later.drawn k.later.steps
+          let before = was_at k.was in
+          now_at k.now k.later.drawn k.later.steps
           (before.0, omega (arith, before.1))
       own_bounded (puts k) =
-          let numbers = numbers_at (phase.Putting k.row k.column k.at) k.was in
-          let before = was_at (phase.Putting k.row k.column k.at) k.was in
+          let numbers = numbers_at c ranges k.was in
+          let before = was_at k.was in
           elim k.now [
-            | inl more ↦ now_at (phase.Putting k.row k.column (k.at + 1)) v.drawn (v.steps + 1) more.1 k.later.drawn k.later.steps
+            | inl more ↦ now_at more.1 k.later.drawn k.later.steps
                 (before.0, omega (arith, before.1, numbers.1))
-            | inr last ↦ now_at (phase.Claiming k.row k.column) v.drawn (v.steps + 1) last.1 k.later.drawn k.later.steps
+            | inr last ↦ now_at last.1 k.later.drawn k.later.steps
                 (before.0, omega (arith, before.1, numbers.1, numbers.2, last.0))
           ]
       own_bounded (wins k) = own_won k
       own_bounded (loses k) =
-          let numbers = numbers_at (phase.Claiming k.row k.column) k.was in
-          let before = was_at (phase.Claiming k.row k.column) k.was in
-          now_at (phase.Reading k.row k.column (row_in old) k.column) v.drawn (v.steps + 1) k.now k.later.drawn k.later.steps
+          let numbers = numbers_at c ranges k.was in
+          let before = was_at k.was in
+          now_at k.now k.later.drawn k.later.steps
           (before.0, omega (arith, before.1, numbers.1))
       own_bounded (reads_more k) =
-          let numbers = numbers_at (phase.Reading k.row k.column k.holder k.at) k.was in
-          let before = was_at (phase.Reading k.row k.column k.holder k.at) k.was in
-          now_at (phase.Reading k.row k.column k.holder (k.at + 1)) v.drawn (v.steps + 1) k.now k.later.drawn k.later.steps
+          let numbers = numbers_at c ranges k.was in
+          let before = was_at k.was in
+          now_at k.now k.later.drawn k.later.steps
           (before.0, omega (arith, before.1, numbers.2))
       own_bounded (reads_last k) = own_last k k.settling

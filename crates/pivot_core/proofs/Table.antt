@@ -1,7 +1,8 @@
 -- The table of the steps gives these moves, and an event makes one or none.
-use Rattle.std.proofs.Common.{◌≡◌, ◌⊎◌, inl, inr, ℕ, ◌+◌, ◌<◌, ◌≤◌, ◌==◌, List, Bool, true, false, Option, None, Some, length, ltb, set, refl, ap, arith, subst}
+use Rattle.std.proofs.Common.{◌≡◌, ◌⊎◌, inl, inr, ℕ, ◌+◌, ◌<◌, ◌≤◌, ◌==◌, List, Bool, true, false, Option, None, Some, length, ltb, set, refl, arith, subst}
+use Rattle.std.proofs.lemmas.Option.{same_Some, none-some}
 use Rattle.std.specs.Prelude.{if◌then◌else◌}
-use Rattle.std.proofs.lemmas.Bool.{eqb-true, eqb-false, ltb-true, ltb-false}
+use Rattle.std.proofs.lemmas.Bool.{cond_both, eqb-true, eqb-false, ltb-true, ltb-false}
 use Rattle.ideal_laws.specs.declared.account.Call.{Call}
 use Rattle.back_reduce.specs.declared.problem.Problem.{Problem}
 use Rattle.pivot_core.specs.declared.view.Phase.{Phase}
@@ -18,31 +19,16 @@ use Rattle.pivot_core.proofs.Changes.{IsChange, changed}
 use Rattle.pivot_core.proofs.Moves.{IsLater, IsMove, IsSettling, goes_on, given_up, draws, ends, looks_free, looks_held, puts, wins, loses}
 use Rattle.pivot_core.proofs.Moves.{reads_more, reads_last}
 
--- a property of either branch
-pub by_bool : {A : Type 0} (P : A → Type 0) (b : Bool) (x y : A) → (b ≡ true → P x) → (b ≡ false → P y) → P (if b then x else y)
-by_bool P true x y on off = on refl
-by_bool P false x y on off = off refl
-
-pub same_some : {A : Type 0} (x y : A) → Some x ≡ Some y → x ≡ y
-same_some {A} x y e = ap (get x) e
-  where
-    get : A → Option A → A
-    get d None = d
-    get d (Some z) = z
-
-pub none_not_some : {A : Type 0} (x : A) → None ≡ Some x → ⊥
-none_not_some x e = cc e
-
 settles : (problem : Problem) (v : Sight) (y : List ℕ) (row : ℕ) → IsSettling problem y row (settle problem v y row)
 settles problem v y row =
-    by_bool (IsSettling problem y row) (ltb (lead_at y) problem.m) _ _
+    cond_both (ltb (lead_at y) problem.m) _ _ (IsSettling problem y row)
     (λ on. goes_on (ltb-true (lead_at y) problem.m on) refl refl refl)
     (λ off. given_up (omega (arith, ltb-false (lead_at y) problem.m off)) refl refl refl)
 
 settles_later : (problem : Problem) (v u : Sight) (y : List ℕ) (row k d : ℕ) (all : List Call) → IsLater v u k d all →
     IsLater v (settle problem u y row) k d all
 settles_later problem v u y row k d all h =
-    by_bool (λ (w : Sight). IsLater v w k d all) (ltb (lead_at y) problem.m) _ _
+    cond_both (ltb (lead_at y) problem.m) _ _ (λ (w : Sight). IsLater v w k d all)
     (λ on. record { seat = h.seat; steps = h.steps; clock = h.clock; drawn = h.drawn; calls = h.calls })
     (λ off. record { seat = h.seat; steps = h.steps; clock = h.clock; drawn = h.drawn; calls = h.calls })
 
@@ -55,8 +41,8 @@ module _ (problem : Problem) (v : Sight) (old : ℕ) where
   read_one at = record v { steps = v.steps + 1; seen = set v.seen at old }
 
   moves_by : (f : Phase) → v.phase ≡ f → (t : Stepped) → by_phase problem (record v { steps = v.steps + 1 }) f old ≡ Some t → Moves (spot_of f) t
-  moves_by phase.Fresh is t e = subst (Moves counter) (same_some _ t e)
-      (by_bool (Moves counter) (ltb old problem.n) _ _
+  moves_by phase.Fresh is t e = subst (Moves counter) (same_Some _ t e)
+      (cond_both (ltb old problem.n) _ _ (Moves counter)
       (λ on. draws (record {
         was = is;
         some = ltb-true old problem.n on;
@@ -75,8 +61,8 @@ module _ (problem : Problem) (v : Sight) (old : ℕ) where
         same = record { current = refl; seen = refl };
         later = record { seat = refl; steps = refl; clock = refl; drawn = refl; calls = refl };
       })))
-  moves_by (phase.Looking row column) is t e = subst (Moves (claim_of column)) (same_some _ t e)
-      (by_bool (Moves (claim_of column)) (old == 0) _ _
+  moves_by (phase.Looking row column) is t e = subst (Moves (claim_of column)) (same_Some _ t e)
+      (cond_both (old == 0) _ _ (Moves (claim_of column))
       (λ on. looks_free (record {
         row = row;
         column = column;
@@ -101,7 +87,7 @@ module _ (problem : Problem) (v : Sight) (old : ℕ) where
         seen = refl;
         later = record { seat = refl; steps = refl; clock = refl; drawn = refl; calls = refl };
       })))
-  moves_by (phase.Putting row column at) is t e = subst (Moves (row_word row at)) (same_some _ t e)
+  moves_by (phase.Putting row column at) is t e = subst (Moves (row_word row at)) (same_Some _ t e)
       (puts (record {
         row = row;
         column = column;
@@ -119,8 +105,8 @@ module _ (problem : Problem) (v : Sight) (old : ℕ) where
           ⊎ ((problem.m ≤ at + 1) × ((if b then phase.Putting row column (at + 1) else phase.Claiming row column) ≡ phase.Claiming row column))
       next true on = inl (ltb-true (at + 1) problem.m on, refl)
       next false off = inr (omega (arith, ltb-false (at + 1) problem.m off), refl)
-  moves_by (phase.Claiming row column) is t e = subst (Moves (claim_of column)) (same_some _ t e)
-      (by_bool (Moves (claim_of column)) (old == 0) _ _
+  moves_by (phase.Claiming row column) is t e = subst (Moves (claim_of column)) (same_Some _ t e)
+      (cond_both (old == 0) _ _ (Moves (claim_of column))
       (λ on. wins (record {
         row = row;
         column = column;
@@ -145,7 +131,7 @@ module _ (problem : Problem) (v : Sight) (old : ℕ) where
         seen = refl;
         later = record { seat = refl; steps = refl; clock = refl; drawn = refl; calls = refl };
       })))
-  moves_by (phase.Reading row column holder at) is t e = subst (Moves (row_word holder at)) (same_some _ t e)
+  moves_by (phase.Reading row column holder at) is t e = subst (Moves (row_word holder at)) (same_Some _ t e)
       (by_more (ltb (at + 1) problem.m) refl)
     where
       by_more : (b : Bool) → ltb (at + 1) problem.m ≡ b → IsMove problem v old
@@ -178,7 +164,7 @@ module _ (problem : Problem) (v : Sight) (old : ℕ) where
         later = settles_later problem v (read_one at) (difference problem.modulus v.current (set v.seen at old)) row v.clock v.drawn v.calls
             (record { seat = refl; steps = refl; clock = refl; drawn = refl; calls = refl });
       })
-  moves_by phase.Ended is t e = absurd (none_not_some t e)
+  moves_by phase.Ended is t e = absurd (none-some t e)
 
   pub move_of : (t : Stepped) → met problem v old ≡ Some t → Moves (spot_of v.phase) t
   move_of t e = moves_by v.phase refl t e
@@ -203,7 +189,7 @@ pub record IsTaken (problem : Problem) (crew : ℕ) (s t : State) : Type 0 where
 
 if_some : {A : Type 0} (b : Bool) (o : Option A) (t : A) → (if b then o else None) ≡ Some t → (b ≡ true) × (o ≡ Some t)
 if_some true o t e = (refl, e)
-if_some false o t e = absurd (none_not_some t e)
+if_some false o t e = absurd (none-some t e)
 
 -- a step that is made is the next of a seat that is there
 pub made_next : (problem : Problem) (crew : ℕ) (s : State) (e : Event) (t : Stepped) → Ranges problem crew s → step_at problem s e ≡ Some t

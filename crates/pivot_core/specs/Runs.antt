@@ -1,5 +1,5 @@
 -- States of the machine of claims, events, and runs.
-use Rattle.std.specs.Prelude.{ℕ, ◌≡◌, ◌≢◌, ◌+◌, ◌*◌, ◌<◌, ◌==◌, ltb, if◌then◌else◌, List, [], ◌∷◌, map, length}
+use Rattle.std.specs.Prelude.{ℕ, ◌≡◌, ◌≢◌, ◌+◌, ◌*◌, ◌<◌, ltb, if◌then◌else◌, List, [], ◌∷◌, map, length}
 use Rattle.std.specs.Prelude.{Option, Some, None, slice_index}
 use Rattle.std.specs.Prelude.{slice_index_or, slice_set}
 use Rattle.std.specs.List.{range_with_len}
@@ -8,7 +8,7 @@ use Rattle.back_reduce.specs.Pivots as pivots
 use Rattle.pivot_core.specs.declared.view.Phase.TheVariants as phase
 use Rattle.pivot_core.specs.declared.sight.Sight.{Sight}
 use Rattle.pivot_core.specs.declared.event.Event.{Event}
-use Rattle.pivot_core.specs.Words.{Spot, claim_of, row_word, index_of, row_in}
+use Rattle.pivot_core.specs.Words.{Spot, claim_of, holder_in, index_of, row_in, row_word, value_in}
 use Rattle.pivot_core.specs.Views.{fresh, zeros}
 use Rattle.pivot_core.specs.Steps.{Stepped, spot_of, step}
 
@@ -72,12 +72,15 @@ holder_of problem s c = row_in (claim_at problem s c)
 
 -- the row that holds a column, where one does
 abbrev pub holders : Problem → State → ℕ → Option ℕ
-holders problem s c = if claim_at problem s c == 0 then None else Some (holder_of problem s c)
+holders problem s c = holder_in (claim_at problem s c)
 
--- what a held row has at a column: 0 before its own, and from there on the holder's row words
+-- what a row has published at a column
+abbrev pub published_at : Problem → State → ℕ → ℕ → ℕ
+published_at problem s r j = word_at problem s (row_word r j)
+
+-- what a held row has at a column
 abbrev pub values : Problem → State → ℕ → ℕ → ℕ
-values problem s c j = if claim_at problem s c == 0 then 0 else if ltb j c then 0 else word_at problem s
-    (row_word (holder_of problem s c) j)
+values problem s c j = value_in (claim_at problem s c) (published_at problem s) c j
 
 -- the held row of a column
 abbrev pub held_row : Problem → State → ℕ → List ℕ

@@ -2,6 +2,7 @@
 use Rattle.std.specs.Prelude.{ℕ, ◌≡◌, ◌+◌, ◌==◌, ltb, max, Bool, true, false, if◌then◌else◌, [], ◌∷◌, ◌++◌, Option}
 use Rattle.std.specs.Prelude.{Some, None, slice_index, slice_set}
 use Rattle.ideal_laws.specs.declared.account.Answer.TheVariants as answer
+use Rattle.ideal_laws.specs.declared.account.Call.{Call}
 use Rattle.back_reduce.specs.declared.problem.Problem.{Problem}
 use Rattle.pivot_core.specs.declared.view.Phase.{Phase}
 use Rattle.pivot_core.specs.declared.view.Phase.TheVariants as phase
@@ -37,6 +38,34 @@ spot_of (phase.Claiming row column) = claim_of column
 spot_of (phase.Reading row column holder at) = row_word holder at
 spot_of phase.Ended = counter
 
+-- the call of a claim that is won, and of one that meets this word and is lost
+abbrev pub won_call : Sight → ℕ → ℕ → Call
+won_call v row column = record { seat = v.seat; stamp = v.clock + 1; column = column; row = row; answer = answer.Won }
+
+abbrev pub lost_call : Sight → ℕ → ℕ → ℕ → Call
+lost_call v row column old = record {
+  seat = v.seat;
+  stamp = max v.clock (stamp_in old) + 1;
+  column = column;
+  row = row;
+  answer = answer.Lost (row_in old) (stamp_in old);
+}
+
+-- the view after a claim that is won, and after one that is lost, which begins to read the holder's row
+abbrev pub after_won : Problem → Sight → ℕ → ℕ → Sight
+after_won problem v row column = record v {
+  phase = phase.Fresh;
+  current = zeros problem.m;
+  clock = v.clock + 1;
+  calls = v.calls ++ won_call v row column ∷ [];
+}
+
+abbrev pub after_lost : Problem → Sight → ℕ → ℕ → ℕ → Sight
+after_lost problem v row column old = begin problem (record v {
+  clock = max v.clock (stamp_in old) + 1;
+  calls = v.calls ++ lost_call v row column old ∷ [];
+}) row column (row_in old)
+
 -- the table of the steps, by the phase of the view, which has counted the step, and the old word
 abbrev pub by_phase : Problem → Sight → Phase → ℕ → Option Stepped
 by_phase problem v phase.Fresh old = Some (if ltb old problem.n
@@ -63,34 +92,12 @@ by_phase problem v (phase.Putting row column at) old = Some (record {
 })
 by_phase problem v (phase.Claiming row column) old = Some (if old == 0
     then record {
-      sight = record v {
-        phase = phase.Fresh;
-        current = zeros problem.m;
-        clock = v.clock + 1;
-        calls =
-            v.calls ++ record {
-              seat = v.seat;
-              stamp = v.clock + 1;
-              column = column;
-              row = row;
-              answer = answer.Won;
-            } ∷ [];
-      };
+      sight = after_won problem v row column;
       word = claim_word (v.clock + 1) row;
       reply = reply.Claimed answer.Won;
     }
     else record {
-      sight = begin problem (record v {
-        clock = max v.clock (stamp_in old) + 1;
-        calls =
-            v.calls ++ record {
-              seat = v.seat;
-              stamp = max v.clock (stamp_in old) + 1;
-              column = column;
-              row = row;
-              answer = answer.Lost (row_in old) (stamp_in old);
-            } ∷ [];
-      }) row column (row_in old);
+      sight = after_lost problem v row column old;
       word = old;
       reply = reply.Claimed (answer.Lost (row_in old) (stamp_in old));
     })

@@ -1,5 +1,6 @@
 -- The words of the machine of claims.
-use Rattle.std.specs.Prelude.{ℕ, ◌≡◌, ◌⊎◌, ◌+◌, ◌-◌, ◌*◌, ◌/◌, ◌%◌, ◌^◌, ◌<◌}
+use Rattle.std.specs.Prelude.{ℕ, ◌≡◌, ◌⊎◌, ◌+◌, ◌-◌, ◌*◌, ◌/◌, ◌%◌, ◌^◌, ◌<◌, ◌==◌, ltb}
+use Rattle.std.specs.Prelude.{if◌then◌else◌, Option, Some, None}
 
 -- what a word is for: the number of draws so far, the claim of a column, or what a row has published at a column
 pub data Spot : Type 0 where
@@ -30,6 +31,15 @@ stamp_in word = word / 2 ^ 32
 -- the row in a claim word other than 0
 abbrev pub row_in : ℕ → ℕ
 row_in word = word % 2 ^ 32 - 1
+
+-- the row that holds the column of a claim word, where one does
+abbrev pub holder_in : ℕ → Option ℕ
+holder_in word = if word == 0 then None else Some (row_in word)
+
+-- what the held row of column c has at column j, by the claim word of c and what rows have published: 0 before its own
+-- column, and from there on what the holder has published
+abbrev pub value_in : ℕ → (ℕ → ℕ → ℕ) → ℕ → ℕ → ℕ
+value_in word published c j = if word == 0 then 0 else if ltb j c then 0 else published (row_in word) j
 
 -- a claim by a row below n, with a stamp from 1 to 2^32 - 1
 pub record IsClaim (n word : ℕ) : Type 0 where

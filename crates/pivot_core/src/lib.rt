@@ -22,7 +22,7 @@ mod view;
 pub use event::{Event, Kind, Reply};
 pub use history::{History, merge, replays};
 pub use laws::claim_laws;
-pub use lists::row_told;
+pub use lists::{clear, holder_told};
 pub use machine::Core;
 pub use next::{comes_next, word_met};
 pub use pivots::CorePivots;

@@ -1,8 +1,8 @@
-ghost use Rattle.std.specs.Prelude.{◌≡◌, ◌<◌, ◌≤◌, All, MatchOption, length, map, max};
+ghost use Rattle.std.specs.Prelude.{◌≡◌, ◌<◌, ◌≤◌, All, MatchOption, length, map};
 ghost use Rattle.field_table.specs.Residues.{product_of};
 ghost use Rattle.back_reduce.specs.Problems.{row_of};
 ghost use Rattle.pivot_core.specs.Views.{lead_at, zeros};
-ghost use Rattle.pivot_core.specs.Words.{row_in, stamp_in};
+ghost use Rattle.pivot_core.specs.Words.{holder_in, row_in, stamp_in};
 
 use back_reduce::Problem;
 use field_table::Field;
@@ -43,7 +43,8 @@ pub(crate) fn copy_row(problem: &Problem, r: u32, row: &mut [u32])
     problem.rows[r as usize].write(row);
 }
 
-pub(crate) fn clear(row: &mut [u32])
+/// Makes a list zeros.
+pub fn clear(row: &mut [u32])
     ensures { row.new ≡ zeros (length row.old) }
 {
     row.fill(0);
@@ -66,7 +67,7 @@ pub(crate) fn stamp_told(word: u64) -> u32
 }
 
 /// The row in a claim word other than 0.
-pub fn row_told(word: u64) -> u32
+pub(crate) fn row_told(word: u64) -> u32
     ensures { result ≡ row_in word }
 {
     let low = (word % 4294967296) as u32;
@@ -76,11 +77,12 @@ pub fn row_told(word: u64) -> u32
     low - 1
 }
 
-pub(crate) fn later(first: u32, second: u32) -> u32
-    ensures { result ≡ max first second }
+/// The row that holds the column of a claim word, where one does.
+pub fn holder_told(word: u64) -> Option<u32>
+    ensures { result ≡ holder_in word }
 {
-    if first < second {
-        return second;
+    if word == 0 {
+        return None;
     }
-    first
+    Some(row_told(word))
 }

@@ -1,4 +1,4 @@
-ghost use Rattle.std.specs.Prelude.{◌≡◌, ◌<◌, ◌≤◌, ◌-◌, ◌+◌, ◌++◌, ◌^◌, ◌∷◌, [], ℕ, All, length};
+ghost use Rattle.std.specs.Prelude.{◌≡◌, ◌<◌, ◌≤◌, ◌-◌, ◌^◌, ℕ, All, length};
 ghost use Rattle.std.specs.Vec.{vec_capacity};
 ghost use Rattle.pivot_core.specs.declared.view.Phase.TheVariants as phase;
 ghost use Rattle.pivot_core.specs.Meets.{IsClaiming, MayMeet};
@@ -7,7 +7,7 @@ ghost use Rattle.pivot_core.specs.Views as views;
 ghost use Rattle.pivot_core.specs.Views.{sight_of};
 
 use crate::event::Reply;
-use crate::lists::{clear, clear_from, copy_row, later, lead, row_told, scale, stamp_told};
+use crate::lists::{clear, clear_from, copy_row, lead, row_told, scale, stamp_told};
 use crate::view::{Phase, View};
 use back_reduce::Problem;
 use field_table::Field;
@@ -65,17 +65,6 @@ impl View {
         };
     }
 
-    fn keep_call(&mut self, call: Call)
-        requires room { length self.old.calls.items < vec_capacity self.old.calls }
-        ensures kept { sight_of self.new ≡ record (sight_of self.old) { calls = self.old.calls.items ++ call ∷ [] } }
-        ensures capacity { vec_capacity self.old.calls ≤ vec_capacity self.new.calls }
-    {
-        match self.calls.push(call) {
-            Ok(()) => {}
-            Err(_) => {}
-        }
-    }
-
     fn draw(&mut self, field: &Field, problem: &Problem, old: u64) -> Reply
         requires field { field.now ≡ problem.now.modulus }
         requires may { MayMeet problem.now (sight_of self.old) old }
@@ -112,7 +101,7 @@ impl View {
         }
         let holder = row_told(old);
         let stamp = stamp_told(old);
-        self.clock = later(self.clock, stamp);
+        self.clock = self.clock.max(stamp);
         self.begin(row, column, holder);
         Reply::Held { row: holder, stamp }
     }
@@ -155,7 +144,7 @@ impl View {
                 row,
                 answer: Answer::Won,
             };
-            self.keep_call(call);
+            self.calls.push_reserved(call);
             self.phase = Phase::Fresh;
             clear(self.current.as_mut_slice());
             return Reply::Claimed(Answer::Won);
@@ -164,7 +153,7 @@ impl View {
             row: row_told(old),
             stamp: stamp_told(old),
         };
-        self.clock = later(self.clock, stamp_told(old)) + 1;
+        self.clock = self.clock.max(stamp_told(old)) + 1;
         let call = Call {
             seat: self.seat,
             stamp: self.clock,
@@ -172,7 +161,7 @@ impl View {
             row,
             answer,
         };
-        self.keep_call(call);
+        self.calls.push_reserved(call);
         self.begin(row, column, row_told(old));
         Reply::Claimed(answer)
     }

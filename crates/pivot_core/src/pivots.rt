@@ -4,7 +4,7 @@ ghost use Rattle.back_reduce.specs.declared.problem.Problem.{Problem};
 ghost use Rattle.back_reduce.specs.Pivots.{ArePivots};
 ghost use Rattle.pivot_core.specs.Finished.{found_holders, found_values};
 
-use crate::lists::row_told;
+use crate::lists::holder_told;
 use crate::next::row_word_at;
 use crate::view::View;
 use back_reduce::{PivotRows, Problem};
@@ -55,23 +55,20 @@ impl PivotRows for CorePivots {
     }
 
     fn holder(&self, column: u32) -> Option<u32> {
-        let word = self.words[1 + column as usize];
-        if word == 0 {
-            return None;
-        }
-        Some(row_told(word))
+        holder_told(self.words[1 + column as usize])
     }
 
     fn value(&self, column: u32, at: u32) -> u32 {
-        let word = self.words[1 + column as usize];
-        if word == 0 {
-            return 0;
+        match holder_told(self.words[1 + column as usize]) {
+            Some(row) => {
+                if at < column {
+                    return 0;
+                }
+                let _modulus = self.problem.modulus;
+                self.words[row_word_at(&self.problem, row, at)] as u32
+            }
+            None => 0,
         }
-        if at < column {
-            return 0;
-        }
-        let _modulus = self.problem.modulus;
-        self.words[row_word_at(&self.problem, row_told(word), at)] as u32
     }
 }
 
@@ -83,10 +80,7 @@ pub(crate) fn calls_of(views: Vec<View>, logs: Vec<Vec<Call>>) -> Vec<Vec<Call>>
 {
     let mut logs = logs;
     for view in views {
-        match logs.push(view.calls) {
-            Ok(()) => {}
-            Err(_) => {}
-        }
+        logs.push_reserved(view.calls);
     }
     logs
 }

@@ -57,10 +57,10 @@ module _ {race : race.Inside} {before : Standing} {w : worker.Inside} (h : IsRea
   after = record w.view { phase = phase.Reading row column holder (at + 1); seen = with_item w.view.seen at word; steps = w.view.steps + 1 }
 
   told_so : IsTold w word seat.me
-  told_so = told_half h.turn cell word seat.me row column holder at is half told
+  told_so = told_half h.turn cell word seat.me is half told
 
   made : IsMet race.setting.problem (sight_of w.view) word (sight_of after) (reply.Got word)
-  made = meets_read race.setting.problem (sight_of w.view) word row column holder at is more
+  made = meets_read race.setting.problem (sight_of w.view) word is more
 
   loads : w.published.items ≡ published_after w.seat.me.0.problem.m (own_hand w)
   loads = load_publishes h.turn (subst IsLoad (sym is) tt)
@@ -95,7 +95,7 @@ module _ {race : race.Inside} {before : Standing} {w : worker.Inside} {row colum
 
     pub seen_here : next < w.view.seen.len
     seen_here =
-        let within = read_within h.here.turn row column holder next refl in
+        let within = read_within h.here.turn refl in
         omega (arith, within, w.view.seen.ok.0)
 
     -- so it is from word to word of a row

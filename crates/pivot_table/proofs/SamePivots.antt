@@ -1,24 +1,14 @@
 -- Pivots by other numbers that agree with theirs at the columns.
-use Rattle.std.proofs.Common.{◌≡◌, ◌↔◌, ℕ, zero, suc, ◌+◌, ◌<◌, ◌≤◌, List, [], ◌∷◌, ◌++◌, Option, None, Some, map, length, get_or, refl, sym, ap, ap₂, ◌∙◌}
+use Rattle.std.proofs.Common.{◌≡◌, ◌↔◌, ℕ, zero, suc, ◌+◌, ◌<◌, ◌≤◌, List, [], ◌∷◌, ◌++◌, Option, None, Some, map, refl, sym, ap, ap₂, ◌∙◌}
 use Rattle.std.proofs.Common.{arith, subst}
 use Rattle.std.specs.List.{flat_map, range_with_len}
 use Rattle.std.proofs.lemmas.List.{map-append}
+use Rattle.pivot_core.proofs.Effects.{listed_same}
 use Rattle.std.proofs.lemmas.List.Concat.{flat_map-cons}
 use Rattle.back_reduce.specs.declared.problem.Problem.{Problem}
 use Rattle.back_reduce.specs.Pivots.{ArePivots, held_row, held_rows, where_held}
 use Rattle.back_reduce.specs.Problems.{rows_of}
 use Rattle.back_reduce.specs.Rows.{IsInRowSpan}
-
--- lists that agree place by place are one
-pub same_lists : {A : Type 0} (xs ys : List A) → length xs ≡ length ys → ((i : ℕ) (d : A) → i < length xs → get_or xs i d ≡ get_or ys i d) → xs ≡ ys
-same_lists [] [] size h = refl
-same_lists [] (y ∷ ys) size h = absurd (omega (arith, size))
-same_lists (x ∷ xs) [] size h = absurd (omega (arith, size))
-same_lists (x ∷ xs) (y ∷ ys) size h = λ i. h 0 x (omega arith) i ∷ same_lists xs ys (omega (arith, size)) (λ k d lt. h (suc k) d (omega (arith, lt))) i
-
-listed_same : (f g : ℕ → ℕ) (a n : ℕ) → ((j : ℕ) → j < a + n → f j ≡ g j) → map f (range_with_len a n) ≡ map g (range_with_len a n)
-listed_same f g a zero h = refl
-listed_same f g a (suc n) h = ap₂ (λ (x : ℕ) (xs : List ℕ). x ∷ xs) (h a (omega arith)) (listed_same f g (a + 1) n (λ j lt. h j (omega (arith, lt))))
 
 -- pivots by other functions that agree at the columns
 module _ (problem : Problem) (h g : ℕ → Option ℕ) (v w : ℕ → ℕ → ℕ) (holds : (c : ℕ) → c < problem.m → h c ≡ g c)

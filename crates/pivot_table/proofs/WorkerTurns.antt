@@ -84,15 +84,15 @@ module _ {race : race.Inside} {w : worker.Inside} (turn : IsTurn race w) where
   phase_within = subst (λ (q : Problem). IsPhase q.m q.n w.view.phase) turn.problem_is own_sight.numbers
 
   may_next : w.view.phase ≢ phase.Ended → MayMeet p (sight_of w.view) (word_at p s (spot_of w.view.phase))
-  may_next next = steps.may p c own.place own.events x own.stands next
+  may_next next = steps.may own.place own.events own.stands next
 
   -- there is room to count the step
   pub steps_small : w.view.phase ≢ phase.Ended → w.view.steps < 2 ^ 64 - 1
   steps_small next = (may_next next).steps
 
   -- where a read stands in the words seen
-  pub read_within : (row column holder at : ℕ) → w.view.phase ≡ phase.Reading row column holder at → at < length w.view.seen.items
-  read_within row column holder at is =
+  pub read_within : {row column holder at : ℕ} → w.view.phase ≡ phase.Reading row column holder at → at < length w.view.seen.items
+  read_within {row} {column} {holder} {at} is =
       let numbers : IsPhase p.m p.n (phase.Reading row column holder at) = subst (IsPhase p.m p.n) is own_sight.numbers in
       omega (arith, numbers.3, own_sight.seen)
 
@@ -113,8 +113,8 @@ module _ {race : race.Inside} {w : worker.Inside} (turn : IsTurn race w) where
       })
 
   -- before a claim, the word may be 0
-  pub may_claim : (row column : ℕ) → w.view.phase ≡ phase.Claiming row column → MayMeet race.setting.problem (sight_of w.view) 0
-  may_claim row column = may_zero (phase.Claiming row column) (λ e. cc e) (λ e. cc e) (record { claim = inl refl; stamp = omega arith })
+  pub may_claim : {row column : ℕ} → w.view.phase ≡ phase.Claiming row column → MayMeet race.setting.problem (sight_of w.view) 0
+  may_claim {row} {column} = may_zero (phase.Claiming row column) (λ e. cc e) (λ e. cc e) (record { claim = inl refl; stamp = omega arith })
 
   -- the cell of the next step is on the table
   pub cell_there : (i : ℕ) → i ≡ cell_of race.setting.problem.m (spot_of w.view.phase) → i < race.table.shared.table_id.words
@@ -137,7 +137,7 @@ module _ {race : race.Inside} {w : worker.Inside} (turn : IsTurn race w) where
   claim_asks i new row column is claiming leaves = (
     turn.table,
     cell_there i is,
-    allows_claim race.table.shared.key slots w.seat.id w.seat.me p c x own.seat i still new row column
+    allows_claim race.table.shared.key slots w.seat.id own.seat i still new row column
         (is ∙ ap (λ (f : Phase). cell_of race.setting.problem.m (spot_of f)) claiming) claiming
         (subst (λ (q : Problem). LeavesWord q (sight_of w.view) 0 new) key_problem leaves),
   )
@@ -149,7 +149,7 @@ module _ {race : race.Inside} {w : worker.Inside} (turn : IsTurn race w) where
   load_asks i is load = (
     turn.table,
     cell_there i is,
-    allows_load race.table.shared.key slots w.seat.id w.seat.me p c x own.seat i still
+    allows_load race.table.shared.key slots w.seat.id own.seat i still
         (is ∙ ap (λ (q : Problem). cell_of q.m (spot_of w.view.phase)) key_problem) load,
   )
 
@@ -160,7 +160,7 @@ module _ {race : race.Inside} {w : worker.Inside} (turn : IsTurn race w) where
   draw_asks i is fresh = (
     turn.table,
     cell_there i (is ∙ ap (λ (f : Phase). cell_of race.setting.problem.m (spot_of f)) (sym fresh)),
-    allows_draw race.table.shared.key slots w.seat.id w.seat.me p c x own.seat i still is fresh,
+    allows_draw race.table.shared.key slots w.seat.id own.seat i still is fresh,
   )
 
   -- what the store of a put asks
@@ -171,17 +171,17 @@ module _ {race : race.Inside} {w : worker.Inside} (turn : IsTurn race w) where
   put_asks i new row column to is putting pair = (
     turn.table,
     cell_there i is,
-    allows_put race.table.shared.key slots w.seat.id w.seat.me p c x own.seat i still new row column to
+    allows_put race.table.shared.key slots w.seat.id own.seat i still new row column to
         (is ∙ ap (λ (q : Problem). cell_of q.m (spot_of w.view.phase)) key_problem
         ∙ ap (λ (f : Phase). cell_of race.table.shared.key.problem.m (spot_of f)) putting) putting pair,
   )
 
   -- where a put stands in the lists
-  pub put_within : (row column at : ℕ) → w.view.phase ≡ phase.Putting row column at → (at < length w.view.current.items) × (at < length w.published.items)
-  put_within row column at is =
+  pub put_within : {row column at : ℕ} → w.view.phase ≡ phase.Putting row column at → (at < length w.view.current.items) × (at < length w.published.items)
+  put_within {row} {column} {at} is =
       let numbers : IsPhase p.m p.n (phase.Putting row column at) = subst (IsPhase p.m p.n) is own_sight.numbers in
       (omega (arith, numbers.2, own_sight.current), omega (arith, numbers.2, own.stands.size))
 
   -- whatever word a put has met, it is as if it had met 0
-  pub may_put : (row column at : ℕ) → w.view.phase ≡ phase.Putting row column at → MayMeet race.setting.problem (sight_of w.view) 0
-  may_put row column at = may_zero (phase.Putting row column at) (λ e. cc e) (λ e. cc e) tt
+  pub may_put : {row column at : ℕ} → w.view.phase ≡ phase.Putting row column at → MayMeet race.setting.problem (sight_of w.view) 0
+  may_put {row} {column} {at} = may_zero (phase.Putting row column at) (λ e. cc e) (λ e. cc e) tt

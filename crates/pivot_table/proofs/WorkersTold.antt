@@ -1,5 +1,6 @@
 -- What a step tells a worker, and the worker after it.
 use Rattle.std.proofs.Common.{◌≡◌, ◌≢◌, true, ℕ, ◌+◌, ◌<◌, ◌≤◌, List, Vec, Global, [], ◌∷◌, ◌++◌, Some, length, min, get_or, refl, sym, ap, ◌∙◌, arith, subst}
+use Rattle.std.proofs.lemmas.Option.{same_Some}
 use Rattle.std.specs.Vec.{vec_capacity}
 use Rattle.atomic_table.specs.Table.{Me}
 use Rattle.atomic_table.specs.declared.shared.Seat.{Seat}
@@ -19,7 +20,7 @@ use Rattle.pivot_core.specs.Meets.{IsClaiming, MayMeet}
 use Rattle.pivot_core.proofs.CallRoom.{room_for_call}
 use Rattle.pivot_core.proofs.Kept.{claimed_pivots}
 use Rattle.pivot_core.proofs.Moves.{seat_and_step}
-use Rattle.pivot_core.proofs.Table.{move_of, same_some}
+use Rattle.pivot_core.proofs.Table.{move_of}
 use Rattle.pivot_table.specs.declared.share.Hand.{Hand}
 use Rattle.pivot_table.specs.declared.share.Share.{Share}
 use Rattle.pivot_table.specs.declared.worker.Worker.TheInside as worker
@@ -85,8 +86,8 @@ module _ {race : race.Inside} {w : worker.Inside} (turn : IsTurn race w) where
       by_load phase.Ended load = absurd load
 
   -- nor does a claim
-  pub claim_publishes : (row column : ℕ) → w.view.phase ≡ phase.Claiming row column → w.published.items ≡ published_after p.m x
-  claim_publishes row column is = sym (ap (published_by p.m (sight_of w.view) w.published.items) is)
+  pub claim_publishes : {row column : ℕ} → w.view.phase ≡ phase.Claiming row column → w.published.items ≡ published_after p.m x
+  claim_publishes is = sym (ap (published_by p.m (sight_of w.view) w.published.items) is)
 
   -- a look is told its cell whole
   pub told_look : (cell : ℕ) (me : Me ℕ Share) → is_next kind.Look w.view.phase ≡ true → met_by still w.seat.me cell me → IsTold w cell me
@@ -105,24 +106,24 @@ module _ {race : race.Inside} {w : worker.Inside} (turn : IsTurn race w) where
   told_draw cell me is h = subst (λ (n : ℕ). IsTold w n me) (ap (λ (f : Phase). part_of (spot_of f) cell) is) (told cell me h)
 
   -- the cell of a claim is its word
-  pub told_claim : (cell : ℕ) (me : Me ℕ Share) (row column : ℕ) → w.view.phase ≡ phase.Claiming row column → met_by still w.seat.me cell me → IsTold w cell me
-  told_claim cell me row column is h = subst (λ (n : ℕ). IsTold w n me) (ap (λ (f : Phase). part_of (spot_of f) cell) is) (told cell me h)
+  pub told_claim : (cell : ℕ) (me : Me ℕ Share) {row column : ℕ} → w.view.phase ≡ phase.Claiming row column → met_by still w.seat.me cell me → IsTold w cell me
+  told_claim cell me is h = subst (λ (n : ℕ). IsTold w n me) (ap (λ (f : Phase). part_of (spot_of f) cell) is) (told cell me h)
 
   -- a read takes its half
-  pub told_read : (cell : ℕ) (me : Me ℕ Share) (row column holder at : ℕ) → w.view.phase ≡ phase.Reading row column holder at → met_by still w.seat.me cell me
+  pub told_read : (cell : ℕ) (me : Me ℕ Share) {row column holder at : ℕ} → w.view.phase ≡ phase.Reading row column holder at → met_by still w.seat.me cell me
       → IsTold w (half_at at cell) me
-  told_read cell me row column holder at is h = subst (λ (n : ℕ). IsTold w n me) (ap (λ (f : Phase). part_of (spot_of f) cell) is) (told cell me h)
+  told_read cell me is h = subst (λ (n : ℕ). IsTold w n me) (ap (λ (f : Phase). part_of (spot_of f) cell) is) (told cell me h)
 
   -- which is its word
-  pub told_half : (cell word : ℕ) (me : Me ℕ Share) (row column holder at : ℕ) → w.view.phase ≡ phase.Reading row column holder at → word ≡ half_at at cell
+  pub told_half : (cell word : ℕ) (me : Me ℕ Share) {row column holder at : ℕ} → w.view.phase ≡ phase.Reading row column holder at → word ≡ half_at at cell
       → met_by still w.seat.me cell me → IsTold w word me
-  told_half cell word me row column holder at is half h =
-      subst (λ (n : ℕ). IsTold w n me) (sym half) (told_read cell me row column holder at is h)
+  told_half cell word me is half h =
+      subst (λ (n : ℕ). IsTold w n me) (sym half) (told_read cell me is h)
 
   -- the step of a put does not look at the old word
-  pub made_put : (row column at old : ℕ) (after : Sight) (r : Reply) → w.view.phase ≡ phase.Putting row column at
+  pub made_put : {row column at : ℕ} (old : ℕ) (after : Sight) (r : Reply) → w.view.phase ≡ phase.Putting row column at
       → IsMet race.setting.problem (sight_of w.view) 0 after r → IsMet race.setting.problem (sight_of w.view) old after r
-  made_put row column at old after r is m = record {
+  made_put old after r is m = record {
     word = m.word;
     gives = (let v : Sight = record (sight_of w.view) { steps = w.view.steps + 1 } in
         ap (λ (f : Phase). by_phase race.setting.problem v f old) is ∙ sym (ap (λ (f : Phase). by_phase race.setting.problem v f 0) is) ∙ m.gives);
@@ -132,7 +133,7 @@ module _ {race : race.Inside} {w : worker.Inside} (turn : IsTurn race w) where
     -- the view may meet the word that it is told
     pub may_met : w.view.phase ≢ phase.Ended → MayMeet race.setting.problem (sight_of w.view) old
     may_met next = subst (λ (q : Problem). MayMeet q (sight_of w.view) old) turn.problem_is
-        (subst (λ (n : ℕ). MayMeet p (sight_of w.view) n) (sym t.stepped.found) (steps.may p c own.place t.stepped.events x t.stepped.stood next))
+        (subst (λ (n : ℕ). MayMeet p (sight_of w.view) n) (sym t.stepped.found) (steps.may own.place t.stepped.events t.stepped.stood next))
 
     -- and has room for the call of a claim
     pub room_met : IsClaiming w.view.phase → length w.view.calls.items < vec_capacity w.view.calls
@@ -158,7 +159,7 @@ module _ {race : race.Inside} {w : worker.Inside} (turn : IsTurn race w) where
           let gives : met p (sight_of w.view) old ≡ Some (record { sight = sight_of after; word = made.word; reply = r }) =
           subst (λ (q : Problem). met q (sight_of w.view) old ≡ Some (record { sight = sight_of after; word = made.word; reply = r }))
           (sym turn.problem_is) made.gives in
-          let same = ap (λ (z : Stepped). z.sight) (same_some t.stepped.stepped (record { sight = sight_of after; word = made.word; reply = r })
+          let same = ap (λ (z : Stepped). z.sight) (same_Some t.stepped.stepped (record { sight = sight_of after; word = made.word; reply = r })
           (sym t.stepped.gives ∙ gives)) in
           t.stepped.after ∙ λ i. hand (same i) (sym row i)
 

@@ -1,10 +1,10 @@
 -- What a race leaves.
-use Rattle.std.specs.Prelude.{ℕ, ◌≡◌, ◌+◌, ◌<◌, ◌==◌, ltb, if◌then◌else◌, List, Option, Some, None, length, slice_index}
+use Rattle.std.specs.Prelude.{ℕ, ◌≡◌, ◌+◌, ◌<◌, List, Option, length, slice_index}
 use Rattle.ideal_laws.specs.declared.account.Call.{Call}
 use Rattle.back_reduce.specs.declared.problem.Problem.{Problem}
 use Rattle.back_reduce.specs.Pivots.{ArePivots}
 use Rattle.pivot_core.specs.declared.event.Event.{Event}
-use Rattle.pivot_core.specs.Words.{row_in, row_word}
+use Rattle.pivot_core.specs.Words.{holder_in, row_word, value_in}
 use Rattle.pivot_core.specs.Runs.{HasEnded, holders, state_after, values}
 use Rattle.pivot_core.specs.Laws.{logs_of}
 use Rattle.pivot_table.specs.Cells.{cell_count, cell_of, half_at}
@@ -24,7 +24,7 @@ claim_told f c = slice_index f.cells (1 + c)
 
 -- the row that holds a column
 abbrev pub found_holders : Finished → ℕ → Option ℕ
-found_holders f c = if claim_told f c == 0 then None else Some (row_in (claim_told f c))
+found_holders f c = holder_in (claim_told f c)
 
 -- what a row has published at a column
 abbrev pub word_told : Finished → ℕ → ℕ → ℕ
@@ -32,8 +32,7 @@ word_told f r j = half_at j (slice_index f.cells (cell_of f.problem.m (row_word 
 
 -- the held row of column c at column j, and 0 where the column is free
 abbrev pub found_values : Finished → ℕ → ℕ → ℕ
-found_values f c j =
-    if claim_told f c == 0 then 0 else if ltb j c then 0 else word_told f (row_in (claim_told f c)) j
+found_values f c j = value_in (claim_told f c) (word_told f) c j
 
 -- the held rows are pivots of the problem
 pub record IsFinished (f : Finished) : Type 0 where

@@ -1,7 +1,6 @@
 ghost use Rattle.std.specs.Prelude.{◌≡◌, ◌<◌, length, slice_set};
 ghost use Rattle.pivot_core.specs.Phases.{IsPhase};
 ghost use Rattle.pivot_core.specs.Steps.{spot_of};
-ghost use Rattle.pivot_core.specs.Views.{zeros};
 ghost use Rattle.pivot_core.specs.Words.{row_word};
 ghost use Rattle.pivot_table.specs.Cells.{cell_of, half_at, pair_at};
 
@@ -53,11 +52,4 @@ pub(crate) fn pair_told(row: &[u32], at: u32) -> u64
         return u64::from(row[low]) + u64::from(row[low + 1]) * 4294967296;
     }
     u64::from(row[low])
-}
-
-/// Makes a list zeros.
-pub(crate) fn clear(row: &mut [u32])
-    ensures { row.new ≡ zeros (length row.old) }
-{
-    row.fill(0);
 }

@@ -1,4 +1,4 @@
-ghost use Rattle.std.specs.Prelude.{◌≡◌, ◌<◌, ◌≤◌, ◌++◌, ◌∷◌, [], All, length, map};
+ghost use Rattle.std.specs.Prelude.{◌≡◌, ◌<◌, ◌≤◌, [], All, length, map};
 ghost use Rattle.std.specs.List.{range_with_len};
 ghost use Rattle.std.specs.Vec.{vec_capacity};
 ghost use Rattle.std.specs.Mem.Slots.{slots_items, slots_len, IsFull};
@@ -17,7 +17,7 @@ use crate::worker::Worker;
 use atomic_table::{Closed, Seat, Table};
 use back_reduce::{PivotRows, Problem};
 use ideal_laws::Call;
-use pivot_core::row_told;
+use pivot_core::holder_told;
 use std::alloc::Global;
 use std::marker::Model;
 
@@ -66,22 +66,19 @@ impl PivotRows for Finish {
     }
 
     fn holder(&self, column: u32) -> Option<u32> {
-        let word = self.cells[1 + column as usize];
-        if word == 0 {
-            return None;
-        }
-        Some(row_told(word))
+        holder_told(self.cells[1 + column as usize])
     }
 
     fn value(&self, column: u32, at: u32) -> u32 {
-        let word = self.cells[1 + column as usize];
-        if word == 0 {
-            return 0;
+        match holder_told(self.cells[1 + column as usize]) {
+            Some(row) => {
+                if at < column {
+                    return 0;
+                }
+                half_told(at, self.cells[row_cell(&self.problem, row, at)])
+            }
+            None => 0,
         }
-        if at < column {
-            return 0;
-        }
-        half_told(at, self.cells[row_cell(&self.problem, row_told(word), at)])
     }
 }
 
@@ -139,7 +136,7 @@ fn gathered(
         seat,
     } = crew.remove(0);
     let mut seat = seat;
-    keep_log(&mut logs, view.calls);
+    logs.push_reserved(view.calls);
     for taken in 1..count {
         let Worker {
             view,
@@ -147,21 +144,9 @@ fn gathered(
             seat: other,
         } = crew.remove(0);
         table.shared.join_seat::<Gather>(&mut seat, other);
-        keep_log(&mut logs, view.calls);
+        logs.push_reserved(view.calls);
     }
     (seat, logs)
-}
-
-/// Puts the calls of a worker into a list that has room for them.
-fn keep_log(logs: &mut Vec<Vec<Call>>, calls: Vec<Call>)
-    requires room { length logs.old.items < vec_capacity logs.old }
-    ensures kept { map (λ log. log.items) logs.new.items ≡ map (λ log. log.items) logs.old.items ++ calls.items ∷ [] }
-    ensures room { vec_capacity logs.old ≤ vec_capacity logs.new }
-{
-    match logs.push(calls) {
-        Ok(()) => {}
-        Err(_) => {}
-    }
 }
 
 /// The words of a closed table, in a list of their number.

@@ -1,4 +1,4 @@
-ghost use Rattle.std.specs.Prelude.{◌≡◌, ◌⊎◌, ◌+◌, ◌%◌, ◌≤◌, max, true, false};
+ghost use Rattle.std.specs.Prelude.{◌≡◌, ◌⊎◌, ◌+◌, ◌%◌, ◌≤◌, true, false};
 ghost use Rattle.pivot_core.specs.declared.event.Kind.TheVariants as kind;
 ghost use Rattle.pivot_core.specs.Steps.{is_next};
 ghost use Rattle.pivot_table.specs.Workers.{AreTaken, IsOf, IsReadUpto};
@@ -57,7 +57,7 @@ impl Race {
                 let high = self.table.shared.load::<Meets>(&mut worker.seat, cell);
                 worker.view.seen[2 * pair as usize + 1] = half_told(2 * pair + 1, high);
             }
-            for next in later(even, last / 2 * 2)..last {
+            for next in even.max(last / 2 * 2)..last {
                 let cell = first + next as usize / 2;
                 let old = self.table.shared.load::<Meets>(&mut worker.seat, cell);
                 worker.view.seen[next as usize] = half_told(next, old);
@@ -84,13 +84,4 @@ fn even_from(at: u32, last: u32) -> u32
         return at + 1;
     }
     at
-}
-
-fn later(first: u32, second: u32) -> u32
-    ensures { result ≡ max first second }
-{
-    if first < second {
-        return second;
-    }
-    first
 }

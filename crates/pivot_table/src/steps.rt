@@ -4,12 +4,12 @@ ghost use Rattle.pivot_core.specs.declared.event.Reply.TheVariants as reply;
 ghost use Rattle.pivot_core.specs.Steps.{is_next};
 ghost use Rattle.pivot_table.specs.Workers.{IsOf, IsTaken};
 
-use crate::cells::{cell_met, clear, half_told, pair_told};
+use crate::cells::{cell_met, half_told, pair_told};
 use crate::law::{Meets, Puts};
 use crate::race::Race;
 use crate::worker::Worker;
 use ideal_laws::Answer;
-use pivot_core::{Phase, Reply};
+use pivot_core::{Phase, Reply, clear};
 
 /// Who holds a column, and since which stamp.
 #[derive(Debug, Clone, Copy, PartialEq, Eq)]

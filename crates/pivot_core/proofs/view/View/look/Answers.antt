@@ -16,12 +16,12 @@ returns-clause-met c =
     let problem = c.args.problem.now in
     let v : Sight = sight_of c.args.self.now in
     let old : ℕ = c.args.old in
-    let clock : c.later-self.result ≡ max v.clock (stamp_in old) = c.later-self.ensures ∙ ap (max v.clock) c.stamp_told-stamp.ensures in
+    let clock : c.max-self.result ≡ max v.clock (stamp_in old) = c.max-self.ensures ∙ ap (max v.clock) c.stamp_told-stamp.ensures in
     let unread : IsUnread problem.m (phase.Looking c.args.row c.args.column) v.seen = subst (λ (f : Phase). IsUnread problem.m f v.seen)
     c.requires.phase c.requires.may.sight.unread in
     let same : record v {
       steps = v.steps + 1;
-      clock = c.later-self.result;
+      clock = c.max-self.result;
       phase = phase.Reading c.args.row c.args.column c.row_told-holder.result c.args.column;
     }
     ≡ begin problem (record v { steps = v.steps + 1; clock = max v.clock (stamp_in old) }) c.args.row c.args.column (row_in old) =
@@ -39,4 +39,4 @@ returns-clause-met c =
     subst (λ (w : Sight). IsMet problem v old w (reply.Held c.row_told-holder.result c.stamp_told-stamp.result)) (sym now)
     (subst (λ (r : Reply). IsMet problem v old (begin problem (record v { steps = v.steps + 1; clock = max v.clock (stamp_in old) })
     c.args.row c.args.column (row_in old)) r) (sym told)
-    (meets_held problem v old c.args.row c.args.column c.requires.phase c.if-old-eq0.false))
+    (meets_held problem v old c.requires.phase c.if-old-eq0.false))

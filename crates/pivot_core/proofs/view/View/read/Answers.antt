@@ -17,8 +17,7 @@ overflow_cast-word c =
     omega (arith, residue, c.requires.field, c.modulus-modulus.ensures.small)
 
 pub returns-then-at-m-clause-met : goal.returns-then-at-m-clause-met
-returns-then-at-m-clause-met c = meets_read c.args.problem.now (sight_of c.args.self.now) c.args.old c.args.row c.args.column c.args.holder
-    c.args.at c.requires.phase c.if-at-m.true
+returns-then-at-m-clause-met c = meets_read c.args.problem.now (sight_of c.args.self.now) c.args.old c.requires.phase c.if-at-m.true
 
 pub neg-minus-requires : goal.neg-minus-requires
 neg-minus-requires c = omega (arith, c.modulus-modulus.ensures.field.two_or_more)
@@ -38,4 +37,4 @@ returns-clause-met c =
     let now : sight_of c.settle.new.self ≡ settle problem (seen_one problem v old c.args.at) (difference problem.modulus v.current seen) c.args.row =
     c.settle.ensures.settled ∙ ap (λ (y : List ℕ). settle problem (seen_one problem v old c.args.at) y c.args.row) row in
     subst (λ (w : Sight). IsMet problem v old w (reply.Got old)) (sym now)
-    (meets_last_read problem v old c.args.row c.args.column c.args.holder c.args.at c.requires.phase (omega (arith, c.if-at-m.false)))
+    (meets_last_read problem v old c.requires.phase (omega (arith, c.if-at-m.false)))

@@ -11,7 +11,7 @@ pub returns-in-Fresh : goal.returns-in-Fresh
 returns-in-Fresh c = leaves_count c.args.problem.now (sight_of c.args.self.now) c.args.old c.in-Fresh.is
 
 pub returns-in-Looking : goal.returns-in-Looking
-returns-in-Looking c = leaves_look c.args.problem.now (sight_of c.args.self.now) c.args.old c.in-Looking.row c.in-Looking.column c.in-Looking.is
+returns-in-Looking c = leaves_look c.args.problem.now (sight_of c.args.self.now) c.args.old c.in-Looking.is
 
 pub returns-in-Putting : goal.returns-in-Putting
 returns-in-Putting c =
@@ -21,17 +21,15 @@ returns-in-Putting c =
     let entry = get_or_read c.args.self.now.current.items c.in-Putting.at c.index.result.now
     (omega (arith, numbers.2, c.requires.may.sight.current)) c.index.ensures 0 in
     subst (LeavesWord problem (sight_of c.args.self.now) c.args.old) (sym (c.from.ensures ∙ entry))
-    (leaves_put problem (sight_of c.args.self.now) c.args.old c.in-Putting.row c.in-Putting.column c.in-Putting.at c.in-Putting.is)
+    (leaves_put problem (sight_of c.args.self.now) c.args.old c.in-Putting.is)
 
 pub returns-then-old-eq0 : goal.returns-then-old-eq0
 returns-then-old-eq0 c =
     subst (LeavesWord c.args.problem.now (sight_of c.args.self.now) c.args.old) (sym c.claim_word_of.ensures)
-    (leaves_won c.args.problem.now (sight_of c.args.self.now) c.args.old c.in-Claiming.row c.in-Claiming.column c.in-Claiming.is c.if-old-eq0.true)
+    (leaves_won c.args.problem.now (sight_of c.args.self.now) c.args.old c.in-Claiming.is c.if-old-eq0.true)
 
 pub returns-else-old-eq0 : goal.returns-else-old-eq0
-returns-else-old-eq0 c = leaves_lost c.args.problem.now (sight_of c.args.self.now) c.args.old c.in-Claiming.row c.in-Claiming.column
-    c.in-Claiming.is c.if-old-eq0.false
+returns-else-old-eq0 c = leaves_lost c.args.problem.now (sight_of c.args.self.now) c.args.old c.in-Claiming.is c.if-old-eq0.false
 
 pub returns-in-Reading : goal.returns-in-Reading
-returns-in-Reading c = leaves_read c.args.problem.now (sight_of c.args.self.now) c.args.old c.in-Reading.row c.in-Reading.column
-    c.in-Reading.holder c.in-Reading.at c.in-Reading.is
+returns-in-Reading c = leaves_read c.args.problem.now (sight_of c.args.self.now) c.args.old c.in-Reading.is

@@ -95,11 +95,11 @@ loop-next-2-init c =
     let h = c.loop-pair.invariant in
     let all : c.loop-pair.pair ≡ (c.self.inside.setting.problem.m - 1) / 2 = omega (arith, h.upto, c.loop-pair-test.false) in
     let half : 2 * c.loop-pair.pair ≡ (c.self.inside.setting.problem.m - 1) / 2 * 2 = omega (arith, all) in
-    let is : max c.even_from-even.result (2 * c.loop-pair.pair) ≡ c.later-next.result = ap (max c.even_from-even.result) half ∙ sym c.later-next.ensures in
+    let is : max c.even_from-even.result (2 * c.loop-pair.pair) ≡ c.max-next.result = ap (max c.even_from-even.result) half ∙ sym c.max-next.ensures in
     record {
       was = h.was;
-      from = omega (arith, c.even_from-even.ensures.from, c.later-next.ensures);
-      within = omega (arith, c.even_from-even.ensures.upto, c.later-next.ensures, numbers.3);
+      from = omega (arith, c.even_from-even.ensures.from, c.max-next.ensures);
+      within = omega (arith, c.even_from-even.ensures.upto, c.max-next.ensures, numbers.3);
       reading = subst (ReadsAt c.self.inside c.args.worker.now c.loop-pair.worker-inside
           c.in-Reading.row c.in-Reading.column c.in-Reading.holder c.in-Reading.at) is h.reading;
     }
