@@ -16,4 +16,5 @@ pub mod Mixtures
 pub mod Leaders
 pub mod NormalLeads
 pub mod RowElements
+pub mod ReducedRows
 pub mod RowBasis
