@@ -10,6 +10,5 @@ pub mod ScheduledRuns
 pub mod CoreAccounts
 pub mod PivotLeads
 pub mod RaceAccounts
-pub mod EngineAccounts
 pub mod WonCalls
 pub mod ClaimHistories

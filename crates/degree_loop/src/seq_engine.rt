@@ -58,11 +58,11 @@ impl DegreeEngine for SeqEngine {
 }
 
 impl PivotFinder for SeqEngine {
-    ghost use Rattle.std.specs.Prelude.{◌≡◌, []};
+    ghost use Rattle.degree_loop.specs.Accounts.{AreNoCalls};
 
     type Found = SeqPivots;
 
-    ghost tells = { λ _ _ calls. calls ≡ [] };
+    ghost tells = { λ _. AreNoCalls };
 
     fn find<R: Threads + Sync>(
         &self,
