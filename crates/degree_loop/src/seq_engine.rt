@@ -44,16 +44,7 @@ impl DegreeEngine for SeqEngine {
         below: &Basis,
         d: u32,
     ) -> Result<DegreeReport, EngineFault> {
-        degree_by(
-            rt,
-            alloc,
-            field,
-            presentation,
-            below,
-            d,
-            &self.limits,
-            &*self,
-        )
+        degree_by(rt, alloc, field, presentation, below, d, &self.limits, self)
     }
 }
 
