@@ -1,11 +1,14 @@
 -- The elements of an echelon form over the words of a degree: those with a normal leading word are the reduced elements of
 -- the degree, and the elements of all rows fall.
-use Rattle.std.proofs.Common.{◌≡◌, ◌<◌, ◌≤◌, ℕ, List, [], ◌++◌, length, get_or, map, sym, ap, ◌∙◌, arith, AllPairs}
+use Rattle.std.proofs.Common.{◌≡◌, ◌<◌, ℕ, List, [], ◌++◌, length, get_or, map, sym, ap, ◌∙◌, arith, AllPairs}
 use Rattle.std.proofs.Common.{Some, subst, length-append}
 use Rattle.std.specs.List.{Contains}
+use Rattle.std.proofs.lemmas.List.{get_or-map, length-map}
 use Rattle.std.proofs.lemmas.List.Elements.{All-contains, Contains-get_or}
+use Rattle.std.proofs.lemmas.Slice.Zip.{get_or-zip, length-zip}
 use Rattle.words.specs.Words.{IsOver, IsProperFactor, degree_of}
 use Rattle.words.specs.Order.{IsLetterwiseGreater}
+use Rattle.words.proofs.Degrees.{listed_word}
 use Rattle.words.proofs.Factors.{factor_occurs, occurs_factor}
 use Rattle.words.proofs.Weights.{length-le-degree_of}
 use Rattle.free_poly.specs.declared.term.Term.{Term}
@@ -17,15 +20,14 @@ use Rattle.ideal_laws.specs.Basis.{HasGreaterLead, IsReduced}
 use Rattle.ideal_laws.specs.Closure.{IsNormal}
 use Rattle.ideal_laws.specs.Laws.{IsSetting}
 use Rattle.ideal_laws.specs.Overlaps.{AreLower}
-use Rattle.ideal_laws.proofs.Factors.{All-back, All-front, factor_law, factor_trans, shorter}
-use Rattle.ideal_laws.proofs.OneBasis.{minimal_led, monic-led}
+use Rattle.ideal_laws.proofs.Factors.{All-back, All-front, factor_trans, shorter}
+use Rattle.ideal_laws.proofs.NormalLeads.{normal_no_lead}
+use Rattle.ideal_laws.proofs.OneBasis.{monic-led}
 use Rattle.back_reduce.specs.Rows.{IsInRowSpan, IsRow}
 use Rattle.back_reduce.specs.Rref.{IsRref}
 use Rattle.row_laws.proofs.DegreeRows.{IsMember}
 use Rattle.row_laws.proofs.Leaders.{IsLedBy, lead_within, leads_rising, led_rows, of_lead, row_vector, with_lead}
 use Rattle.row_laws.proofs.Reducers.{lead_degree, reduced_one}
-use Rattle.std.proofs.lemmas.Slice.Zip.{get_or-zip, length-zip}
-use Rattle.std.proofs.lemmas.List.{get_or-map, length-map}
 use Rattle.row_laws.proofs.RowElements.{lead_says, row_lead, row_reduced}
 use Rattle.row_laws.proofs.Spread.{spread}
 
@@ -49,14 +51,9 @@ module _ (ideal : Ideal) (st : IsSetting ideal) (d : ℕ) (G : List (List Term))
         length-le-degree_of ideal.weights st.are_weights i.before,
         length-le-degree_of ideal.weights st.are_weights i.after,
       ) in
-      let u = (factor_law ideal st v over_v).0 l in
-      let g = minimal_led ideal st u.0 u.2 in
-      let j = u.1 in
-      let within_v : degree_of ideal.weights u.0 ≤ degree_of ideal.weights v = omega
-      (arith, ap (degree_of ideal.weights) j.joined, degree_of-round ideal.weights j.before u.0 j.after) in
-      let there = (lower g.0).1 (degree_of ideal.weights u.0, omega (arith, within_v, less), g.1) in
-      let k = factor_trans u.0 v w j i in
-      normal g.0 u.0 (length k.before) there g.2 (factor_occurs u.0 w k)
+      normal_no_lead ideal st d G lower (degree_of ideal.weights v) v less (listed_word ideal.weights st.are_weights v over_v) (λ g u k among lead o.
+      let inside = factor_trans u v w (occurs_factor u v k o) i in
+      normal g u (length inside.before) among lead (factor_occurs u w inside)) l
 
   -- a leading word of a reduced element contains none of a lower one
   pub reduced_normal : (f : List Term) (w : List ℕ) → IsReduced ideal d f → lead_of f ≡ Some w → IsNormal G w
