@@ -11,6 +11,7 @@ use Rattle.ideal_laws.specs.Quantities.{contested_words}
 use Rattle.row_laws.proofs.ClosedColumns.{closure_word, contested_says}
 use Rattle.degree_loop.specs.Accounts.{IsCoreAccount, IsRunAccount}
 use Rattle.degree_loop.specs.ClaimHistory.{RunAccountsTell}
+use Rattle.degree_loop.proofs.CoreAccounts.{run_of_core}
 use Rattle.command_words.specs.declared.job.EngineKind.{EngineKind}
 use Rattle.command_words.specs.declared.job.EngineKind.TheVariants.{Core, Race}
 use Rattle.command_words.specs.declared.job.Job.{Job}
@@ -57,7 +58,8 @@ module _ (tell : RunAccountsTell) (list : ListsLower) where
 
   core_printable : (workers schedule : ℕ) → 1 ≤ workers → workers ≤ 64 → (p : ℕ) (given : Presentation) → ArePrintable (core_accounts workers schedule) p given
   core_printable workers schedule some few p given below d elements account small setting is_below reduced may =
-      run_printable workers some few p given below d elements account small setting is_below reduced may.run
+      run_printable workers some few p given below d elements account small setting is_below reduced
+      (run_of_core workers schedule (ideal_of p given) below.elements d account may)
 
   -- the machine on one thread is the engine of a job that names it
   pub core_engine : (job : Job) (limits : List (LimitKind × ℕ)) (workers schedule : ℕ) → job.engine ≡ Core → limits ≡ limits_of job.engine
@@ -70,7 +72,7 @@ module _ (tell : RunAccountsTell) (list : ListsLower) where
         let lower = list (ideal_of p given) setting d below is_below in
         let history : TellsHistory job.workers p given below d account =
         λ elements reduced. tell job.workers (ideal_of p given) setting some few d below.elements lower account
-        own.run elements reduced in
+        (run_of_core job.workers job.schedule (ideal_of p given) below.elements d account own) elements reduced in
         subst (λ (e : EngineKind). accounts_in e job.workers job.schedule p given below d account) (sym is) (own, history);
     printable = λ _ p given. core_printable workers schedule (subst (λ (w : ℕ). 1 ≤ w) (sym same_workers) some)
         (subst (λ (w : ℕ). w ≤ 64) (sym same_workers) few) p given;

@@ -1,6 +1,6 @@
 -- Limits that are asked one after another.
-use Rattle.std.proofs.Common.{◌≡◌, ℕ, List, [], ◌∷◌, ◌++◌, Err, IsErrAnd, Result, inl, inr, ap, sym, ◌∙◌}
-use Rattle.std.proofs.lemmas.Result.{err_from_is_err_and}
+use Rattle.std.proofs.Common.{◌≡◌, ℕ, List, [], ◌∷◌, ◌++◌, Err, IsErrAnd, Result, inl, inr, ap, ◌∙◌}
+use Rattle.words.proofs.Faults.{same_fault}
 use Rattle.ideal_laws.specs.declared.engine.EngineFault.{EngineFault}
 use Rattle.ideal_laws.specs.declared.engine.EngineFault.TheVariants.{Limit}
 use Rattle.ideal_laws.specs.declared.limits.LimitKind.{LimitKind}
@@ -34,10 +34,6 @@ module _ (Q : Quantities) where
     none_moved [] none = tt
     none_moved (l ∷ ls) none = ((none.0.0, moved l.0 none.0.0 none.0.1, none.0.2), none_moved ls none.1)
 
--- a result has one fault
-pub one_fault : {T E : Type 0} (r : Result T E) (a b : E) → r ≡ Err a → r ≡ Err b → a ≡ b
-one_fault r a b h k = cc
-
 -- where it is a limit, it is one of degree d whose quantity is the first that passes
 abbrev pub NamesFirst : Quantities → ℕ → List (LimitKind × ℕ) → {T : Type 0} → Result T EngineFault → Type 0
 NamesFirst Q d limits r = (kind : LimitKind) (degree value : ℕ) → r ≡ Err (Limit kind degree value) → (degree ≡ d) × IsFirstPassing Q limits kind value
@@ -45,12 +41,12 @@ NamesFirst Q d limits r = (kind : LimitKind) (degree value : ℕ) → r ≡ Err 
 -- a fault that is handed on
 module _ (Q : Quantities) (d : ℕ) (ls ms : List (LimitKind × ℕ)) {T U : Type 0} (fault : EngineFault) (given : Result U EngineFault)
     (is : given ≡ Err fault) (r : Result T EngineFault) (handed : IsErrAnd r (λ f. f ≡ fault)) where
-  same_fault : (other : EngineFault) → r ≡ Err other → given ≡ Err other
-  same_fault other e = let p = err_from_is_err_and r handed in is ∙ ap Err (sym p.2 ∙ one_fault r p.0 other p.1 e)
+  given_fault : (other : EngineFault) → r ≡ Err other → given ≡ Err other
+  given_fault other e = is ∙ ap Err (same_fault r fault other handed e)
 
   pub handed_first : NamesFirst Q d ls given → NamesFirst Q d (ls ++ ms) r
-  handed_first h kind degree value e = let k = h kind degree value (same_fault (Limit kind degree value) e) in (k.0, first_before Q ls ms kind value k.1)
+  handed_first h kind degree value e = let k = h kind degree value (given_fault (Limit kind degree value) e) in (k.0, first_before Q ls ms kind value k.1)
 
   pub handed_behind : NonePasses Q ls → NamesFirst Q d ms given → NamesFirst Q d (ls ++ ms) r
-  handed_behind none h kind degree value e = let k = h kind degree value (same_fault (Limit kind degree value) e) in
+  handed_behind none h kind degree value e = let k = h kind degree value (given_fault (Limit kind degree value) e) in
       (k.0, first_behind Q ls ms kind value none k.1)

@@ -144,17 +144,17 @@ pub run_accounts_tell : ClaimedPivotsLaw → HeldRowsArePivots → OneLegalHisto
 run_accounts_tell rules pivot_law histories merges form_law basis_law workers ideal st some few d G lower account run elements basis =
     let problem = run.problem in
     let crew : ℕ = crew_of workers problem.n in
-    let s : State = state_after problem crew run.events in
+    let s : State = state_after problem crew run.calls.events in
     let contested : List (List ℕ) = contested_words run.closed.columns run.closed.reducers in
     let setting : claims.IsSetting problem crew = record {
       field = subst IsFieldModulus (sym run.matrix.modulus) st.modulus;
       some = omega arith;
       few = omega (arith, few);
     } in
-    let rule : ClaimedPivots problem crew s = rules problem crew setting run.events in
-    let legal : IsLegalHistory problem crew s = histories problem crew setting run.events in
-    let merge : IsMergeOfLogs problem crew s = merges problem crew setting run.events in
-    let pivots : ArePivots problem (holders problem s) (values problem s) = pivot_law problem crew setting run.events run.ended in
+    let rule : ClaimedPivots problem crew s = rules problem crew setting run.calls.events in
+    let legal : IsLegalHistory problem crew s = histories problem crew setting run.calls.events in
+    let merge : IsMergeOfLogs problem crew s = merges problem crew setting run.calls.events in
+    let pivots : ArePivots problem (holders problem s) (values problem s) = pivot_law problem crew setting run.calls.events run.calls.ended in
     let own_calls : List Call = merged (logs_of s) in
     let own : Account = record { rows = problem.n; columns = contested; calls = own_calls } in
     let own_told : All (IsTrueCall problem s) own_calls = told problem crew s rule legal merge in
@@ -187,5 +187,5 @@ run_accounts_tell rules pivot_law histories merges form_law basis_law workers id
     } in (
       tells,
       subst (λ (a : Account). IsClaimHistory (crew_of workers a.rows) elements a)
-          (sym (account_is account problem.n contested own_calls run.count run.contested run.calls)) history,
+          (sym (account_is account problem.n contested own_calls run.count run.contested run.calls.merge)) history,
     )

@@ -1,21 +1,21 @@
 -- What the calls on the closure of a degree ask of its rows, columns and reducers.
 use Rattle.std.proofs.Common.{◌≡◌, ◌*◌, ℕ, List, All, length, ap, ◌∙◌}
-use Rattle.std.specs.List.{Contains, flat_map}
+use Rattle.std.specs.List.{Contains}
 use Rattle.words.specs.Words.{IsOver, degree_of}
 use Rattle.words.proofs.Degrees.{words_of_degree-says}
-use Rattle.words.proofs.Members.{All-from_members, Contains-flat_map, Contains-map}
+use Rattle.words.proofs.Members.{All-from_members}
 use Rattle.free_poly.specs.declared.term.Term.{Term}
 use Rattle.free_poly.specs.Terms.{HasDegree, HasResidues, UsesLetters}
 use Rattle.ideal_laws.specs.Ideal.{Ideal}
 use Rattle.ideal_laws.specs.declared.limits.LimitKind.{LimitKind}
 use Rattle.ideal_laws.specs.declared.limits.LimitKind.TheVariants.{PlainWords, Rows, Columns, Entries, Cells, Terms, NormalWords}
-use Rattle.ideal_laws.specs.Closure.{AreColumns, given}
+use Rattle.ideal_laws.specs.Closure.{AreColumns}
 use Rattle.ideal_laws.specs.Engine.{Elements}
 use Rattle.ideal_laws.specs.Laws.{IsSetting}
 use Rattle.ideal_laws.specs.Overlaps.{AreLower}
 use Rattle.ideal_laws.specs.Quantities.{AreRows, IsQuantity, reducers_in, words_of}
 use Rattle.symbolic_prep.specs.Closed.{ClosedColumns, IsClosed, IsClosedQuantity}
-use Rattle.row_laws.proofs.ClosedColumns.{closure_word, reducer_says}
+use Rattle.row_laws.proofs.ClosedColumns.{column_says, reducer_says, row_column}
 use Rattle.row_laws.proofs.DegreeRows.{member_word, row_member}
 use Rattle.row_laws.proofs.Reducers.{reducer_inside}
 use Rattle.row_store.specs.Contested.{IsCellQuantity, IsOnColumns}
@@ -39,19 +39,14 @@ module _ (ideal : Ideal) (st : IsSetting ideal) (d : ℕ) (G : List (List Term))
     rows_residues = All-from_members (HasResidues ideal.modulus) rows (λ f m. (row_member ideal st d G lower rows are f m).residues)
 
     module _ (columns : List (List ℕ)) (are_columns : AreColumns G (words_of rows) columns) where
-      column_says : (w : List ℕ) → Contains columns w → IsOver (length ideal.weights) w × (degree_of ideal.weights w ≡ d)
-      column_says w m = words_of_degree-says ideal.weights st.are_weights d w (closure_word ideal st d G lower rows are w ((are_columns.exactly w).0 m))
-
       pub rows_on_columns : All (IsOnColumns columns) rows
       rows_on_columns = All-from_members (IsOnColumns columns) rows
-          (λ f m. All-from_members (λ t. Contains columns t.word) f
-          (λ t n. (are_columns.exactly t.word).1 (given t.word (Contains-map (λ (s : Term). s.word) (flat_map (λ g. g) rows) t
-          (Contains-flat_map (λ g. g) rows f t m n)))))
+          (λ f m. All-from_members (λ t. Contains columns t.word) f (row_column ideal st d G lower rows are columns are_columns f m))
 
     pub reducer_residues : (closed : ClosedColumns) → IsClosed G (words_of rows) closed → All (HasResidues ideal.modulus) (reducers_in closed.reducers)
     reducer_residues closed h = All-from_members (HasResidues ideal.modulus) (reducers_in closed.reducers)
         (λ g m. let r = reducer_says G closed.columns closed.reducers h.are_reducers g m in
-        let says = column_says closed.columns h.are_columns r.0 r.1 in
+        let says = column_says ideal st d G lower rows are closed.columns h.are_columns r.0 r.1 in
         (reducer_inside ideal st d G lower r.0 g says.0 says.1 r.2).element.residues)
 
 module _ (ideal : Ideal) (below : Elements) (d : ℕ) (rows : List (List Term)) (are : AreRows ideal below.elements d rows) where

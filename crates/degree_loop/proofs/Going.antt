@@ -1,5 +1,5 @@
 -- The seats that have not ended.
-use Rattle.std.proofs.Common.{◌≡◌, ◌≢◌, ◌+◌, ◌-◌, ◌<◌, ◌≤◌, ◌==◌, ◌++◌, ℕ, zero, suc, Bool, true, false, List, [], ◌∷◌, append-nil, cond, not, length}
+use Rattle.std.proofs.Common.{◌≡◌, ◌+◌, ◌-◌, ◌<◌, ◌≤◌, ◌==◌, ◌++◌, ℕ, zero, suc, Bool, true, false, List, [], ◌∷◌, append-nil, cond, not, length}
 use Rattle.std.proofs.Common.{length-append, get_or, refl, sym, ap, ◌∙◌, arith}
 use Rattle.std.specs.List.{filter, range_with_len}
 use Rattle.std.proofs.Math.ListN.{get_or-append}
@@ -73,9 +73,6 @@ ended_by (phase.Putting row column at) e = cc e
 ended_by (phase.Claiming row column) e = cc e
 ended_by (phase.Reading row column holder at) e = cc e
 ended_by phase.Ended e = refl
-
-pub going_not_ended : (f : Phase) → (is_ended f == 0) ≡ true → f ≢ phase.Ended
-going_not_ended f e is = let no : (is_ended phase.Ended == 0) ≡ true = ap (λ (g : Phase). is_ended g == 0) (sym is) ∙ e in cc no
 
 -- the seats below a bound that have not ended
 abbrev pub going_test : Problem → State → ℕ → Bool

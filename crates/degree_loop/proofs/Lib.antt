@@ -8,9 +8,7 @@ pub mod Going
 pub mod Schedules
 pub mod ScheduledRuns
 pub mod CoreAccounts
-pub mod LeadingColumns
 pub mod PivotLeads
 pub mod RaceAccounts
-pub mod EngineAccounts
 pub mod WonCalls
 pub mod ClaimHistories

@@ -1,26 +1,15 @@
--- Relations of a degree, terms and elements, item after item.
+-- How many terms elements have, and the relations of a degree, one after another.
 use Rattle.std.proofs.Common.{◌≡◌, ◌+◌, ◌<◌, ◌≤◌, ◌==◌, ℕ, suc, Bool, true, false, cond, List, [], ◌∷◌, ◌++◌, All, append-nil, get_or}
-use Rattle.std.proofs.Common.{length, length-append, take, refl, sym, ap, ◌∙◌, arith, Some, None, subst}
+use Rattle.std.proofs.Common.{length, length-append, take, sym, ap, ◌∙◌, arith}
 use Rattle.std.specs.List.{flat_map}
 use Rattle.std.proofs.lemmas.List.{take_more}
-use Rattle.std.proofs.lemmas.List.Concat.{flat_map-append}
 use Rattle.std.proofs.lemmas.List.Elements.{All-head, All-tail}
-use Rattle.words.specs.Words.{IsOver, degree_of}
+use Rattle.words.specs.Words.{degree_of}
 use Rattle.free_poly.specs.declared.term.Term.{Term}
-use Rattle.free_poly.specs.Terms.{UsesLetters}
-use Rattle.free_poly.specs.Poly.{IsMonic, lead_of}
+use Rattle.free_poly.specs.Poly.{IsMonic}
 use Rattle.ideal_laws.specs.Engine.{of_degree}
 use Rattle.ideal_laws.specs.Quantities.{terms_in}
 use Rattle.ideal_laws.proofs.Grown.{of_degree-append}
-
--- one more polynomial
-pub terms_in-more : (fs : List (List Term)) (k : ℕ) (f : List Term) → k < length fs → f ≡ get_or fs k f →
-    terms_in (take (k + 1) fs) ≡ terms_in (take k fs) + length f
-terms_in-more fs k f within is =
-    ap terms_in (take_more fs k f within)
-    ∙ ap length (flat_map-append (λ g. g) (take k fs) (get_or fs k f ∷ []))
-    ∙ length-append (flat_map (λ g. g) (take k fs)) (flat_map (λ g. g) (get_or fs k f ∷ []))
-    ∙ ap (λ (n : ℕ). terms_in (take k fs) + n) (ap length (append-nil (get_or fs k f)) ∙ ap length (sym is))
 
 -- polynomials other than 0 are no more than their terms
 pub few_elements : (fs : List (List Term)) → All IsMonic fs → length fs ≤ terms_in fs
@@ -46,19 +35,8 @@ module _ (weights : List ℕ) (d : ℕ) (fs : List (List Term)) (k : ℕ) (f : L
   of_degree-left e = of_degree-more ∙ ap (λ (c : Bool). of_degree weights d (take k fs) ++ cond c (f ∷ []) []) e
       ∙ append-nil (of_degree weights d (take k fs))
 
--- a relation by its leading word
-pub of_degree-lead : (weights : List ℕ) (d : ℕ) (f : List Term) (w : List ℕ) (b : Bool) → Some w ≡ lead_of f →
-    b ≡ (degree_of weights w == d) → of_degree weights d (f ∷ []) ≡ cond b (f ∷ []) []
-of_degree-lead weights d [] w b e is = cc e
-of_degree-lead weights d (t ∷ f) w b e is =
-    let word : w ≡ t.word = cc e in
-    ap (λ (c : Bool). cond c ((t ∷ f) ∷ []) []) (sym (is ∙ ap (λ (v : List ℕ). degree_of weights v == d) word))
-
-pub of_degree-no_lead : (weights : List ℕ) (d : ℕ) (f : List Term) → None ≡ lead_of f → of_degree weights d (f ∷ []) ≡ []
-of_degree-no_lead weights d [] e = refl
-of_degree-no_lead weights d (t ∷ f) e = cc e
-
-length-of_degree : (weights : List ℕ) (d : ℕ) (fs : List (List Term)) → length (of_degree weights d fs) ≤ length fs
+-- there are no more of the degree than of any
+pub length-of_degree : (weights : List ℕ) (d : ℕ) (fs : List (List Term)) → length (of_degree weights d fs) ≤ length fs
 length-of_degree weights d [] = omega arith
 length-of_degree weights d ([] ∷ fs) = let rest = length-of_degree weights d fs in omega (arith, rest)
 length-of_degree weights d ((t ∷ f) ∷ fs) = by_test (degree_of weights t.word == d) (length-of_degree weights d fs)
@@ -67,11 +45,3 @@ length-of_degree weights d ((t ∷ f) ∷ fs) = by_test (degree_of weights t.wor
         length (cond b ((t ∷ f) ∷ of_degree weights d fs) (of_degree weights d fs)) ≤ suc (length fs)
     by_test true rest = omega (arith, rest)
     by_test false rest = omega (arith, rest)
-
-pub count_within : (weights : List ℕ) (d : ℕ) (fs : List (List Term)) (k : ℕ) → length (of_degree weights d (take k fs)) ≤ length (take k fs)
-count_within weights d fs k = length-of_degree weights d (take k fs)
-
--- the leading word is over the letters
-pub lead_over : (names : ℕ) (f : List Term) (w : List ℕ) → Some w ≡ lead_of f → UsesLetters names f → IsOver names w
-lead_over names [] w e h = cc e
-lead_over names (t ∷ f) w e h = let is : t.word ≡ w = cc e in subst (IsOver names) is (All-head (λ s. IsOver names s.word) t f h)

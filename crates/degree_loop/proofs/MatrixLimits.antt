@@ -1,9 +1,9 @@
 -- The matrix of a degree and its limits, from the answers of the phases.
-use Rattle.std.proofs.Common.{◌≡◌, ◌≤◌, ℕ, List, [], ◌∷◌, length, refl, arith}
+use Rattle.std.proofs.Common.{◌≡◌, ◌≤◌, ℕ, List, [], ◌∷◌, ◌++◌, length, refl, arith}
 use Rattle.free_poly.specs.declared.term.Term.{Term}
 use Rattle.ideal_laws.specs.Ideal.{Ideal}
 use Rattle.ideal_laws.specs.declared.limits.LimitKind.{LimitKind}
-use Rattle.ideal_laws.specs.declared.limits.LimitKind.TheVariants.{Cells, Columns, Entries, Rows}
+use Rattle.ideal_laws.specs.declared.limits.LimitKind.TheVariants.{Cells, Columns, Rows}
 use Rattle.ideal_laws.specs.declared.limits.Limits.{Limits}
 use Rattle.ideal_laws.specs.Engine.{Elements}
 use Rattle.ideal_laws.specs.Quantities.{AreRows, IsFirstPassing, IsQuantity, NonePasses, words_of}
@@ -37,14 +37,15 @@ module _ (ideal : Ideal) (below : Elements) (d : ℕ) (limits : Limits) where
   abbrev cell_limit : List (LimitKind × ℕ)
   cell_limit = (Cells, limits.cells) ∷ []
 
-  pub rows_pass : (kind : LimitKind) (value : ℕ) → IsFirstPassing Q row_limit kind value → IsFirstPassing Q (matrix_limits limits) kind value
-  rows_pass kind value h = first_before Q row_limit ((Columns, limits.columns) ∷ (Entries, limits.entries) ∷ (Cells, limits.cells) ∷ []) kind value h
+  -- those that are asked after the rows
+  abbrev later_limits : List (LimitKind × ℕ)
+  later_limits = closing_limits limits ++ cell_limit
 
   module _ (rows : List (List Term)) (are : AreRows ideal below.elements d rows) (few : NonePasses Q row_limit) where
     pub close_passes : (kind : LimitKind) (value : ℕ) → IsFirstPassing (IsClosedQuantity below.elements rows) (closing_limits limits) kind
         value → IsFirstPassing Q (matrix_limits limits) kind value
     close_passes kind value h =
-        first_behind Q row_limit ((Columns, limits.columns) ∷ (Entries, limits.entries) ∷ (Cells, limits.cells) ∷ []) kind value few
+        first_behind Q row_limit later_limits kind value few
         (first_before Q (closing_limits limits) cell_limit kind value
         (first_moved (IsClosedQuantity below.elements rows) Q (closed_quantity ideal below d rows are) (closing_limits limits) kind value h))
 
@@ -56,13 +57,13 @@ module _ (ideal : Ideal) (below : Elements) (d : ℕ) (limits : Limits) where
       pub cells_pass : (kind : LimitKind) (value : ℕ) → IsFirstPassing (IsCellQuantity rows closed) cell_limit kind value →
           IsFirstPassing Q (matrix_limits limits) kind value
       cells_pass kind value h =
-          first_behind Q row_limit ((Columns, limits.columns) ∷ (Entries, limits.entries) ∷ (Cells, limits.cells) ∷ []) kind value few
+          first_behind Q row_limit later_limits kind value few
           (first_behind Q (closing_limits limits) cell_limit kind value own_within
           (first_moved (IsCellQuantity rows closed) Q (cell_quantity ideal below d rows are closed is_closed) cell_limit kind value h))
 
       pub matrix_within : NonePasses (IsCellQuantity rows closed) cell_limit → NonePasses Q (matrix_limits limits)
       matrix_within cells =
-          none_together Q row_limit ((Columns, limits.columns) ∷ (Entries, limits.entries) ∷ (Cells, limits.cells) ∷ []) few
+          none_together Q row_limit later_limits few
           (none_together Q (closing_limits limits) cell_limit own_within
           (none_moved (IsCellQuantity rows closed) Q (cell_quantity ideal below d rows are closed is_closed) cell_limit cells))
 

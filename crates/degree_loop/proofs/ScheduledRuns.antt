@@ -73,9 +73,6 @@ module _ (laws : ClaimedPivotsLaw) (counts : StepCounts) (problem : Problem) (cr
     so_far_ranges : Ranges problem crew core.state
     so_far_ranges = subst (Ranges problem crew) (sym h.reached) (laws problem crew h.setting h.events).ranges
 
-    pub so_far_views : length core.state.views ≡ crew
-    so_far_views = so_far_ranges.count
-
     module _ (found : ℕ) (is : found ≡ next_number number) (e : Event) (lt : e.seat < crew)
         (chosen : IsChosen core.problem core.state found e) (after : Machine)
         (state_is : after.state ≡ after_event core.problem core.state e) where

@@ -11,7 +11,7 @@ use Rattle.pivot_core.specs.declared.event.Event.{Event}
 use Rattle.pivot_core.specs.History.{merged}
 use Rattle.pivot_core.specs.Laws.{logs_of}
 use Rattle.pivot_core.specs.Runs.{HasEnded, opening, state_after}
-use Rattle.degree_loop.specs.Matrix.{IsMatrix, TellsMatrix}
+use Rattle.degree_loop.specs.Matrix.{IsMatrix}
 use Rattle.degree_loop.specs.Schedule.{IsScheduled}
 
 -- the matrix of the degree, and calls that may be told of it
@@ -24,9 +24,9 @@ pub record IsAccountOf (Tells : Problem → List Call → Type 0) (ideal : Ideal
   pub contested : account.columns ≡ contested_words closed.columns closed.reducers
   pub calls : Tells problem account.calls
 
--- that of the sequential engine: the matrix of the degree, and no calls
-abbrev pub IsSeqAccount : Ideal → List (List Term) → ℕ → Account → Type 0
-IsSeqAccount ideal G d account = TellsMatrix ideal G d account × (account.calls ≡ [])
+-- no calls, as elimination on one thread makes none
+abbrev pub AreNoCalls : Problem → List Call → Type 0
+AreNoCalls problem calls = calls ≡ []
 
 -- the crew of a degree of n rows: the lesser of the workers and n, but at least 1
 abbrev pub crew_of : ℕ → ℕ → ℕ
@@ -43,20 +43,12 @@ pub record AreScheduledCalls (workers schedule : ℕ) (problem : Problem) (calls
   pub run : AreRunCalls workers problem calls
   pub scheduled : IsScheduled problem (opening problem (crew_of workers problem.n)) schedule run.events
 
--- the matrix of the degree, and all calls of an ended run of the machine of claims on it, by rising stamp and then by
--- rising seat
-pub record IsRunAccount (workers : ℕ) (ideal : Ideal) (G : List (List Term)) (d : ℕ) (account : Account) : Type 0 where
-  pub closed : ClosedColumns
-  pub problem : Problem
-  pub matrix : IsMatrix ideal G d closed problem
-  pub count : account.rows ≡ problem.n
-  pub contested : account.columns ≡ contested_words closed.columns closed.reducers
-  pub events : List Event
-  pub ended : HasEnded problem (state_after problem (crew_of workers problem.n) events)
-  pub calls : account.calls ≡ merged (logs_of (state_after problem (crew_of workers problem.n) events))
+-- the accounts of the sequential engine, of the race, and of the machine of claims on one thread
+abbrev pub IsSeqAccount : Ideal → List (List Term) → ℕ → Account → Type 0
+IsSeqAccount = IsAccountOf AreNoCalls
 
--- that of the engine of the one-thread machine: the generator that begins with the schedule has chosen the events
-pub record IsCoreAccount (workers schedule : ℕ) (ideal : Ideal) (G : List (List Term)) (d : ℕ)
-    (account : Account) : Type 0 where
-  pub run : IsRunAccount workers ideal G d account
-  pub scheduled : IsScheduled run.problem (opening run.problem (crew_of workers run.problem.n)) schedule run.events
+abbrev pub IsRunAccount : ℕ → Ideal → List (List Term) → ℕ → Account → Type 0
+IsRunAccount workers = IsAccountOf (AreRunCalls workers)
+
+abbrev pub IsCoreAccount : ℕ → ℕ → Ideal → List (List Term) → ℕ → Account → Type 0
+IsCoreAccount workers schedule = IsAccountOf (AreScheduledCalls workers schedule)

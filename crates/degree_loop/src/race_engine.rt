@@ -61,16 +61,7 @@ impl<'a> DegreeEngine for RaceEngine<'a> {
         below: &Basis,
         d: u32,
     ) -> Result<DegreeReport, EngineFault> {
-        degree_by(
-            rt,
-            alloc,
-            field,
-            presentation,
-            below,
-            d,
-            &self.limits,
-            &*self,
-        )
+        degree_by(rt, alloc, field, presentation, below, d, &self.limits, self)
     }
 }
 

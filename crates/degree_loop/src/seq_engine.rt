@@ -44,25 +44,16 @@ impl DegreeEngine for SeqEngine {
         below: &Basis,
         d: u32,
     ) -> Result<DegreeReport, EngineFault> {
-        degree_by(
-            rt,
-            alloc,
-            field,
-            presentation,
-            below,
-            d,
-            &self.limits,
-            &*self,
-        )
+        degree_by(rt, alloc, field, presentation, below, d, &self.limits, self)
     }
 }
 
 impl PivotFinder for SeqEngine {
-    ghost use Rattle.std.specs.Prelude.{◌≡◌, []};
+    ghost use Rattle.degree_loop.specs.Accounts.{AreNoCalls};
 
     type Found = SeqPivots;
 
-    ghost tells = { λ _ _ calls. calls ≡ [] };
+    ghost tells = { λ _. AreNoCalls };
 
     fn find<R: Threads + Sync>(
         &self,

@@ -90,15 +90,8 @@ fn add_relation<R: Threads + Sync>(
         (gathered.old.rows.items ++ flat_map (word_rows columns.now relation.now) words.now) gathered.new.rows.items) }
 {
     for word in words {
-        add_word(
-            rt,
-            alloc,
-            field,
-            columns,
-            relation,
-            word.letters(),
-            gathered,
-        )?;
+        let word = word.letters();
+        add_word(rt, alloc, field, columns, relation, word, gathered)?;
     }
     Ok(())
 }
@@ -122,16 +115,8 @@ fn add_word<R: Threads + Sync>(
         (gathered.old.rows.items ++ word_rows columns.now relation.now word.now) gathered.new.rows.items) }
 {
     for at in 0..word.len() + 1 {
-        add_product(
-            rt,
-            alloc,
-            field,
-            columns,
-            &word[..at],
-            relation,
-            &word[at..],
-            gathered,
-        )?;
+        let (left, right) = word.split_at(at);
+        add_product(rt, alloc, field, columns, left, relation, right, gathered)?;
     }
     Ok(())
 }

@@ -6,11 +6,11 @@ use Rattle.std.proofs.lemmas.List.Elements.{All-contains}
 use Rattle.std.proofs.lemmas.List.Kept.{AllPairs-cons}
 use Rattle.words.specs.Words.{IsOver, degree_of, words_of_degree}
 use Rattle.words.specs.Order.{IsLetterwiseGreater}
-use Rattle.words.proofs.Degrees.{listed_word, words_of_degree-says}
+use Rattle.words.proofs.Degrees.{lists_words, words_of_degree-says}
 use Rattle.words.proofs.Members.{AllPairs-first, AllPairs-nil, AllPairs-rest, All-from_members, Contains-cases, Contains-first}
-use Rattle.words.proofs.Members.{Contains-flat_map_cases, Contains-map_cases, Contains-more, Contains-none}
+use Rattle.words.proofs.Members.{Contains-flat_map, Contains-flat_map_cases, Contains-map, Contains-map_cases, Contains-more, Contains-none}
 use Rattle.free_poly.specs.declared.term.Term.{Term}
-use Rattle.ideal_laws.specs.Closure.{HasReducer, IsInClosure, IsNormal, IsReducer, brought, given}
+use Rattle.ideal_laws.specs.Closure.{AreColumns, HasReducer, IsInClosure, IsNormal, IsReducer, brought, given}
 use Rattle.ideal_laws.specs.Ideal.{Ideal}
 use Rattle.ideal_laws.specs.Laws.{IsSetting}
 use Rattle.ideal_laws.specs.Overlaps.{AreLower}
@@ -66,7 +66,7 @@ contested_falling (x ∷ xs) (Some g ∷ rs) h = contested_falling xs rs (AllPai
 
 module _ (ideal : Ideal) (st : IsSetting ideal) (d : ℕ) (G : List (List Term)) (lower : AreLower ideal d G) where
   pub in_degree : (w : List ℕ) → IsOver (length ideal.weights) w → degree_of ideal.weights w ≡ d → Contains (words_of_degree ideal.weights d) w
-  in_degree w over e = subst (λ (n : ℕ). Contains (words_of_degree ideal.weights n) w) e (listed_word ideal.weights st.are_weights w over)
+  in_degree w over e = (lists_words ideal.weights st.are_weights d w).1 (over, e)
 
   -- each word of the closure of the rows has the degree
   pub closure_word : (rows : List (List Term)) → AreRows ideal G d rows → (w : List ℕ) → IsInClosure G (words_of rows) w →
@@ -83,3 +83,15 @@ module _ (ideal : Ideal) (st : IsSetting ideal) (d : ℕ) (G : List (List Term))
       subst (Contains (words_of_degree ideal.weights d)) t.2
       (in_degree t.0.word (All-contains (λ (s : Term). IsOver (length ideal.weights) s.word) reducer t.0 e.letters t.1)
       (All-contains (λ (s : Term). degree_of ideal.weights s.word ≡ d) reducer t.0 e.degree t.1))
+
+  -- the columns of the rows: they have the degree, and the words of the rows are among them
+  module _ (rows : List (List Term)) (are : AreRows ideal G d rows) (columns : List (List ℕ)) (are_columns : AreColumns G (words_of rows) columns) where
+    pub column_word : (w : List ℕ) → Contains columns w → Contains (words_of_degree ideal.weights d) w
+    column_word w m = closure_word rows are w ((are_columns.exactly w).0 m)
+
+    pub column_says : (w : List ℕ) → Contains columns w → IsOver (length ideal.weights) w × (degree_of ideal.weights w ≡ d)
+    column_says w m = words_of_degree-says ideal.weights st.are_weights d w (column_word w m)
+
+    pub row_column : (f : List Term) → Contains rows f → (t : Term) → Contains f t → Contains columns t.word
+    row_column f m t n = (are_columns.exactly t.word).1
+        (given t.word (Contains-map (λ (s : Term). s.word) (flat_map (λ g. g) rows) t (Contains-flat_map (λ g. g) rows f t m n)))

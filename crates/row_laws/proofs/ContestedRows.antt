@@ -5,8 +5,6 @@ use Rattle.std.specs.List.{Contains}
 use Rattle.std.proofs.Math.Nat.{mod-eq_of_lt}
 use Rattle.std.proofs.lemmas.List.{ext_get_or}
 use Rattle.std.proofs.lemmas.List.Elements.{All-map, Contains-get_or}
-use Rattle.words.specs.Words.{words_of_degree}
-use Rattle.words.proofs.Degrees.{words_of_degree-falling, words_of_degree-says}
 use Rattle.field_table.specs.Residues.{IsFieldModulus}
 use Rattle.free_poly.specs.declared.term.Term.{Term}
 use Rattle.free_poly.specs.Terms.{scaled}
@@ -26,9 +24,9 @@ use Rattle.ideal_laws.proofs.Vectors as vectors
 use Rattle.back_reduce.specs.Rows.{vector}
 use Rattle.row_laws.specs.Contested.{IsContestedRow}
 use Rattle.free_poly.specs.Poly.{element_on}
-use Rattle.row_laws.proofs.ClosedColumns.{closure_word, contested_falling, contested_says, reducer_says}
+use Rattle.row_laws.proofs.ClosedColumns.{column_says, column_word, contested_falling, contested_says, reducer_says}
 use Rattle.row_laws.proofs.Spread.{spread, spread-absent, spread-at, spread-element}
-use Rattle.row_laws.proofs.Triangle.{IsReducerOf, zero_from_normal}
+use Rattle.row_laws.proofs.Triangle.{IsReducerVector, zero_from_normal}
 
 module _ (K : Field) where
   pub minus : (a : K.F) → K.mul (K.neg K.one) a ≡ K.neg a
@@ -69,14 +67,18 @@ module _ (ideal : Ideal) (st : IsSetting ideal) (d : ℕ) (G : List (List Term))
   contested = contested_words columns reducers
 
   abbrev IsOwnReducer : V → Type 0
-  IsOwnReducer = IsReducerOf ideal st d G lower (words_of_degree ideal.weights d)
+  IsOwnReducer = IsReducerVector ideal st d G lower
 
   reducer_listed : (g : List Term) → Contains (reducers_in reducers) g → IsOwnReducer (vec g)
   reducer_listed g m =
       let r = reducer_says G columns reducers closed.are_reducers g m in
-      let there = closure_word ideal st d G lower rows closed.are_rows r.0 ((closed.are_columns.exactly r.0).0 r.1) in
-      let says = words_of_degree-says ideal.weights st.are_weights d r.0 there in
-      record { word = r.0; within = there; over = says.0; degree = says.1; reducer = g; is_reducer = r.2; is = refl }
+      let there = column_word ideal st d G lower rows closed.are_rows columns closed.are_columns r.0 r.1 in
+      let says = column_says ideal st d G lower rows closed.are_rows columns closed.are_columns r.0 r.1 in
+      record {
+        column = r.0;
+        within = there;
+        leads = record { over = says.0; degree = says.1; reducer = g; is_reducer = r.2; is = refl };
+      }
 
   -- residues at contested columns are 0 at a word that has a reducer
   pub zero_at_reducible : (e : ℕ → Residue ideal.modulus) (x : List ℕ) (g : List Term) → IsReducer G x g
@@ -130,9 +132,8 @@ module _ (ideal : Ideal) (st : IsSetting ideal) (d : ℕ) (G : List (List Term))
         let w = get_or contested k [] in
         let falling = contested_falling columns reducers closed.are_columns.falling in
         let says = contested_says G columns reducers closed.are_reducers w (Contains-get_or contested k [] lt) in
-        let there = closure_word ideal st d G lower rows closed.are_rows w ((closed.are_columns.exactly w).0 says.0) in
-        let none : gap w ≡ K.zero = zero_from_normal ideal st d G lower (words_of_degree ideal.weights d)
-        (words_of_degree-falling ideal.weights st.are_weights d) gap gap_spanned w there says.1
+        let there = column_word ideal st d G lower rows closed.are_rows columns closed.are_columns w says.0 in
+        let none : gap w ≡ K.zero = zero_from_normal ideal st d G lower gap gap_spanned w there says.1
         (λ x g r greater. none_at_reducible x g r) w (inl refl) in
         let rests : vec (left f a ha) w ≡ vec (left f b hb) w = sym (less_back K (vec (left f b hb) w) (vec (left f a ha) w))
         ∙ ap (K.add (vec (left f b hb) w)) none ∙ K.add_zero (vec (left f b hb) w) in

@@ -6,17 +6,16 @@ use Rattle.std.proofs.Math.Nat.{mod-eq_of_lt, zero-mod}
 use Rattle.std.proofs.lemmas.List.Elements.{All-cons, All-contains, All-head, All-weaker, Contains-append_cases, Contains-append_left}
 use Rattle.std.proofs.lemmas.List.Elements.{Contains-append_right}
 use Rattle.std.proofs.lemmas.Option.{get_or_from_slice_get, slice_get_within}
-use Rattle.words.specs.Words.{words_of_degree}
+use Rattle.words.specs.Words.{IsOver, degree_of, words_of_degree}
 use Rattle.words.proofs.Members.{AllPairs-first}
 use Rattle.field_table.specs.Residues.{IsFieldModulus}
 use Rattle.free_poly.specs.declared.term.Term.{Term}
-use Rattle.free_poly.specs.Terms.{HasDegree, HasOneDegree, HasResidues, total_at}
-use Rattle.free_poly.specs.Poly.{IsPolynomial}
+use Rattle.free_poly.specs.Terms.{HasDegree, HasOneDegree, HasResidues, UsesLetters, total_at}
+use Rattle.free_poly.specs.Poly.{IsPolynomial, lead_of}
 use Rattle.free_poly.proofs.FromWords.{listed}
 use Rattle.free_poly.proofs.Totals.{AreApart-from_polynomial, total_at-found}
 use Rattle.linear_algebra.specs.Mod.{Residue}
 use Rattle.linear_algebra.proofs.Elimination.{same_span}
-use Rattle.words.specs.Words.{degree_of}
 use Rattle.ideal_laws.specs.Closure.{IsObstruction, Overlap, obstruction_row}
 use Rattle.ideal_laws.specs.Engine.{of_degree}
 use Rattle.ideal_laws.specs.Ideal.{Ideal}
@@ -44,6 +43,11 @@ whole_degree weights d (t ∷ f) one other e = All-cons (λ s. degree_of weights
 first_degree : (weights : List ℕ) (d : ℕ) (g : List Term) → g ≢ [] → HasDegree weights d g → lead_degree weights g ≡ d
 first_degree weights d [] other e = absurd (other refl)
 first_degree weights d (t ∷ f) other e = All-head (λ s. degree_of weights s.word ≡ d) t f e
+
+-- a leading word is over the letters of its polynomial
+pub lead_over : (names : ℕ) (f : List Term) (w : List ℕ) → Some w ≡ lead_of f → UsesLetters names f → IsOver names w
+lead_over names [] w e h = cc e
+lead_over names (t ∷ f) w e h = let is : t.word ≡ w = cc e in subst (IsOver names) is (All-head (λ s. IsOver names s.word) t f h)
 
 -- at the word of a term a polynomial with residues is not 0
 pub term_there : (p : ℕ) (fm : IsFieldModulus p) (f : List Term) → IsPolynomial f → HasResidues p f → (t : Term) → Contains f t →

@@ -4,6 +4,7 @@ pub mod EntryTerms
 pub mod Spread
 pub mod Places
 pub mod Reducers
+pub mod Leading
 pub mod Triangle
 pub mod DegreeRows
 pub mod ClosedColumns
@@ -15,4 +16,5 @@ pub mod Mixtures
 pub mod Leaders
 pub mod NormalLeads
 pub mod RowElements
+pub mod ReducedRows
 pub mod RowBasis

@@ -1,15 +1,12 @@
 -- Each member of a degree is a combination of contested rows and a sum of multiples of reducers.
-use Rattle.std.proofs.Common.{ap₂, ◌≡◌, ◌<◌, ℕ, List, [], ◌∷◌, map, refl, sym, ap, ◌∙◌, inl, inr, All, Option, subst}
+use Rattle.std.proofs.Common.{ap₂, ◌≡◌, ◌<◌, ℕ, List, [], ◌∷◌, refl, sym, ap, ◌∙◌, All, Option, subst}
 use Rattle.std.specs.List.{Contains, flat_map}
 use Rattle.std.proofs.lemmas.List.Elements.{All-head, All-tail}
-use Rattle.words.specs.Words.{words_of_degree}
-use Rattle.words.proofs.Members.{Contains-cases, Contains-first, Contains-more, Contains-none}
 use Rattle.free_poly.specs.declared.term.Term.{Term}
 use Rattle.linear_algebra.specs.Fields.{Field}
 use Rattle.linear_algebra.specs.Spans.{IsInSpan}
-use Rattle.linear_algebra.specs.Echelon.{IsOneOf}
 use Rattle.linear_algebra.specs.Mod.{Residue}
-use Rattle.linear_algebra.proofs.Algebra.{add_left_comm, zero_add, IsInSpan-add, IsInSpan-one, IsInSpan-scaled, IsInSpan-zero}
+use Rattle.linear_algebra.proofs.Algebra.{zero_add, IsInSpan-add, IsInSpan-one, IsInSpan-scaled, IsInSpan-zero}
 use Rattle.linear_algebra.proofs.Elimination.{IsInSpan-trans, same_span}
 use Rattle.linear_algebra.proofs.ModField.{same_residue}
 use Rattle.ideal_laws.specs.Ideal.{Ideal, IsInIdeal}
@@ -22,12 +19,14 @@ use Rattle.ideal_laws.proofs.Vectors as vectors
 use Rattle.back_reduce.specs.Rows.{IsInRowSpan, vector}
 use Rattle.row_laws.specs.Contested.{AreContestedRows, IsContestedRow}
 use Rattle.back_reduce.proofs.Beside.{beside_left, beside_right}
+use Rattle.back_reduce.proofs.Echelons.{contained_one, one_contained}
+use Rattle.back_reduce.proofs.RowLists.{OneOf}
 use Rattle.row_laws.proofs.ClosedColumns.{in_degree}
 use Rattle.row_laws.proofs.ContestedRows.{back_less, left, left_spanned, row_sum}
 use Rattle.row_laws.proofs.DegreeRows.{IsMember, obstruction_has, relation_row, row_member}
 use Rattle.row_laws.proofs.Reducers.{reducer_inside}
-use Rattle.row_laws.proofs.Spread.{spread, spread-linear, spread-member, spread-zero}
-use Rattle.row_laws.proofs.Triangle.{IsReducerOf}
+use Rattle.row_laws.proofs.Spread.{spread, spread-linear, spread-member, spread-zero, swapped}
+use Rattle.row_laws.proofs.Triangle.{IsReducerVector}
 
 module _ (ideal : Ideal) (st : IsSetting ideal) (d : ℕ) (G : List (List Term)) (lower : AreLower ideal d G)
     (rows : List (List Term)) (columns : List (List ℕ)) (reducers : List (Option (List Term)))
@@ -52,7 +51,10 @@ module _ (ideal : Ideal) (st : IsSetting ideal) (d : ℕ) (G : List (List Term))
   onto e = spread ideal.modulus st.modulus contested e
 
   abbrev IsOwnReducer : V → Type 0
-  IsOwnReducer = IsReducerOf ideal st d G lower (words_of_degree ideal.weights d)
+  IsOwnReducer = IsReducerVector ideal st d G lower
+
+  abbrev IsCell : N → Type 0
+  IsCell = OneOf ideal.modulus st.modulus cells
 
   abbrev IsProductV : V → Type 0
   IsProductV = IsProductVector ideal st.modulus d
@@ -65,29 +67,13 @@ module _ (ideal : Ideal) (st : IsSetting ideal) (d : ℕ) (G : List (List Term))
     pub spanned : IsInSpan K (List ℕ) IsOwnReducer rest
     pub sum : (y : List ℕ) → v y ≡ K.add (onto entries y) (rest y)
 
-  swapped : (a b c e : Residue ideal.modulus) → K.add (K.add a b) (K.add c e) ≡ K.add (K.add a c) (K.add b e)
-  swapped a b c e = K.add_assoc a b (K.add c e) ∙ ap (K.add a) (add_left_comm K b c e) ∙ sym (K.add_assoc a c (K.add b e))
-
-  cell_listed : (cs : List (List ℕ)) (c : List ℕ) → Contains cs c → IsOneOf K ℕ (map (vector ideal.modulus st.modulus) cs) (vector ideal.modulus st.modulus c)
-  cell_listed [] c m = absurd (Contains-none c m)
-  cell_listed (e ∷ cs) c m = elim (Contains-cases e cs c m) [
-    | inl is ↦ inl (ap (vector ideal.modulus st.modulus) (sym is))
-    | inr n ↦ inr (cell_listed cs c n)
-  ]
-
-  listed_cell : (cs : List (List ℕ)) (g : N) → IsOneOf K ℕ (map (vector ideal.modulus st.modulus) cs) g → (c : List ℕ) × Contains cs c
-      × (g ≡ vector ideal.modulus st.modulus c)
-  listed_cell [] g h = absurd h
-  listed_cell (c ∷ cs) g (inl e) = (c, Contains-first c cs, e)
-  listed_cell (c ∷ cs) g (inr h) = let r = listed_cell cs g h in (r.0, Contains-more c cs r.0 r.1, r.2)
-
   row_mixed : (f : List Term) → Contains rows f → IsMixed (vec f)
   row_mixed f m =
       let b = beside_left (IsContestedRow ideal.modulus columns reducers) rows cells f are_cells m in
       record {
         entries = vector ideal.modulus st.modulus b.0;
-        combined = IsInSpan-one K ℕ (IsOneOf K ℕ (map (vector ideal.modulus st.modulus) cells)) (vector ideal.modulus st.modulus b.0)
-            (cell_listed cells b.0 b.1.right);
+        combined = IsInSpan-one K ℕ IsCell (vector ideal.modulus st.modulus b.0)
+            (contained_one ideal.modulus 0 st.modulus cells b.0 b.1.right);
         rest = vec (left ideal st d G lower rows columns reducers closed f b.0 b.1.related);
         spanned = left_spanned ideal st d G lower rows columns reducers closed f b.0 b.1.related;
         sum = row_sum ideal st d G lower rows columns reducers closed f b.0 b.1.related;
@@ -96,7 +82,7 @@ module _ (ideal : Ideal) (st : IsSetting ideal) (d : ℕ) (G : List (List Term))
   nothing_mixed : IsMixed (λ y. K.zero)
   nothing_mixed = record {
     entries = λ k. K.zero;
-    combined = IsInSpan-zero K ℕ (IsOneOf K ℕ (map (vector ideal.modulus st.modulus) cells));
+    combined = IsInSpan-zero K ℕ IsCell;
     rest = λ y. K.zero;
     spanned = IsInSpan-zero K (List ℕ) IsOwnReducer;
     sum = λ y. sym (ap (λ (n : Residue ideal.modulus). K.add n K.zero) (spread-zero ideal.modulus st.modulus contested (λ k. K.zero) (λ k. refl) y)
@@ -109,12 +95,12 @@ module _ (ideal : Ideal) (st : IsSetting ideal) (d : ℕ) (G : List (List Term))
   more_mixed : (a : Residue ideal.modulus) (u v : V) → IsMixed u → IsMixed v → IsMixed (λ y. K.add (K.mul a (u y)) (v y))
   more_mixed a u v g h = record {
     entries = λ k. K.add (K.mul a (g.entries k)) (h.entries k);
-    combined = IsInSpan-add K ℕ (IsOneOf K ℕ (map (vector ideal.modulus st.modulus) cells)) (λ k. K.mul a (g.entries k)) h.entries
-        (IsInSpan-scaled K ℕ (IsOneOf K ℕ (map (vector ideal.modulus st.modulus) cells)) a g.entries g.combined) h.combined;
+    combined = IsInSpan-add K ℕ IsCell (λ k. K.mul a (g.entries k)) h.entries
+        (IsInSpan-scaled K ℕ IsCell a g.entries g.combined) h.combined;
     rest = λ y. K.add (K.mul a (g.rest y)) (h.rest y);
     spanned = IsInSpan-add K (List ℕ) IsOwnReducer (λ y. K.mul a (g.rest y)) h.rest (IsInSpan-scaled K (List ℕ) IsOwnReducer a g.rest g.spanned) h.spanned;
     sum = λ y. ap₂ K.add (ap (K.mul a) (g.sum y) ∙ K.mul_add a (onto g.entries y) (g.rest y)) (h.sum y)
-        ∙ swapped (K.mul a (onto g.entries y)) (K.mul a (g.rest y)) (onto h.entries y) (h.rest y)
+        ∙ swapped ideal.modulus st.modulus (K.mul a (onto g.entries y)) (K.mul a (g.rest y)) (onto h.entries y) (h.rest y)
         ∙ ap (λ (n : Residue ideal.modulus). K.add n (K.add (K.mul a (g.rest y)) (h.rest y)))
         (sym (spread-linear ideal.modulus st.modulus contested a g.entries h.entries y));
   }
@@ -122,16 +108,12 @@ module _ (ideal : Ideal) (st : IsSetting ideal) (d : ℕ) (G : List (List Term))
   generator_mixed : (g : List Term) → IsGenerator ideal G d g → IsMixed (vec g)
   generator_mixed g (reducer w f over deg r) = record {
     entries = λ k. K.zero;
-    combined = IsInSpan-zero K ℕ (IsOneOf K ℕ (map (vector ideal.modulus st.modulus) cells));
+    combined = IsInSpan-zero K ℕ IsCell;
     rest = vec g;
     spanned = IsInSpan-one K (List ℕ) IsOwnReducer (vec g) (record {
-      word = w;
+      column = w;
       within = in_degree ideal st d G lower w over deg;
-      over = over;
-      degree = deg;
-      reducer = g;
-      is_reducer = r;
-      is = refl;
+      leads = record { over = over; degree = deg; reducer = g; is_reducer = r; is = refl };
     });
     sum = λ y. sym (ap (λ (n : Residue ideal.modulus). K.add n (vec g y)) (spread-zero ideal.modulus st.modulus contested (λ k. K.zero) (λ k. refl) y)
         ∙ zero_add K (vec g y));
@@ -165,9 +147,9 @@ module _ (ideal : Ideal) (st : IsSetting ideal) (d : ℕ) (G : List (List Term))
       let f = b.0 in
       let rest = vec (left ideal st d G lower rows columns reducers closed f c b.1.related) in
       let rest_member : IsInSpan K (List ℕ) IsProductV rest =
-      IsInSpan-trans K (List ℕ) IsOwnReducer IsProductV (λ g h. subst (IsInSpan K (List ℕ) IsProductV) (sym h.is)
-      (span_from_ideal ideal st.modulus d h.reducer (reducer_inside ideal st d G lower h.word h.reducer h.over
-      h.degree h.is_reducer))) rest (left_spanned ideal st d G lower rows columns reducers closed f c b.1.related) in
+      IsInSpan-trans K (List ℕ) IsOwnReducer IsProductV (λ g h. subst (IsInSpan K (List ℕ) IsProductV) (sym h.leads.is)
+      (span_from_ideal ideal st.modulus d h.leads.reducer (reducer_inside ideal st d G lower h.column h.leads.reducer h.leads.over
+      h.leads.degree h.leads.is_reducer))) rest (left_spanned ideal st d G lower rows columns reducers closed f c b.1.related) in
       same_span K (List ℕ) IsProductV (λ y. K.add (vec f y) (K.mul (K.neg K.one) (rest y))) (onto (vector ideal.modulus st.modulus c))
       (λ y. ap (λ (n : Residue ideal.modulus). K.add n (K.mul (K.neg K.one) (rest y)))
       (row_sum ideal st d G lower rows columns reducers closed f c b.1.related y)
@@ -177,6 +159,6 @@ module _ (ideal : Ideal) (st : IsSetting ideal) (d : ℕ) (G : List (List Term))
       (IsInSpan-scaled K (List ℕ) IsProductV (K.neg K.one) rest rest_member))
 
   pub combined_member : (e : N) → IsInRowSpan ideal.modulus st.modulus cells e → IsMember ideal st d (onto e)
-  combined_member e s = spread-member ideal.modulus st.modulus contested (IsOneOf K ℕ (map (vector ideal.modulus st.modulus) cells)) IsProductV (λ g h.
-      let c = listed_cell cells g h in
+  combined_member e s = spread-member ideal.modulus st.modulus contested IsCell IsProductV (λ g h.
+      let c = one_contained ideal.modulus 0 st.modulus cells g h in
       subst (λ (u : N). IsInSpan K (List ℕ) IsProductV (onto u)) (sym c.2) (cell_member c.0 c.1)) e s

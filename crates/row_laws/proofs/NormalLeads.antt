@@ -5,7 +5,6 @@ use Rattle.std.proofs.lemmas.List.{get_or_default}
 use Rattle.std.proofs.lemmas.List.Elements.{All-head}
 use Rattle.words.specs.Words.{IsOver, degree_of, words_of_degree}
 use Rattle.words.specs.Order.{IsLetterwiseGreater}
-use Rattle.words.proofs.Degrees.{words_of_degree-falling}
 use Rattle.words.proofs.Members.{Contains-first}
 use Rattle.free_poly.specs.declared.term.Term.{Term}
 use Rattle.free_poly.specs.Poly.{lead_of}
@@ -74,8 +73,7 @@ module _ (ideal : Ideal) (st : IsSetting ideal) (d : ℕ) (G : List (List Term))
           let above : (y : List ℕ) → IsLetterwiseGreater y w → v y ≡ K.zero =
           λ y g. same_residue ideal.modulus _ _ (ap (λ (n : ℕ). n % ideal.modulus) (above_lead (t ∷ f) w y i.element.form e g)) in
           let rest_zero : (y : List ℕ) → ((y ≡ w) ⊎ IsLetterwiseGreater y w) → h.rest y ≡ K.zero =
-          zero_from_normal ideal st d G lower (words_of_degree ideal.weights d) (words_of_degree-falling ideal.weights st.are_weights d)
-          h.rest h.spanned w there normal
+          zero_from_normal ideal st d G lower h.rest h.spanned w there normal
           (λ x g r greater. sym (h.sum x ∙ ap (λ (n : Residue ideal.modulus). K.add n (h.rest x))
           (zero_at_reducible ideal st d G lower rows columns reducers closed h.entries x g r) ∙ zero_add K (h.rest x))
           ∙ above x greater) in

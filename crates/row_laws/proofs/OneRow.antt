@@ -1,16 +1,14 @@
 -- Each row of a degree leaves exactly one list of residues at the contested columns.
-use Rattle.std.proofs.Common.{ap₂, ◌≡◌, ◌≢◌, ◌-◌, ◌%◌, ℕ, List, ◌++◌, length, ap, ◌∙◌, Option, subst}
+use Rattle.std.proofs.Common.{ap₂, ◌≡◌, ◌≢◌, ◌-◌, ◌%◌, ℕ, List, ◌++◌, ap, ◌∙◌, Option, subst}
 use Rattle.std.specs.List.{Contains, flat_map}
-use Rattle.words.specs.Words.{IsOver, degree_of}
-use Rattle.words.proofs.Degrees.{words_of_degree-says}
-use Rattle.words.proofs.Members.{All-from_members, Contains-flat_map, Contains-map}
+use Rattle.words.proofs.Members.{All-from_members, Contains-map}
 use Rattle.free_poly.specs.declared.term.Term.{Term}
 use Rattle.free_poly.specs.Terms.{scaled}
 use Rattle.free_poly.proofs.Totals.{total_at-absent}
 use Rattle.linear_algebra.specs.Fields.{Field}
 use Rattle.linear_algebra.specs.Mod.{Residue}
 use Rattle.linear_algebra.proofs.ModField.{same_residue}
-use Rattle.ideal_laws.specs.Closure.{brought, given}
+use Rattle.ideal_laws.specs.Closure.{brought}
 use Rattle.ideal_laws.specs.Ideal.{Ideal}
 use Rattle.ideal_laws.specs.Laws.{IsSetting, part_terms}
 use Rattle.ideal_laws.specs.Overlaps.{AreLower}
@@ -20,7 +18,7 @@ use Rattle.row_laws.specs.Contested.{IsContestedRow}
 use Rattle.free_poly.specs.Poly.{element_on}
 use Rattle.row_laws.specs.Laws.{LeavesOneRow}
 use Rattle.row_laws.proofs.Cleared.{AreClosedWords, IsOn, left_of}
-use Rattle.row_laws.proofs.ClosedColumns.{closure_word}
+use Rattle.row_laws.proofs.ClosedColumns.{column_says, row_column}
 use Rattle.row_laws.proofs.ContestedRows.{back_less, one_row, vector_of-less}
 use Rattle.row_laws.proofs.Parts.{has_parts}
 use Rattle.row_laws.proofs.Spread.{residues_of, residues_of-row, spread, spread-element, spread-residues}
@@ -45,22 +43,17 @@ module _ (ideal : Ideal) (st : IsSetting ideal) (d : ℕ) (G : List (List Term))
   words_on f h y off = same_residue ideal.modulus _ _ (ap (λ (n : ℕ). n % ideal.modulus) (total_at-absent f y
       (All-from_members (λ t. t.word ≢ y) f (λ t m e. off (subst (Contains columns) e (h t m))))))
 
-  column_says : (x : List ℕ) → Contains columns x → IsOver (length ideal.weights) x × (degree_of ideal.weights x ≡ d)
-  column_says x m = words_of_degree-says ideal.weights st.are_weights d x
-      (closure_word ideal st d G lower rows closed.are_rows x ((closed.are_columns.exactly x).0 m))
-
   closed_words : AreClosedWords ideal st d G lower columns
   closed_words = record {
     falling = closed.are_columns.falling;
-    over = λ x m. (column_says x m).0;
-    degree = λ x m. (column_says x m).1;
+    over = λ x m. (column_says ideal st d G lower rows closed.are_rows columns closed.are_columns x m).0;
+    degree = λ x m. (column_says ideal st d G lower rows closed.are_rows columns closed.are_columns x m).1;
     reducers_on = λ x g m r. words_on g (λ t n. (closed.are_columns.exactly t.word).1
         (brought x t.word g ((closed.are_columns.exactly x).0 m) r (Contains-map (λ (s : Term). s.word) g t n)));
   }
 
   row_on : (f : List Term) → Contains rows f → OnColumns (vec f)
-  row_on f m = words_on f (λ t n. (closed.are_columns.exactly t.word).1
-      (given t.word (Contains-map (λ (s : Term). s.word) (flat_map (λ g. g) rows) t (Contains-flat_map (λ g. g) rows f t m n))))
+  row_on f m = words_on f (row_column ideal st d G lower rows closed.are_rows columns closed.are_columns f m)
 
   -- what the reducers leave of it
   left_row : (f : List Term) → Contains rows f → (r : List ℕ) × IsContestedRow ideal.modulus columns reducers f r

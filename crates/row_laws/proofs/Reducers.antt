@@ -1,6 +1,6 @@
--- Reducers over the reduced elements of lower degrees: one at most for each word, monic, in the ideal, and with that
--- word as leading word.
-use Rattle.std.proofs.Common.{◌≡◌, ◌≢◌, ◌+◌, ◌%◌, ◌<◌, ℕ, true, false, List, [], ◌∷◌, length, take, drop, refl, sym, ap, ◌∙◌, inl, inr, arith}
+-- Reducers over the reduced elements of lower degrees: one at most for each word. Each is a product of an element, so it
+-- is in the ideal, 1 at its word and 0 at greater words.
+use Rattle.std.proofs.Common.{◌≡◌, ◌≢◌, ◌+◌, ◌<◌, ℕ, true, false, List, [], ◌∷◌, length, take, drop, refl, sym, ap, ◌∙◌, inl, inr, arith}
 use Rattle.std.proofs.Common.{AllPairs, subst, Some, bytes_eq}
 use Rattle.std.specs.List.{Contains}
 use Rattle.std.proofs.lemmas.Bool.{cases_Bool, cases_lt}
@@ -11,19 +11,19 @@ use Rattle.words.specs.Order.{IsLetterwiseGreater}
 use Rattle.words.proofs.Members.{AllPairs-first, AllPairs-rest, Contains-cases, Contains-none}
 use Rattle.free_poly.specs.declared.term.Term.{Term}
 use Rattle.free_poly.specs.Terms.{product, total_at}
-use Rattle.free_poly.specs.Poly.{IsMonic, IsPolynomial, lead_of}
+use Rattle.free_poly.specs.Poly.{IsPolynomial, lead_of}
 use Rattle.free_poly.proofs.NormalForms.{above_all}
 use Rattle.free_poly.proofs.Products.{degree_of-round}
 use Rattle.free_poly.proofs.Totals.{here, letterwise-apart}
 use Rattle.linear_algebra.specs.Fields.{Field}
-use Rattle.linear_algebra.proofs.ModField.{same_residue}
+use Rattle.linear_algebra.specs.Mod.{Residue}
 use Rattle.ideal_laws.specs.Ideal.{Ideal, IsInIdeal, IsMinimal}
 use Rattle.ideal_laws.specs.Basis.{HasGreaterLead, IsReduced}
 use Rattle.ideal_laws.specs.Closure.{IsReducer}
 use Rattle.ideal_laws.specs.Laws.{IsSetting}
 use Rattle.ideal_laws.specs.Overlaps.{AreLower}
-use Rattle.ideal_laws.proofs.Closed.{inside_product, lead-product}
-use Rattle.ideal_laws.proofs.OneBasis.{has_one_basis, monic_total, some_same}
+use Rattle.ideal_laws.proofs.OneBasis.{has_one_basis, some_same}
+use Rattle.ideal_laws.proofs.Represented.{IsLowerProduct, lower_above, lower_inside, lower_one}
 use Rattle.ideal_laws.proofs.Vectors as vectors
 use Rattle.row_laws.proofs.Places.{first_of, joined_at}
 
@@ -44,10 +44,6 @@ one_in_falling (e ∷ fs) h f g w m n lf lg = elim (Contains-cases e fs f m) [
   where
     apart : {a b : List Term} → HasGreaterLead a b → lead_of a ≡ Some w → lead_of b ≡ Some w → ⊥
     apart r la lb = letterwise-apart r.of_f r.of_g r.greater (some_same r.of_f r.of_g (sym r.leads_f ∙ la ∙ sym lb ∙ r.leads_g))
-
-product-monic : (u : List ℕ) (g : List Term) (v : List ℕ) → IsMonic g → IsMonic (product u g v)
-product-monic u [] v m = m
-product-monic u (t ∷ g) v m = m
 
 -- at a word that is greater than the leading word a polynomial has nothing
 pub above_lead : (f : List Term) (w y : List ℕ) → IsPolynomial f → lead_of f ≡ Some w → IsLetterwiseGreater y w → total_at f y ≡ 0
@@ -101,37 +97,39 @@ module _ (ideal : Ideal) (st : IsSetting ideal) where
         let lead : a.lead ≡ b.lead = some_same a.lead b.lead (sym a.is_lead ∙ ap lead_of element ∙ b.is_lead) in
         a.is ∙ (λ i. product (take (at i) w) (element i) (drop (at i + length (lead i)) w)) ∙ sym b.is
 
-    pub reducer_lead : (w : List ℕ) (f : List Term) → IsReducer G w f → lead_of f ≡ Some w
-    reducer_lead w f r =
-        ap lead_of r.is ∙ lead-product (take r.at w) r.element (drop (r.at + length r.lead) w) r.lead r.is_lead
-        ∙ ap Some (sym (joined_at r.lead w r.at r.here))
-
-    pub reducer_monic : (w : List ℕ) (f : List Term) → IsReducer G w f → IsMonic f
-    reducer_monic w f r = subst IsMonic (sym r.is) (product-monic (take r.at w) r.element (drop (r.at + length r.lead) w) ((lower r.element).0 r.among).2.monic)
-
-    pub reducer_inside : (w : List ℕ) (f : List Term) → IsOver (length ideal.weights) w → degree_of ideal.weights w ≡ d → IsReducer G w f → IsInIdeal ideal d f
-    reducer_inside w f over deg r =
-        let u = take r.at w in
-        let v = drop (r.at + length r.lead) w in
-        let h = (lower r.element).0 r.among in
-        let whole : degree_of ideal.weights u + h.0 + degree_of ideal.weights v ≡ d =
-        ap (λ (n : ℕ). degree_of ideal.weights u + n + degree_of ideal.weights v) (sym (lead_degree h.0 r.element r.lead h.2 r.is_lead))
-        ∙ sym (degree_of-round ideal.weights u r.lead v)
-        ∙ ap (degree_of ideal.weights) (sym (joined_at r.lead w r.at r.here)) ∙ deg in
-        subst (IsInIdeal ideal d) (sym r.is)
-        (subst (λ (n : ℕ). IsInIdeal ideal n (product u r.element v)) whole
-        (inside_product ideal.modulus ideal.weights st.are_weights ideal.relations h.0 u r.element v (All-take (λ n. n < length ideal.weights) r.at w over)
-        (All-drop (λ n. n < length ideal.weights) (r.at + length r.lead) w over) h.2.inside))
-
     abbrev K : Field
     K = vectors.K ideal.modulus st.modulus
 
-    -- the reducer of a word of the degree is 1 there and 0 at greater words
+    -- the reducer of a word of the degree is a product of a lower element, so it is 1 there and 0 at greater words
     module _ (w : List ℕ) (f : List Term) (over : IsOver (length ideal.weights) w) (deg : degree_of ideal.weights w ≡ d) (r : IsReducer G w f) where
-      pub reducer_there : vectors.vector_of ideal.modulus st.modulus f w ≡ K.one
-      reducer_there = same_residue ideal.modulus _ _ (ap (λ (n : ℕ). n % ideal.modulus) (monic_total f w (reducer_lead w f r)
-          (reducer_inside w f over deg r).element.form (reducer_monic w f r)))
+      abbrev vector : List ℕ → Residue ideal.modulus
+      vector = vectors.vector_of ideal.modulus st.modulus f
 
-      pub reducer_above : (y : List ℕ) → IsLetterwiseGreater y w → vectors.vector_of ideal.modulus st.modulus f y ≡ K.zero
-      reducer_above y g = same_residue ideal.modulus _ _ (ap (λ (n : ℕ). n % ideal.modulus)
-          (above_lead f w y (reducer_inside w f over deg r).element.form (reducer_lead w f r) g))
+      abbrev lower_product : IsLowerProduct ideal st d d w vector
+      lower_product =
+          let u = take r.at w in
+          let v = drop (r.at + length r.lead) w in
+          let h = (lower r.element).0 r.among in
+          record {
+            element = r.element;
+            lower = record { degree = h.0; below = h.1; reduced = h.2 };
+            lead = r.lead;
+            is_lead = r.is_lead;
+            left = u;
+            right = v;
+            left_over = All-take (λ n. n < length ideal.weights) r.at w over;
+            right_over = All-drop (λ n. n < length ideal.weights) (r.at + length r.lead) w over;
+            word = joined_at r.lead w r.at r.here;
+            degree = ap (λ (n : ℕ). degree_of ideal.weights u + n + degree_of ideal.weights v) (sym (lead_degree h.0 r.element r.lead h.2 r.is_lead))
+                ∙ sym (degree_of-round ideal.weights u r.lead v) ∙ ap (degree_of ideal.weights) (sym (joined_at r.lead w r.at r.here)) ∙ deg;
+            is = ap (vectors.vector_of ideal.modulus st.modulus) r.is;
+          }
+
+      pub reducer_inside : IsInIdeal ideal d f
+      reducer_inside = subst (IsInIdeal ideal d) (sym r.is) (lower_inside ideal st d d w vector lower_product)
+
+      pub reducer_there : vector w ≡ K.one
+      reducer_there = lower_one ideal st d d w vector lower_product
+
+      pub reducer_above : (y : List ℕ) → IsLetterwiseGreater y w → vector y ≡ K.zero
+      reducer_above y g = lower_above ideal st d d w y vector lower_product g

@@ -92,7 +92,8 @@ module _ (p : ℕ) (fm : IsFieldModulus p) where
       by_test true = same_residue p _ _ refl
       by_test false = same_residue p _ _ refl
 
-  swapped : (a b c e : Residue p) → K.add (K.add a b) (K.add c e) ≡ K.add (K.add a c) (K.add b e)
+  -- the middle two of four change their places
+  pub swapped : (a b c e : Residue p) → K.add (K.add a b) (K.add c e) ≡ K.add (K.add a c) (K.add b e)
   swapped a b c e = K.add_assoc a b (K.add c e) ∙ ap (K.add a) (add_left_comm K b c e) ∙ sym (K.add_assoc a c (K.add b e))
 
   pub spread-linear : (xs : List (List ℕ)) (a : Residue p) (u v : N) (w : List ℕ) →

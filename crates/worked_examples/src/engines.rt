@@ -57,17 +57,22 @@ fn assert_degree<R: Abort + Threads + Sync, E: DegreeEngine>(
                 "4",
             )
         }
-        Err(
-            EngineFault::Limit {
-                kind,
-                degree,
-                value,
-            },
-        ) => {
-            assert_eq!(rt; (degree, Some((kind, value))), (4, refused));
+        Err(fault) => {
+            assert_refused(rt, fault, refused);
             Ok(())
         }
-        Err(EngineFault::NoMemory) => panic!(rt; "no memory"),
+    }
+}
+
+/// The fault is that this quantity of degree 4 passes its limit.
+pub fn assert_refused(rt: &impl Abort, fault: EngineFault, refused: Option<(LimitKind, u64)>) {
+    match fault {
+        EngineFault::Limit {
+            kind,
+            degree,
+            value,
+        } => assert_eq!(rt; (degree, Some((kind, value))), (4, refused)),
+        EngineFault::NoMemory => panic!(rt; "no memory"),
     }
 }
 

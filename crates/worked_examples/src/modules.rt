@@ -41,13 +41,9 @@ fn assert_module<R: Abort + Threads + Sync>(
 ) -> Result<(), Fail> {
     assert!(rt; 2 <= numbers.len() && numbers.len() <= 65);
     let bound = numbers.len() as u32 - 1;
-    let field = residues(rt, alloc, 101)?;
-    let given = presented(rt, alloc, &field, text)?;
-    assert!(rt; 1 <= gens && gens <= given.alphabet.len());
-    let limits = Limits::standard();
-    let mut engine = PlainEngine::new(limits);
-    let found = module_basis(rt, alloc, &mut engine, &field, &given, gens, bound, &limits)?;
+    let found = module_of(rt, alloc, text, gens, bound, 4_096, 2_097_152)??;
     assert_eq!(rt; found.numbers.as_slice(), numbers, "{text}");
+    let field = residues(rt, alloc, 101)?;
     let wanted = presented(rt, alloc, &field, elements)?;
     let wanted = wanted.relations.as_slice();
     let mut place = 0;

@@ -7,7 +7,7 @@ use std::thread::Threads;
 
 /// The obstructions of a degree over the basis of a text up to another degree are these, by word, left and right
 /// element and what they share, and one less is refused.
-fn assert_overlaps<R: Abort + Threads + Sync>(
+pub fn assert_overlaps<R: Abort + Threads + Sync>(
     rt: &R,
     alloc: Global,
     text: &str,

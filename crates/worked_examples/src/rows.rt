@@ -8,13 +8,15 @@ ghost use Rattle.ideal_laws.specs.Quantities.{AreRows, words_of};
 ghost use Rattle.overlaps.specs.Listed.{AreListed, IsOf, IsRowFor};
 ghost use Rattle.symbolic_prep.specs.Closed.{IsClosed};
 
+use crate::engines::assert_refused;
+use crate::monomials::assert_overlaps;
 use crate::presented::{Algebra, algebra_of, assert_elements, assert_words};
 use crate::problems::assert_rows;
 use field_table::Field;
 use free_poly::Poly;
-use ideal_laws::{Basis, EngineFault, LimitKind, Limits, Presentation, next_degree_law};
+use ideal_laws::{Basis, LimitKind, Limits, Presentation, next_degree_law};
 use lead_index::index_of;
-use overlaps::{Obstruction, OverlapFault, obstruction_rows, obstructions};
+use overlaps::{Obstruction, obstruction_rows, obstructions};
 use row_store::contested_rows;
 use std::alloc::Global;
 use std::process::Abort;
@@ -94,16 +96,6 @@ fn leads_with(f: &Poly, word: &[u8]) -> bool
     }
 }
 
-/// An obstruction is this one, by its word, its left and right element and what they share.
-fn assert_obstruction(rt: &impl Abort, found: &Obstruction, wanted: (&[u8], u32, u32, u32)) {
-    let (word, left, right, shared) = wanted;
-    assert_eq!(rt; found.word.letters(), word);
-    assert_eq!(rt;
-        (found.left, found.right, found.shared),
-        (left, right, shared)
-    );
-}
-
 /// The rows of degree 4 leave x*y^2*x-y^3*x twice at the contested columns, which makes four cells.
 fn assert_cells<R: Abort + Threads + Sync>(
     rt: &R,
@@ -118,7 +110,7 @@ fn assert_cells<R: Abort + Threads + Sync>(
 {
     next_degree_law(&algebra.field, &algebra.given, &algebra.basis, 4);
     assert_eq!(rt; (rows.len(), closed.len()), (2, 4));
-    for (cells, refused) in [(3, Some(4)), (4, None)] {
+    for (cells, refused) in [(3, Some((LimitKind::Cells, 4))), (4, None)] {
         let mut limits = Limits::standard();
         limits.cells = cells;
         match contested_rows(rt, alloc, &algebra.field, closed, rows, 4, &limits) {
@@ -127,17 +119,7 @@ fn assert_cells<R: Abort + Threads + Sync>(
                 assert_eq!(rt; (problem.n, problem.m), (2, 2));
                 assert_rows(rt, alloc, problem.rows.as_slice(), &[&[1, 100], &[1, 100]])?;
             }
-            Err(
-                EngineFault::Limit {
-                    kind,
-                    degree,
-                    value,
-                },
-            ) => {
-                assert!(rt; kind == LimitKind::Cells && degree == 4);
-                assert_eq!(rt; Some(value), refused);
-            }
-            Err(EngineFault::NoMemory) => panic!(rt; "no memory"),
+            Err(fault) => assert_refused(rt, fault, refused),
         }
     }
     Ok(())
@@ -186,16 +168,7 @@ fn assert_closures<R: Abort + Threads + Sync>(
                 assert_tails(rt, &closed);
                 assert_cells(rt, alloc, algebra, rows, &closed)?;
             }
-            Err(
-                EngineFault::Limit {
-                    kind,
-                    degree,
-                    value,
-                },
-            ) => {
-                assert_eq!(rt; (degree, Some((kind, value))), (4, refused));
-            }
-            Err(EngineFault::NoMemory) => panic!(rt; "no memory"),
+            Err(fault) => assert_refused(rt, fault, refused),
         }
     }
     Ok(())
@@ -205,16 +178,14 @@ fn assert_closures<R: Abort + Threads + Sync>(
 #[test]
 fn rows_of_obstructions_close(rt: HostRuntime) -> Result<(), Fail> {
     let alloc = rt.alloc();
-    let algebra = algebra_of(&rt, alloc, "vars x,y; x^2-y*x;", 3)?;
+    let text = "vars x,y; x^2-y*x;";
+    let algebra = algebra_of(&rt, alloc, text, 3)?;
     let basis = &algebra.basis;
+    let first = (&[0, 0, 1, 0][..], 0, 1, 1);
+    let second = (&[0, 1, 0, 0][..], 1, 0, 1);
+    assert_overlaps(&rt, alloc, text, 3, 4, &[first, second])?;
 
-    let refused = obstructions(alloc, basis, 4, 1);
-    assert!(rt; matches!(refused, Err(OverlapFault::TooMany)));
     let found = obstructions(alloc, basis, 4, 2)?;
-    assert_eq!(rt; found.len(), 2);
-    assert_obstruction(&rt, &found[0], (&[0, 0, 1, 0], 0, 1, 1));
-    assert_obstruction(&rt, &found[1], (&[0, 1, 0, 0], 1, 0, 1));
-
     assert!(rt; is_quadratic(&algebra.given));
     let rows = rows_above(
         alloc,

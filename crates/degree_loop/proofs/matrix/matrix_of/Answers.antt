@@ -1,7 +1,6 @@
-use Rattle.std.proofs.Common.{Err, sym, ap, ◌∙◌, arith}
-use Rattle.std.proofs.lemmas.Result.{err_from_is_err_and}
+use Rattle.std.proofs.Common.{Err, ap, arith}
+use Rattle.words.proofs.Faults.{same_fault}
 use Rattle.ideal_laws.specs.Ideal.{ideal_of}
-use Rattle.degree_loop.proofs.Asked.{one_fault}
 use Rattle.degree_loop.proofs.DegreeClosure.{reducer_residues, rows_degree, rows_letters, rows_on_columns, rows_residues}
 use Rattle.degree_loop.proofs.MatrixLimits.{cells_pass, close_passes, few_columns, is_matrix, matrix_within}
 use Rattle.degree_loop.proofs.matrix.matrix_of.Goals as goal
@@ -21,8 +20,8 @@ close-requires-clause-letters g c =
 pub returns-in_err-closed-clause-limit : goal.returns-in_err-closed-clause-limit
 returns-in_err-closed-clause-limit g c = λ kind degree value e.
     let are = rw (← c.as_slice-rows.ensures.value) at c.in_ok-rows.ensures.rows in
-    let p = err_from_is_err_and c.from_residual-in_err-closed.result c.from_residual-in_err-closed.ensures.1 in
-    let h = c.in_err-closed.ensures.limit kind degree value (ap Err (sym p.2 ∙ one_fault c.from_residual-in_err-closed.result _ _ p.1 e)) in (
+    let h = c.in_err-closed.ensures.limit kind degree value
+    (ap Err (same_fault c.from_residual-in_err-closed.result _ _ c.from_residual-in_err-closed.ensures.1 e)) in (
       h.0,
       close_passes (ideal_of c.args.field.now c.args.presentation.now) c.args.below.now c.args.d c.args.limits.now _ are
           c.in_ok-rows.ensures.within kind value h.1,
@@ -59,8 +58,8 @@ pub returns-in_err-problem-clause-limit : goal.returns-in_err-problem-clause-lim
 returns-in_err-problem-clause-limit g c = λ kind degree value e.
     let are = rw (← c.as_slice-rows.ensures.value) at c.in_ok-rows.ensures.rows in
     let closed = c.in_ok-closed.ensures in
-    let p = err_from_is_err_and c.from_residual-in_err-problem.result c.from_residual-in_err-problem.ensures.1 in
-    let h = c.in_err-problem.ensures.limit kind degree value (ap Err (sym p.2 ∙ one_fault c.from_residual-in_err-problem.result _ _ p.1 e)) in (
+    let h = c.in_err-problem.ensures.limit kind degree value
+    (ap Err (same_fault c.from_residual-in_err-problem.result _ _ c.from_residual-in_err-problem.ensures.1 e)) in (
       h.0,
       cells_pass (ideal_of c.args.field.now c.args.presentation.now) c.args.below.now c.args.d c.args.limits.now _ are
           c.in_ok-rows.ensures.within c.in_ok-closed.closed closed.closed closed.within kind value h.1,

@@ -1,7 +1,7 @@
 use Rattle.std.proofs.Common.{◌<◌, ◌∷◌, [], length, length-append, sym, take, ap, ◌∙◌, arith}
 use Rattle.std.proofs.lemmas.List.{length-take-le}
 use Rattle.ideal_laws.specs.Engine.{of_degree}
-use Rattle.degree_loop.proofs.Listing.{count_within, of_degree-left, of_degree-listed}
+use Rattle.degree_loop.proofs.Listing.{length-of_degree, of_degree-left, of_degree-listed}
 use Rattle.degree_loop.proofs.relations.count_of_degree.Goals as goal
 use Rattle.degree_loop.proofs.relations.count_of_degree.Goals.{then-has_degree, else-has_degree}
 
@@ -11,7 +11,7 @@ overflow_add-count c =
     let relations = c.args.presentation.now.relations in
     let i = c.loop-relation.relation-index in
     let lt : i < length relations = omega (arith, c.loop-relation-test.true, ap length c.as_slice-relation-items.ensures) in
-    omega (arith, c.loop-relation.invariant, count_within weights c.args.d relations i, length-take-le i relations, lt, c.args.presentation.now.few)
+    omega (arith, c.loop-relation.invariant, length-of_degree weights c.args.d (take i relations), length-take-le i relations, lt, c.args.presentation.now.few)
 
 pub loop-relation-preserved : goal.loop-relation-preserved
 loop-relation-preserved c =

@@ -1,7 +1,7 @@
 use Rattle.std.proofs.Common.{◌≡◌, ◌+◌, ◌<◌, ◌≤◌, ◌++◌, ℕ, List, All, Err, length, length-append, refl, subst, sym, ap, ◌∙◌, inl, arith}
 use Rattle.std.specs.List.{AllZip}
 use Rattle.std.proofs.lemmas.List.{length-map}
-use Rattle.std.proofs.lemmas.Result.{err_from_is_err_and}
+use Rattle.words.proofs.Faults.{same_fault}
 use Rattle.free_poly.specs.declared.term.Term.{Term}
 use Rattle.ideal_laws.specs.Closure.{AreObstructions}
 use Rattle.ideal_laws.specs.Engine.{of_degree}
@@ -11,13 +11,11 @@ use Rattle.overlaps.specs.declared.obstruction.Obstruction.{Obstruction}
 use Rattle.overlaps.specs.Listed.{AreListed, IsOf, IsRowFor, obstruction_of}
 use Rattle.overlaps.proofs.Rows.{are_rows, each_is}
 use Rattle.std.proofs.lemmas.Slice.Zip.{AllZip-long}
-use Rattle.degree_loop.proofs.Asked.{one_fault}
 use Rattle.degree_loop.proofs.rows.rows_of_degree.Goals as goal
 
 pub returns-in_err-found-clause-limit : goal.returns-in_err-found-clause-limit
 returns-in_err-found-clause-limit c = λ kind degree value e.
-    let p = err_from_is_err_and c.from_residual.result c.from_residual.ensures.1 in
-    let h = c.in_err-found.ensures.limit kind degree value (ap Err (sym p.2 ∙ one_fault c.from_residual.result _ _ p.1 e)) in
+    let h = c.in_err-found.ensures.limit kind degree value (ap Err (same_fault c.from_residual.result _ _ c.from_residual.ensures.1 e)) in
     let listed = subst (λ (ws : List ℕ). AreObstructions ws c.args.below.now.elements c.args.d h.3.0) c.requires.weights h.3.1 in
     let many : c.args.most < length (of_degree c.args.presentation.now.alphabet.weights c.args.d c.args.presentation.now.relations) + length
     h.3.0 = omega (arith, h.3.2, c.count_of_degree-given.ensures) in (

@@ -16,11 +16,11 @@ loop-word-preserved g c =
     let first = c.args.gathered.now.rows.items in
     let new = c.add_word.new.gathered.rows.items in
     let f = word_rows c.args.columns.now c.args.relation.now in
-    let rows = f c.letters.result.now in
+    let rows = f c.letters-word.result.now in
     let front = flat_map f (take i words) in
     let more : front ++ rows ≡ flat_map f (take (i + 1) words) =
     sym (flat_map-take f words i c.word-item.result c.loop-word-test.true c.word-item.is
-    ∙ ap (λ (w : List ℕ). front ++ f w) (sym c.letters.ensures)) in
+    ∙ ap (λ (w : List ℕ). front ++ f w) (sym c.letters-word.ensures)) in
     record {
       gathered = c.in_ok-add_word.ensures.gathered;
       span = subst (λ (xs : List (List ℕ)). HaveOneSpan c.args.field.now (first ++ xs) new) more

@@ -1,6 +1,5 @@
-use Rattle.std.proofs.Common.{◌≡◌, ◌+◌, ◌-◌, ◌++◌, ◌∷◌, List, [], ℕ, arith, drop, length, map, subst, sym, take}
+use Rattle.std.proofs.Common.{◌≡◌, ◌+◌, ◌++◌, ◌∷◌, List, [], ℕ, arith, drop, map, subst, sym, take}
 use Rattle.std.specs.List.{range_with_len}
-use Rattle.std.proofs.lemmas.List.{length-drop, take_all}
 use Rattle.std.proofs.lemmas.List.FromFn.{map-range_with_len_more}
 use Rattle.free_poly.specs.Terms.{product}
 use Rattle.plain_engine.specs.Products.{coefficients}
@@ -19,15 +18,12 @@ loop-at-preserved g c =
     let new = c.add_product.new.gathered.rows.items in
     let f = λ (k : ℕ). coefficients c.args.columns.now (product (take k word) c.args.relation.now (drop k word)) in
     let front = map f (range_with_len 0 at) in
-    let behind : take (length word - at) (drop at word) ≡ drop at word = take_all (length word - at) (drop at word) (omega (arith, length-drop at word)) in
     let more : front ++ f at ∷ [] ≡ map f (range_with_len 0 (at + 1)) = sym (map-range_with_len_more f 0 at at (omega arith)) in
     record {
       gathered = c.in_ok-add_product.ensures.gathered;
       span = subst (λ (rows : List (List ℕ)). HaveOneSpan c.args.field.now (first ++ rows) new) more
           (one_span-joined c.args.field.now first front c.loop-at.gathered.rows.items (f at ∷ []) new c.loop-at.invariant.span
-          (subst (λ (v : List ℕ). HaveOneSpan c.args.field.now
-          (c.loop-at.gathered.rows.items ++ coefficients c.args.columns.now (product (take at word) c.args.relation.now v) ∷ []) new) behind
-          c.in_ok-add_product.ensures.span));
+          (rw (c.split_at.ensures.front, c.split_at.ensures.back) at c.in_ok-add_product.ensures.span));
     }
 
 pub returns-clause-span : goal.returns-clause-span
