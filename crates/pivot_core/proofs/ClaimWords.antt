@@ -1,5 +1,6 @@
 -- What a claim word says.
-use Rattle.std.proofs.Common.{◌≡◌, ◌≢◌, ◌+◌, ◌*◌, ◌/◌, ◌%◌, ◌<◌, ◌≤◌, ◌^◌, ◌-◌, ℕ, inl, inr, ap, ◌∙◌, arith, Some, None, Option, refl, sym, ◌==◌, Bool, true, false, ltb}
+use Rattle.std.proofs.Common.{◌≡◌, ◌≢◌, ◌+◌, ◌*◌, ◌/◌, ◌%◌, ◌<◌, ◌≤◌, ◌^◌, ◌-◌, ℕ, inl, inr, ap, ◌∙◌, arith, Some, None, Option}
+use Rattle.std.proofs.Common.{refl, sym, ◌==◌, Bool, true, false, ltb}
 use Rattle.std.specs.Prelude.{if◌then◌else◌}
 use Rattle.std.proofs.lemmas.Bool.{cond-true, cond-false, cond_both, lt-ltb, le-ltb, ne_eqb, eqb-false}
 use Rattle.std.proofs.lemmas.Option.{none-some, same_Some}

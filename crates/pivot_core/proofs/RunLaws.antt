@@ -15,7 +15,8 @@ use Rattle.pivot_core.specs.declared.view.Phase.TheVariants as phase
 use Rattle.pivot_core.specs.declared.event.Event.{Event}
 use Rattle.pivot_core.specs.Words.{counter}
 use Rattle.pivot_core.specs.Views.{fresh}
-use Rattle.pivot_core.specs.Runs.{HasEnded, IsHeld, State, after_event, after_events, claim_at, holders, opening, state_after, values, view_at, word_at, published_at}
+use Rattle.pivot_core.specs.Runs.{HasEnded, IsHeld, State, after_event, after_events, claim_at, holders, opening, state_after}
+use Rattle.pivot_core.specs.Runs.{published_at, values, view_at, word_at}
 use Rattle.pivot_core.specs.Phases.{HasRow, is_ended}
 use Rattle.pivot_core.specs.Claimed.{ClaimedPivots}
 use Rattle.pivot_core.specs.Laws.{HeldRowsArePivots, HeldRowsStay, IsSetting}

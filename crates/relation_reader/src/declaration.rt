@@ -47,7 +47,8 @@ impl Listing {
         ensures { IfOk result (λ over. (ls : List Lexeme) →
             listed self.old.names self.old.weights self.old.weight
             (lexeme_of token.mark (span text.now token.start token.end) ∷ ls)
-            ≡ (if over then record { letters = record { names = self.new.names; weights = self.new.weights }; rest = ls }
+            ≡ (if over
+            then record { letters = record { names = self.new.names; weights = self.new.weights }; rest = ls }
             else listed self.new.names self.new.weights self.new.weight ls)) }
     {
         match token.mark {
