@@ -14,14 +14,17 @@ over closed f = record { entries = map (entry_of closed.columns) f }
 reducers_size : (p n : ℕ) (closed : ClosedColumns) → AreColumnLists p n (reducers_over closed) → length closed.reducers ≡ n
 reducers_size p n closed h = sym (length-map closed.reducers (reducer_over closed.columns)) ∙ h.size
 
+-- a column with a reducer has it as entries
 pub found : (p n : ℕ) (closed : ClosedColumns) (at : ℕ) (f : List Term) → AreColumnLists p n (reducers_over closed) → at < n →
     get_or closed.reducers at None ≡ Some f → reducer_at (reducers_over closed) at ≡ Some (over closed f)
 found p n closed at f h lt is = reducer_some closed at f (omega (arith, lt, reducers_size p n closed h)) is
 
+-- a column without a reducer has none as entries
 pub absent : (p n : ℕ) (closed : ClosedColumns) (at : ℕ) → AreColumnLists p n (reducers_over closed) → at < n →
     get_or closed.reducers at None ≡ None → reducer_at (reducers_over closed) at ≡ None
 absent p n closed at h lt is = reducer_none closed at (omega (arith, lt, reducers_size p n closed h)) is
 
+-- the entries of the reducer of a column begin with 1 at this column
 pub list_at : (p n : ℕ) (closed : ClosedColumns) (at : ℕ) (f : List Term) → AreColumnLists p n (reducers_over closed) → at < n →
     get_or closed.reducers at None ≡ Some f → IsColumnList p n at (map (entry_of closed.columns) f)
 list_at p n closed at f h lt is = h.each at (over closed f) lt (found p n closed at f h lt is)

@@ -23,6 +23,7 @@ sum_lanes r (suc n) (a ∷ s) (b ∷ f) ls lf room =
     ap₂ (λ (x : ℕ) (xs : List ℕ). x ∷ xs) sum
     (sum_lanes r n s f (omega (arith, ls)) (omega (arith, lf)) (λ i lt. room (suc i) (omega (arith, lt))))
 
+-- a multiple is added in eight lanes, where nothing wraps
 pub added_lanes : (r : ℕ) (s f : List ℕ) → length s ≡ 8 → length f ≡ 8 → ((i : ℕ) → i < 8 → get_or s i 0 + get_or f i 0 * r < 2 ^ 64) →
     zip2 (λ a b. (a + b) % 2 ^ 64) s (zip2 (λ a b. (a * b) % 2 ^ 64) (map (λ x. x) f) (r ∷ r ∷ r ∷ r ∷ r ∷ r ∷ r ∷ r ∷ []))
     ≡ zip2 (λ a b. a + b * r) s f
@@ -48,11 +49,13 @@ module _ (p n i : ℕ) (es : List Entry) (e : Entry) (h : AreEntries p n es) (wi
       ∙ ap (λ (r : ℕ). get_or start (at + j) 0 + get_or f j 0 * r) (seen_none p n i es e h within is)
       ∙ ap (λ (r : ℕ). get_or start (at + j) 0 + r) (mul-zero (get_or f j 0)) ∙ add-zero (get_or start (at + j) 0)
 
+  -- its multiples can be added within 64 bits
   pub lanes_fit : ((k j : ℕ) → j < 8 → get_or start (k * 8 + j) 0 + get_or f j 0 * residue_at es k < 2 ^ 64) → (j : ℕ) → j < 8 →
       get_or own j 0 + get_or f j 0 * e.residue < 2 ^ 64
   lanes_fit fit j low = subst (λ (s : ℕ). s + get_or f j 0 * e.residue < 2 ^ 64) (sym (own_start j low))
       (subst (λ (r : ℕ). get_or start (at + j) 0 + get_or f j 0 * r < 2 ^ 64) (seen_whole p n i es e h within is) (fit e.column j low))
 
+  -- the sums are the start and the multiples of one more entry
   pub lanes_more : (v : List ℕ) → v ≡ zip2 (λ s g. s + g * e.residue) own f → (k j : ℕ) → j < 8 →
       get_or (put_chunk at sums v) (k * 8 + j) 0 ≡ get_or start (k * 8 + j) 0 + get_or f j 0 * residue_at (take (i + 1) es) k
   lanes_more v sum k j low = elim (cases_eq k e.column) [
@@ -115,12 +118,14 @@ module _ (p : ℕ) (s v : List ℕ) (small : p < 2 ^ 31) (size : length s ≡ 8)
   some : x ≢ 0 → get_or v i 0 ≡ p - x
   some more = at_lane ∙ sym (cond_below (p - x) p (p - x) (p - x - p) (omega (arith, more, below)))
 
+  -- the opposite is a residue
   pub opposite_below : get_or v i 0 < p
   opposite_below = elim (cases_eq x 0) [
     | inl nought ↦ omega (arith, none nought, below)
     | inr more ↦ omega (arith, some more, more, below)
   ]
 
+  -- a residue and its opposite have the sum 0
   pub opposite_sum : (x + get_or v i 0) % p ≡ 0
   opposite_sum = elim (cases_eq x 0) [
     | inl nought ↦ ap (λ (y : ℕ). y % p) (omega (arith, none nought, nought)) ∙ mod-eq_of_lt (omega (arith, below))
@@ -129,9 +134,11 @@ module _ (p : ℕ) (s v : List ℕ) (small : p < 2 ^ 31) (size : length s ≡ 8)
 
 -- a column's sums are changed
 module _ (at : ℕ) (sums v : List ℕ) (room : at * 8 + 8 ≤ length sums) (eight : length v ≡ 8) where
+  -- the sums of this column are the new ones
   pub column_at : (i : ℕ) → i < 8 → get_or (put_chunk (at * 8) sums v) (at * 8 + i) 0 ≡ get_or v i 0
   column_at i low = get_or-put_chunk_at (at * 8) sums v i 0 (omega (arith, low, eight)) (omega (arith, eight, room))
 
+  -- those of other columns stay
   pub column_other : (k i : ℕ) → i < 8 → k ≢ at → get_or (put_chunk (at * 8) sums v) (k * 8 + i) 0 ≡ get_or sums (k * 8 + i) 0
   column_other k i low other = elim (cases_lt k at) [
     | inl less ↦ get_or-put_chunk_below (at * 8) sums v (k * 8 + i) 0 (omega (arith, less, low))

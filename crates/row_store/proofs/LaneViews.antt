@@ -5,12 +5,14 @@ use Rattle.std.proofs.lemmas.List.{ext_get_or, get_or-replicate, get_or-set_othe
 use Rattle.std.proofs.lemmas.List.FromFn.{get_or-map-range_with_len, length-map-range_with_len}
 use Rattle.row_store.specs.Blocks.{lane}
 
+-- a lane has an eighth of the sums
 pub length-lane : (sums : List ℕ) (i : ℕ) → length (lane sums i) ≡ length sums / 8
 length-lane sums i = length-map-range_with_len (λ k. get_or sums (k * 8 + i) 0) 0 (length sums / 8)
 
 lane_at : (sums : List ℕ) (i k : ℕ) → k < length sums / 8 → get_or (lane sums i) k 0 ≡ get_or sums (k * 8 + i) 0
 lane_at sums i k low = get_or-map-range_with_len (λ k. get_or sums (k * 8 + i) 0) 0 (length sums / 8) k k 0 low (omega arith)
 
+-- the sum of a lane at a column, and 0 past the last
 pub get_or-lane : (sums : List ℕ) (i k : ℕ) → length sums ≡ length sums / 8 * 8 → get_or (lane sums i) k 0 ≡ get_or sums (k * 8 + i) 0
 get_or-lane sums i k whole = elim (cases_lt k (length sums / 8)) [
   | inl low ↦ lane_at sums i k low
@@ -34,11 +36,13 @@ lane-set sums next at i v long lt others own =
 
 -- the sum of one lane at one column is written
 module _ (sums : List ℕ) (at i v : ℕ) (whole : length sums ≡ length sums / 8 * 8) (lt : at < length sums / 8) (low : i < 8) where
+  -- the lane has it at this column
   pub write-own : lane (set sums (at * 8 + i) v) i ≡ set (lane sums i) at v
   write-own = lane-set sums (set sums (at * 8 + i) v) at i v (length-set sums (at * 8 + i) v) lt
       (λ k other. get_or-set_other sums (at * 8 + i) (k * 8 + i) v 0 (λ same. other (omega (arith, same))))
       (get_or-set_same sums (at * 8 + i) v 0 (omega (arith, whole, lt, low)))
 
+  -- the other lanes stay
   pub write-other : (j : ℕ) → j < 8 → j ≢ i → lane (set sums (at * 8 + i) v) j ≡ lane sums j
   write-other j less apart =
       let long : length (set sums (at * 8 + i) v) / 8 ≡ length sums / 8 = ap (λ (n : ℕ). n / 8) (length-set sums (at * 8 + i) v) in

@@ -20,9 +20,11 @@ one_of (l ∷ left) long = l
 module _ (sums first second : List ℕ) (at i a : ℕ) (tail : ℕ → ℕ) (whole : length sums ≡ length sums / 8 * 8) (long : length first ≡ length sums)
     (lt : at < length sums / 8) (gone : get_or first (at * 8 + i) 0 ≡ 0)
     (others : (k : ℕ) → k ≢ at → get_or first (k * 8 + i) 0 ≡ get_or sums (k * 8 + i) 0) where
+  -- the sum of a row at the column is taken out
   pub lane_taken : lane first i ≡ set (lane sums i) at 0
   lane_taken = lane-set sums first at i 0 long lt others gone
 
+  -- a multiple of the tail is added to what is left of the row
   pub lane_added : length second ≡ length first → ((k : ℕ) → get_or second (k * 8 + i) 0 ≡ get_or first (k * 8 + i) 0 + a * tail k)
       → (k : ℕ) → get_or (lane second i) k 0 ≡ get_or (set (lane sums i) at 0) k 0 + a * tail k
   lane_added same added k =
@@ -50,15 +52,18 @@ module _ (p : ℕ) (rs : List (Option Reducer)) (starts : ℕ → List ℕ) (pos
     long : (i : ℕ) → i < 8 → length (starts i) ≡ length sums / 8
     long i low = sym (h.each i (one_of left h.count) low).long ∙ length-lane sums i
 
+    -- each of the eight rows is left at its places
     pub lanes_end : length rs ≡ length sums / 8 → (i : ℕ) (d : Left) → i < 8 → IsLeft p rs (starts i) (get_or left i d)
     lanes_end size i d low = walk_end p rs (starts i) positive at (lane sums i) bits (get_or left i d) (size ∙ sym (long i low))
         (omega (arith, past, long i low)) (h.each i d low)
 
+    -- no column is marked
     pub lanes_marks : (k : ℕ) → mark_at bits k ≡ 0
     lanes_marks k =
         let d = one_of left h.count in
         walk_marks p rs (starts 0) positive at (lane sums 0) bits (get_or left 0 d) (omega (arith, past, long 0 (omega arith))) (h.each 0 d (omega arith)) k
 
+    -- every sum is 0
     pub lanes_zeros : All (λ s. s ≡ 0) sums
     lanes_zeros k d lt =
         let i = k % 8 in

@@ -38,6 +38,7 @@ module _ (p : ℕ) (closed : ClosedColumns) (reducing : IsReducing p closed) whe
   lists n long = subst (λ (n : ℕ). AreColumnLists p n (reducers_over closed)) (sym long)
       (column_lists columns reducing.falling p (reducers_over closed) closed.reducers reducing.reducers (reducers_are p closed reducing))
 
+  -- what a row leaves is its row of the problem
   pub left_row : IsFieldModulus p → (row : List Term) (left : Left) (words : List (List ℕ)) → IsOnColumns closed.columns row
       → words ≡ contested_words closed.columns closed.reducers → IsLeft p (reducers_over closed) (dense_of closed.columns row) left
       → IsContestedRow p closed.columns closed.reducers row (cells_of (length words) left)

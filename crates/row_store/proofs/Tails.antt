@@ -24,11 +24,13 @@ tail_sizes columns (n ∷ ns) [] ts h = absurd h
 tail_sizes columns (n ∷ ns) (r ∷ rs) [] h = absurd h
 tail_sizes columns (n ∷ ns) (r ∷ rs) (t ∷ ts) h = ap suc (tail_sizes columns ns rs ts h.2)
 
+-- as many entries as columns
 pub entries_size : (ns rs : List ℕ) → length ns ≡ length rs → length (entries_on ns rs) ≡ length ns
 entries_size [] rs same = refl
 entries_size (n ∷ ns) [] same = absurd (omega (arith, same))
 entries_size (n ∷ ns) (r ∷ rs) same = ap suc (entries_size ns rs (omega (arith, same)))
 
+-- each entry has its column and its residue
 pub entry_at : (i : ℕ) (ns rs : List ℕ) (d : Entry) → i < length ns → length ns ≡ length rs →
     get_or (entries_on ns rs) i d ≡ record { column = get_or ns i 0; residue = get_or rs i 0 }
 entry_at i [] rs d lt same = absurd (omega (arith, lt))
@@ -90,13 +92,16 @@ module _ (columns : List (List ℕ)) (falling : AllPairs IsLetterwiseGreater col
   tail_same [] ns rs h = tail_map ns rs [] h
   tail_same (t ∷ f) ns rs h = tail_map ns rs f h
 
+-- each column has its reducer as entries, or none where it has none
 pub reducers_are : (p : ℕ) (closed : ClosedColumns) → IsReducing p closed → AllZip (IsReducerOf closed.columns) (reducers_over closed) closed.reducers
 reducers_are p closed h = reducers_zip closed.columns h.falling p closed.columns closed.reducers h.reducers
 
+-- a column with a reducer has its terms as entries
 pub reducer_some : (closed : ClosedColumns) (k : ℕ) (f : List Term) → k < length closed.reducers → get_or closed.reducers k None ≡ Some f →
     reducer_at (reducers_over closed) k ≡ Some (record { entries = map (entry_of closed.columns) f })
 reducer_some closed k f lt is = get_or-map (reducer_over closed.columns) closed.reducers k None None lt ∙ ap (reducer_over closed.columns) is
 
+-- a column without a reducer has no entries
 pub reducer_none : (closed : ClosedColumns) (k : ℕ) → k < length closed.reducers → get_or closed.reducers k None ≡ None →
     reducer_at (reducers_over closed) k ≡ None
 reducer_none closed k lt is = get_or-map (reducer_over closed.columns) closed.reducers k None None lt ∙ ap (reducer_over closed.columns) is

@@ -48,6 +48,7 @@ module _ (p : ℕ) (rs : List (Option Reducer)) (start : List ℕ) (positive : 0
       (λ _. ap (λ (l : List ℕ). get_or l j 0) written ∙ get_or-set_same cells j x 0 inside ∙ is_x)
       (λ i other. ap (λ (l : List ℕ). get_or l i 0) written ∙ get_or-set_other cells j i x 0 (other none)) gone
 
+  -- the walk goes on behind the column, with its residue kept
   pub walk_left : (place : ℕ) → place ≡ j → IsKept place x left next → IsWalked p rs start (at + 1) (set sums at 0) after next
   walk_left place is kept = elim (cases_eq x 0) [
     | inl nought ↦ stays nought (kept.none nought)

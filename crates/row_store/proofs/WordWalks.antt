@@ -54,6 +54,7 @@ module _ {S : Type 0} {Before : S → Type 0} {At : S → ℕ → Type 0} (k ste
       subst (At s) end (on.3 s before)
 
   module _ (some : get_or bits k 0 ≢ 0) (fits : get_or bits k 0 < 2 ^ 64) where
+    -- the first marked column of the word
     abbrev pub next : ℕ
     next = k * 64 + trailing_zeros w64 (get_or bits k 0)
 
