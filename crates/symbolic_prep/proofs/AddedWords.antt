@@ -11,6 +11,7 @@ use Rattle.symbolic_prep.proofs.Sets.{first_of, more_widely}
 
 module _ (old so_far new : List (List ℕ)) (read : PackedWord → List ℕ) (ps : List PackedWord) (i : ℕ) (p : PackedWord) (lt : i < length ps)
     (word : List ℕ) (is : word ≡ read (get_or ps i p)) (h : IsGrown old so_far (map read (take i ps))) (one : IsGrown so_far new (word ∷ [])) where
+  -- one more word is added
   pub add_more : IsGrown old new (map read (take (i + 1) ps))
   add_more = grown_more old so_far new (map read (take i ps)) (map read (take (i + 1) ps)) word h one
       (ap (map read) (take_more ps i p lt) ∙ map-append read (take i ps) (get_or ps i p ∷ [])

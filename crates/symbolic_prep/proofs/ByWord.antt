@@ -30,9 +30,11 @@ slice_get-last xs x = slice_get-get_or (xs ++ x ∷ []) (length xs) x (omega (ar
 
 -- the numbers stand behind all others
 module _ (columns : List (List ℕ)) (n m : List ℕ) (f : List Term) (h : AreListed columns n m f) where
+  -- the numbers are those that were there with more behind them
   pub listed_longer : IsLonger n m
   listed_longer = record { more = h.ns; joined = h.numbers_are }
 
+  -- the terms stand at their span
   pub listed_stands : (r q : List (List ℕ)) → q ≡ r ++ residues_of f ∷ [] → (s : Span) → length n ≡ s.start → length m ≡ s.end →
       length r ≡ s.element → StandsAt columns m q s f
   listed_stands r q pushed s starts ends is = record {
@@ -76,6 +78,7 @@ on_columns G words columns are cs reducers among zipped i d within = here cs red
     here (w ∷ ws) (o ∷ os) zero d a z lt = own w o (All-head (Contains columns) w ws a) z.0
     here (w ∷ ws) (o ∷ os) (suc i) d a z lt = here ws os i d (All-tail (Contains columns) w ws a) z.1 (omega (arith, lt))
 
+-- the words of each reducer of a closure are columns
 pub closure_on_columns : (G : List (List Term)) (words columns : List (List ℕ)) (reducers : List (Option (List Term))) →
     AreColumns G words columns → AllZip (HasReducer G) columns reducers → All (IsOnColumns columns) reducers
 closure_on_columns G words columns reducers are zipped = on_columns G words columns are columns reducers

@@ -82,6 +82,7 @@ module _ (bits room : ℕ) (keys : List ℕ) (t : IsTable bits room keys) (pairs
         subst (IsLetterwiseGreater (get_or (map word sorted) i d)) (sym (get_or-map word sorted j 0 d inside))
         (subst (λ (x : List ℕ). IsLetterwiseGreater x (word b)) (sym (get_or-map word sorted i 0 d low)) falls)
 
+    -- the keys in rising order are a table whose words fall
     pub packed_words : ArePackedWords bits room (map (λ p. p.0) pairs)
     packed_words = record {
       table = record { packing = t.packing; each = keys_each; apart = λ i j d before within same. omega (arith, same, keys_rise i j d before within) };
@@ -89,6 +90,7 @@ module _ (bits room : ℕ) (keys : List ℕ) (t : IsTable bits room keys) (pairs
       falling = words_fall;
     }
 
+  -- the words of the sorted keys are the words of the table in another order
   pub words_in_order : (order columns : List ℕ) (columns_words : List (List ℕ)) → order ≡ map (λ p. p.1) pairs →
       columns ≡ map (λ p. p.0) pairs → columns_words ≡ map (unpacked (2 ^ bits) room) columns →
       IsOrder (map (unpacked (2 ^ bits) room) keys) order columns_words

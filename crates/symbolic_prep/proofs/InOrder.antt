@@ -57,15 +57,19 @@ spans_long G given_words words from limit spans n entries walk =
     walk.size ∙ AllZip-length (HasReducer G) words walk.reducers all.1
 
 module _ (words : List (List ℕ)) (order : List ℕ) (columns : List (List ℕ)) (h : IsOrder words order columns) where
+  -- as many numbers as words
   pub order_long : length order ≡ length words
   order_long = length_permutation (range_with_len 0 (length words)) order h.numbers ∙ length-range_with_len 0 (length words)
 
+  -- as many columns as words
   pub columns_long : length columns ≡ length words
   columns_long = h.size ∙ order_long
 
+  -- each number is that of a word
   pub order_below : All (λ n. n < length words) order
   order_below = All-permutation (λ n. n < length words) (range_with_len 0 (length words)) order h.numbers (numbers_below (length words))
 
+  -- no number comes twice
   pub order_apart : AllPairs (λ a b. a ≢ b) order
   order_apart = apart-permutation (range_with_len 0 (length words)) order h.numbers (numbers_apart (length words))
 
@@ -74,6 +78,7 @@ module _ (words : List (List ℕ)) (order : List ℕ) (columns : List (List ℕ)
 
   -- where places are the columns of the numbers
   module _ (places : List ℕ) (placed : (c : ℕ) → c < length order → get_or places (get_or order c 0) 0 ≡ c) where
+    -- a word stands at the column that its number has
     pub moved : (n : ℕ) (w : List ℕ) → slice_get words n ≡ Some w → slice_get columns (get_or places n 0) ≡ Some w
     moved n w at =
         let m = order_has n (slice_get_within words n w at) in
@@ -151,6 +156,7 @@ module _ (words : List (List ℕ)) (order : List ℕ) (columns : List (List ℕ)
         (k.0, slice_get_within columns k.0 w at, get_or_from_slice_get columns k.0 w w at);
   }
 
+  -- a walk over all its words, put in falling order, is the closure
   pub listed_in_order : (G : List (List Term)) (given_words : List (List ℕ)) (from limit : ℕ) (spans : List (Option Span)) (n : List ℕ)
       (entries : ℕ) → IsNumberWalk G given_words words (length words) from limit spans n entries
       → AllPairs IsLetterwiseGreater columns → (places : List ℕ) → ((c : ℕ) → c < length order → get_or places (get_or order c 0) 0 ≡ c) →

@@ -26,6 +26,7 @@ module _ {X Y : Type 0} (R : X → Y → Type 0) where
   AllZip-from (x ∷ xs) [] same h = absurd (omega (arith, same))
   AllZip-from (x ∷ xs) (y ∷ ys) same h = (h zero x y refl refl, AllZip-from xs ys (omega (arith, same)) (λ n u v at here. h (suc n) u v at here))
 
+-- the words of a closure with their reducers, put in falling order, are its columns with theirs
 pub closed_listing : (G : List (List Term)) (given_words words columns : List (List ℕ))
     (reducers columns_reducers : List (Option (List Term))) → ((w : List ℕ) → Contains words w ↔ IsInClosure G given_words w) →
     AllZip (HasReducer G) words reducers

@@ -30,6 +30,7 @@ module _ (words new wanted : List (List ℕ)) (n m : List ℕ) (r q : List (List
         (AreTerms-more words g.more h.ns (residues_of f) f h.are_terms);
   }
 
+  -- the reducers of the spans stand in the longer lists too
   pub spans-more : (spans : List (Option Span)) (rs : List (Option (List Term))) → AllZip (IsSpanOf words n r) spans rs →
       AllZip (IsSpanOf new m q) spans rs
   spans-more [] [] z = tt
@@ -40,6 +41,7 @@ module _ (words new wanted : List (List ℕ)) (n m : List ℕ) (r q : List (List
   spans-more (Some s ∷ spans) (None ∷ rs) z = absurd z.0
   spans-more (Some s ∷ spans) (Some f ∷ rs) z = (stands-more s f z.0, spans-more spans rs z.1)
 
+-- before the walk no word has its reducer yet
 pub number_walk_none : (G : List (List Term)) (words : List (List ℕ)) (from limit : ℕ) (spans : List (Option Span))
     (numbers : List ℕ) → AllPairs (λ v w. v ≢ w) words → from ≤ limit + 1 → spans ≡ [] → numbers ≡ []
     → IsNumberWalk G words words 0 from limit spans numbers from
@@ -55,6 +57,7 @@ number_walk_none G words from limit spans numbers apart le none no_numbers = rec
 module _ (b : Elements) (kept : IsKept b) (forms : All IsPolynomial b.elements) (d : ℕ) (leads : List Lead) (index : IsIndex leads)
     (indexed : IsIndexOf b.elements leads)
     (given_words : List (List ℕ)) (are_words : (x : List ℕ) → Contains given_words x → IsWord b kept forms d x) where
+  -- the next word with its reducer is one more step of the walk
   pub number_walk_more : (words new : List (List ℕ)) (next from limit : ℕ) (spans more_spans : List (Option Span)) (n m : List ℕ)
       (entries more : ℕ) (w : List ℕ) (span : Option Span)
       → IsNumberWalk b.elements given_words words next from limit spans n entries → next < length words → w ≡ get_or words next w

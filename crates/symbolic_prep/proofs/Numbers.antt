@@ -54,12 +54,15 @@ module _ (b : Elements) (kept : IsKept b) (forms : All IsPolynomial b.elements) 
     in_closure : IsInClosure G given_words w
     in_closure = h.sound w own
 
+    -- it is a word of the degree
     pub numbered_word : IsWord b kept forms d w
     numbered_word = stays b kept forms d given_words are_words w in_closure
 
+    -- the words that its reducer brings are in the closure
     pub tail_sound : (v : List ℕ) → Contains (tail_words o) v → IsInClosure G given_words v
     tail_sound v m = (tail_brought b kept forms d leads index indexed given_words w numbered_word in_closure o is v m).0
 
+    -- with the words that its reducer brings it is done
     pub numbered_more : (new : List (List ℕ)) → IsGrown words new (tail_words o) → IsNumbered G given_words new (next + 1) (rs ++ o ∷ [])
     numbered_more new g = record {
       within = omega (arith, lt, ap length g.joined, length-append words g.more);
@@ -150,6 +153,7 @@ terms_on-is words (n ∷ ns) (r ∷ rs) (t ∷ ts) h =
 pub grown_none : (words : List (List ℕ)) → AllPairs (λ v w. v ≢ w) words → IsGrown words words []
 grown_none words apart = record { more = []; joined = sym (append-nil words); from = λ w m. m; all = λ w m. absurd (Contains-none w m); apart = apart }
 
+-- one more word is added, if it is not there
 pub grown_more : (old so_far new wanted all_wanted : List (List ℕ)) (w : List ℕ) → IsGrown old so_far wanted → IsGrown so_far new (w ∷ []) →
     all_wanted ≡ wanted ++ w ∷ [] → IsGrown old new all_wanted
 grown_more old so_far new wanted all_wanted w g k e = record {
@@ -166,6 +170,7 @@ grown_more old so_far new wanted all_wanted w g k e = record {
   apart = k.apart;
 }
 
+-- where there are too many, too many were there or wanted
 pub grown_many : (old new wanted : List (List ℕ)) (room : ℕ) → IsGrown old new wanted → room < length new →
     HasMore room (λ w. Contains old w ⊎ Contains wanted w)
 grown_many old new wanted room g more = record {
@@ -188,9 +193,11 @@ AreTerms-push words (m ∷ ns) [] ts n r t h at is = absurd h
 AreTerms-push words (m ∷ ns) (q ∷ rs) [] n r t h at is = absurd h
 AreTerms-push words (m ∷ ns) (q ∷ rs) (u ∷ ts) n r t h at is = (h.0, h.1, AreTerms-push words ns rs ts n r t h.2 at is)
 
+-- no term is listed yet
 pub listed_none : (words : List (List ℕ)) (numbers : List ℕ) → AreListed words numbers numbers []
 listed_none words numbers = record { ns = []; numbers_are = sym (append-nil numbers); are_terms = tt }
 
+-- one more term is listed, by the number of its word
 pub listed_push : (words : List (List ℕ)) (numbers mid more : List ℕ) (ts all_terms : List Term) (n : ℕ) (t : Term) →
     AreListed words numbers mid ts → slice_get words n ≡ Some t.word → more ≡ mid ++ n ∷ [] → all_terms ≡ ts ++ t ∷ [] →
     AreListed words numbers more all_terms

@@ -31,9 +31,11 @@ use Rattle.symbolic_prep.proofs.Stays.{words_of_reducer}
 
 -- words with one before and one behind each, one after another
 module _ (bits room : ℕ) (before : List ℕ) (words : List PackedWord) (rest : List ℕ) (old : List PackedWord) where
+  -- no word is there yet
   pub multiple_none : HasMultiple bits room before (take 0 words) rest old old
   multiple_none = record { more = []; joined = sym (append-nil old); letters = refl }
 
+  -- one more word with the two around it
   pub multiple_more : (i : ℕ) (p q : PackedWord) (so_far new : List PackedWord) → HasMultiple bits room before (take i words) rest old so_far →
       i < length words → letters_in bits room q ≡ before ++ letters_in bits room (get_or words i p) ++ rest → new ≡ so_far ++ q ∷ [] →
       HasMultiple bits room before (take (i + 1) words) rest old new
@@ -81,6 +83,7 @@ module _ (b : Elements) (kept : IsKept b) (forms : All IsPolynomial b.elements) 
     tail_packed : ArePacked bits room (below_lead (get_or b.elements element [])) qs
     tail_packed = subst (ArePacked bits room (below_lead f)) (sym tail_is) (packed_tail bits room f ps packed)
 
+    -- the words behind the leading one are packed words
     pub tail_each : All (IsPackedWord bits room) qs
     tail_each = tail_packed.each
 

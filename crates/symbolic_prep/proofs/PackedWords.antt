@@ -74,9 +74,11 @@ module _ (bits room : ℕ) where
       joined_is bits room (letters_in bits room u) (letters_in bits room t) (letters_in bits room v) (omega (arith, fits, h.len, k.len, l.len)),
     )
 
+    -- their keys, moved behind each other, add up within 64 bits
     pub sum_fits : u.key + second + third < 2 ^ 64
     sum_fits = omega (arith, sum_is, packed_fits bits room three whole over_three (omega (arith, long_three, fits)))
 
+    -- this sum is the key of their product
     pub joined_as : (q : PackedWord) → q.key ≡ u.key + second + third → q.len ≡ u.len + t.len + v.len →
         IsPackedAs bits room (letters_in bits room u ++ letters_in bits room t ++ letters_in bits room v) q
     joined_as q key len = packed_as three q over_three (omega (arith, long_three, fits)) (key ∙ sum_is) (len ∙ sym long_three)
@@ -89,13 +91,16 @@ module _ (bits room : ℕ) where
     own_key = subst (λ (v : Table). IsKey v.bits v.room p.key) (sym view_is)
         (record { word = letters_in view.bits view.room p; over = h.over; fits = h.fits; is = h.key })
 
+    -- it is a table
     pub added_table : IsTable bits room new
     added_table = table_more bits room keys t p.key own_key new made
 
+    -- its words are those that were there and the word
     pub added_grown : IsGrown view.words (map (unpacked (2 ^ bits) room) new) (letters_in view.bits view.room p ∷ [])
     added_grown = subst (λ (v : Table). IsGrown v.words (map (unpacked (2 ^ bits) room) new) (letters_in v.bits v.room p ∷ [])) view_is
         (table_grown bits room keys t p.key own_key new made)
 
+    -- the place of the key is the place of the word
     pub added_number : (n x : ℕ) → slice_get new n ≡ Some x → nat_eq p.key x ≡ true →
         slice_get (map (unpacked (2 ^ bits) room) new) n ≡ Some (letters_in view.bits view.room p)
     added_number n x at same = subst (λ (v : Table). slice_get (map (unpacked (2 ^ bits) room) new) n ≡ Some (letters_in v.bits v.room p)) view_is
@@ -109,9 +114,11 @@ module _ (bits room : ℕ) where
   first_len-is (t ∷ f) (p ∷ ps) h = let same : letters_in bits room p ≡ t.word = ap (λ (ws : List (List ℕ)). get_or ws 0 []) h.words in
       (h.each 0 p (omega arith)).len ∙ ap length same
 
+  -- as many packed words as terms
   pub length-packed : (f : List Term) (ps : List PackedWord) → ArePacked bits room f ps → length ps ≡ length f
   length-packed f ps h = sym (length-map ps (letters_in bits room)) ∙ ap length h.words ∙ length-map f (λ (t : Term). t.word)
 
+  -- the packed words behind the first are those of the terms below the leading one
   pub packed_tail : (f : List Term) (ps : List PackedWord) → ArePacked bits room f ps → ArePacked bits room (below_lead f) (drop 1 ps)
   packed_tail [] [] h = h
   packed_tail [] (p ∷ ps) h = absurd (omega (arith, ap length h.words))
@@ -155,6 +162,7 @@ module _ (bits room : ℕ) (keys : List ℕ) (t : IsTable bits room keys) (view 
   is_key : IsKey bits room (get_or keys n 0)
   is_key = t.each n 0 key_within
 
+  -- its key is below the power
   pub key_fits : get_or keys n 0 < (2 ^ bits) ^ room
   key_fits = key_below bits room (get_or keys n 0) is_key
 
@@ -164,9 +172,11 @@ module _ (bits room : ℕ) (keys : List ℕ) (t : IsTable bits room keys) (view 
   letters_fit : length (unpacked (2 ^ bits) room (get_or keys n 0)) ≤ room
   letters_fit = omega (arith, is_key.fits, ap length word_is)
 
+  -- it has at most 64 letters
   pub letters_small : length (unpacked (2 ^ bits) room (get_or keys n 0)) ≤ 64
   letters_small = omega (arith, letters_fit, t.packing.whole, mul-le 1 room bits room (omega (arith, t.packing.some)) (omega arith))
 
+  -- its key with the count of its letters is the word, packed
   pub key_as : (p : PackedWord) → p.key ≡ get_or keys n 0 → p.len ≡ length (unpacked (2 ^ bits) room (get_or keys n 0)) →
       IsPackedAs view.bits view.room (unpacked (2 ^ bits) room (get_or keys n 0)) p
   key_as p key len = subst (λ (v : Table). IsPackedAs v.bits v.room (unpacked (2 ^ bits) room (get_or keys n 0)) p) view_is

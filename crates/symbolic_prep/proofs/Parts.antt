@@ -14,6 +14,7 @@ module _ {X : Type 0} (xs part : List X) (start end : ℕ) where
       ∙ ap (λ ys. take (length part) (drop (length h.before) ys)) (h.joined ∙ append_assoc h.before part h.behind)
       ∙ ap (take (length part)) (drop-append_seam h.before (part ++ h.behind)) ∙ take-append_seam part h.behind
 
+  -- the part ends within the list
   pub part_within : IsPart xs part start end → end ≤ length xs
   part_within h = omega (
     arith,

@@ -23,15 +23,18 @@ use Rattle.symbolic_prep.proofs.Keys.{three_long}
 use Rattle.symbolic_prep.proofs.Parts.{part_last}
 use Rattle.symbolic_prep.proofs.Stays.{words_of_reducer}
 
+-- a word over so many letters has digits where the letters have
 pub digits_of : (names bits : ℕ) (w : List ℕ) → names < 2 ^ bits → IsOver names w → HasDigits bits w
 digits_of names bits w few over k d lt = omega (arith, few, over k d lt)
 
+-- a word keeps its number where more words come behind
 pub slice_get-more : (words more : List (List ℕ)) (n : ℕ) (w : List ℕ) → slice_get words n ≡ Some w → slice_get (words ++ more) n ≡ Some w
 slice_get-more words more n w h =
     let lt = slice_get_within words n w h in
     slice_get-get_or (words ++ more) n [] (omega (arith, lt, length-append words more))
     ∙ ap Some (get_or_append_left words more [] n lt ∙ get_or_from_slice_get words n w [] h)
 
+-- the numbers of terms are those of words
 pub AreTerms-below : (words : List (List ℕ)) (ns rs : List ℕ) (ts : List Term) → AreTerms words ns rs ts → All (λ n. n < length words) ns
 AreTerms-below words [] [] [] h = All-nil (λ n. n < length words)
 AreTerms-below words [] [] (t ∷ ts) h = absurd h
@@ -41,6 +44,7 @@ AreTerms-below words (n ∷ ns) (r ∷ rs) [] h = absurd h
 AreTerms-below words (n ∷ ns) (r ∷ rs) (t ∷ ts) h = All-cons (λ n. n < length words) n ns (slice_get_within words n t.word h.0)
     (AreTerms-below words ns rs ts h.2)
 
+-- as many numbers as coefficients
 pub AreTerms-length : (words : List (List ℕ)) (ns rs : List ℕ) (ts : List Term) → AreTerms words ns rs ts → length ns ≡ length rs
 AreTerms-length words [] [] [] h = refl
 AreTerms-length words [] [] (t ∷ ts) h = absurd h
@@ -54,6 +58,7 @@ pub residues_of-product : (u v : List ℕ) (f : List Term) → residues_of (prod
 residues_of-product u v [] = refl
 residues_of-product u v (t ∷ f) = ap (λ (rs : List ℕ). t.coefficient ∷ rs) (residues_of-product u v f)
 
+-- the words of a multiple but for the leading one are those of the multiple of the tail
 pub tail_product : (u v : List ℕ) (f : List Term) → map (λ t. t.word) (product u (below_lead f) v) ≡ tail_words (Some (product u f v))
 tail_product u v [] = refl
 tail_product u v (t ∷ f) = refl
@@ -89,6 +94,7 @@ module _ (G : List (List Term)) (w : List ℕ) (f : List Term) (lead : lead_of f
   own_terms [] h are = cc h
   own_terms (t ∷ g) h are = (own ∙ sym h, refl, are)
 
+  -- the reducer stands at its span
   pub stands_at : (s : Span) → length n0 ≡ s.start → length n2 ≡ s.end → slice_get (map residues_of G) s.element ≡ Some (residues_of f) →
       StandsAt new n2 (map residues_of G) s f
   stands_at s starts ends place = record {
@@ -98,6 +104,7 @@ module _ (G : List (List Term)) (w : List ℕ) (f : List Term) (lead : lead_of f
     are_terms = own_terms f lead listed.are_terms;
   }
 
+  -- the numbers are those that were there with more behind them
   pub longer_by : IsLonger n0 n2
   longer_by = record { more = number ∷ listed.ns; joined = numbers }
 
@@ -110,6 +117,7 @@ module _ (G : List (List Term)) (w : List ℕ) (f : List Term) (lead : lead_of f
       (All-cons (λ n. n < length new) number listed.ns (omega (arith, slice_get_within old number w at, more))
       (AreTerms-below new listed.ns (residues_of (below_lead f)) (below_lead f) listed.are_terms)))
 
+-- a list is itself with nothing behind it
 pub longer_none : {X : Type 0} (xs : List X) → IsLonger xs xs
 longer_none xs = record { more = []; joined = sym (append-nil xs) }
 
@@ -119,6 +127,7 @@ pub tail_in_closure : (G : List (List Term)) (given_words : List (List ℕ)) (w 
 tail_in_closure G given_words w [] q i x m = absurd (Contains-none x m)
 tail_in_closure G given_words w (t ∷ f) q i x m = brought w x (t ∷ f) i q (Contains-more t.word (map (λ (s : Term). s.word) f) x m)
 
+-- a word with a number is among the words
 pub numbered_own : (words : List (List ℕ)) (n : ℕ) (w : List ℕ) → slice_get words n ≡ Some w → Contains words w
 numbered_own words n w at = (n, slice_get_within words n w at, get_or_from_slice_get words n w w at)
 

@@ -25,6 +25,7 @@ module _ (G : List (List Term)) (bits room : ℕ) where
     pub words : map (letters_in bits room) (slice_range tails s.start s.end) ≡ map (λ t. t.word) (below_lead reducer)
     pub count : length (slice_range tails s.start s.end) + 1 ≡ length reducer
 
+  -- a word with a span has a reducer that stands there
   pub has_own : (tails : List PackedWord) (w : List ℕ) (span : Option Span) (s : Span) → span ≡ Some s → HasTail G bits room tails w span → HasOwn tails w s
   has_own tails w span s e h = by_reducer h.reducer h.is (subst (λ (o : Option Span). IsTailOf G bits room tails w o h.reducer) e h.tail)
     where

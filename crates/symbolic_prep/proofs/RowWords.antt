@@ -45,9 +45,11 @@ row_words rows i row f bits room b r ps qs lt is same fits packed same_words e g
 
 -- the words of rows of a degree have digits and room, where the letters and the degree have
 module _ (weights : List ℕ) (are : AreWeights weights) (d bits room : ℕ) (rows : List (List Term)) where
+  -- their letters have digits
   pub rows_digits : length weights < 2 ^ bits → All (UsesLetters (length weights)) rows → All (All (λ t. HasDigits bits t.word)) rows
   rows_digits lt letters i e within k s inside = digits_of (length weights) bits (get_or (get_or rows i e) k s).word lt (letters i e within k s inside)
 
+  -- their words have room
   pub rows_room : d ≤ room → All (HasDegree weights d) rows → All (All (λ t. length t.word ≤ room)) rows
   rows_room le degree i e within k s inside = omega (
     arith,
@@ -63,12 +65,15 @@ module _ (b : Elements) (kept : IsKept b) (forms : All IsPolynomial b.elements) 
 
   -- words that are those of the rows
   module _ (words : List (List ℕ)) (same : (w : List ℕ) → Contains words w ↔ Contains (words_of rows) w) where
+    -- each is over the letters and has the degree
     pub given_word : (w : List ℕ) → Contains words w → IsOver (length b.weights) w × (degree_of b.weights w ≡ d)
     given_word w m = row_word w ((same w).0 m)
 
+    -- the same of all of them
     pub given_words : All (λ w. IsOver (length b.weights) w × (degree_of b.weights w ≡ d)) words
     given_words = All-from_members (λ w. IsOver (length b.weights) w × (degree_of b.weights w ≡ d)) words given_word
 
+    -- where their closure has more columns, that of the rows has
     pub more_than : (most : ℕ) → HasMoreColumns b.elements words most → HasMoreColumns b.elements (words_of rows) most
     more_than most all = (all.0, same_columns b.elements words (words_of rows) all.0 same all.1, all.2)
 
