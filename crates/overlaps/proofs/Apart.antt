@@ -19,6 +19,7 @@ use Rattle.overlaps.specs.Walk.{all_blocks, block, blocks, lead_word, meets, ove
 use Rattle.overlaps.proofs.Exactly.{Obs, complete, factor_free, leads_of, of_block, rest_of, sound}
 use Rattle.overlaps.proofs.Ordered.{IsOrdered, order}
 
+-- the order of overlaps is transitive
 pub before_trans : (o q r : Overlap) → OverlapsBefore o q → OverlapsBefore q r → OverlapsBefore o r
 before_trans o q r (inl g) (inl h) = inl (letterwise-trans (overlap_word o) (overlap_word q) (overlap_word r) g h)
 before_trans o q r (inl g) (inr e) = inl (subst (IsLetterwiseGreater (overlap_word o)) e.0 g)
@@ -142,14 +143,17 @@ module _ (b : Elements) (kept : IsKept b) (free : IsFactorFree b.elements) (d : 
     ]
   ]
 
+  -- of each two overlaps of the walk one comes before the other
   pub all_compare : AllPairs Compares (all_blocks b.weights G d)
   all_compare = λ i j e before within.
       let is : All Is (all_blocks b.weights G d) = All-from_members Is (all_blocks b.weights G d) (sound b kept free d) in
       compares _ _ (is i e (omega (arith, before, within))) (is j e within) (all_apart i j e before within)
 
+  -- the overlaps of the walk, in order
   pub in_order : IsOrdered OverlapsBefore before_trans (all_blocks b.weights G d)
   in_order = order OverlapsBefore before_trans (all_blocks b.weights G d) all_compare
 
+  -- they are the obstructions of degree d
   pub are_obstructions : AreObstructions b.weights G d in_order.list
   are_obstructions = record {
     exactly = λ o. (λ m. sound b kept free d o (in_order.says o m), λ h. in_order.has o (complete b kept free d o h));

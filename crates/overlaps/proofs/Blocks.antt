@@ -31,6 +31,7 @@ module _ (weights : List ℕ) (G : List (List Term)) (left before rest : ℕ) wh
   abbrev pub block_upto : ℕ → List Overlap
   block_upto right = filter (meets weights G rest) (map (overlap_at G left before) (range_with_len 0 right))
 
+  -- a right element of another degree does not meet
   pub meets-other : (right : ℕ) → degree_of weights (lead_word G right) ≢ rest → met right ≡ false
   meets-other right ne = elim (cases_Bool (met right)) [
     | inr fails ↦ fails
@@ -41,15 +42,18 @@ module _ (weights : List ℕ) (G : List (List Term)) (left before rest : ℕ) wh
       by_front true e = rw e (not_eqb (degree_of weights (lead_word G right)) rest ne)
       by_front false e = rw e refl
 
+  -- nor does one whose leading word begins otherwise
   pub meets-apart : (right : ℕ) → (take (length shared) (lead_word G right) ≡ shared → ⊥) → met right ≡ false
   meets-apart right ne = elim (cases_Bool (bytes_eq (take (length shared) (lead_word G right)) shared)) [
     | inl is ↦ absurd (ne ((bytes_eq-Decides (take (length shared) (lead_word G right)) shared).0 is))
     | inr other ↦ rw other refl
   ]
 
+  -- one of the degree that begins with what is shared does
   pub meets-both : (right : ℕ) → take (length shared) (lead_word G right) ≡ shared → degree_of weights (lead_word G right) ≡ rest → met right ≡ true
   meets-both right e f = rw ((bytes_eq-Decides (take (length shared) (lead_word G right)) shared).1 e) (eq-eqb (degree_of weights (lead_word G right)) rest f)
 
+  -- and no other one does
   pub meets-says : (right : ℕ) → met right ≡ true → (take (length shared) (lead_word G right) ≡ shared) × (degree_of weights (lead_word G right) ≡ rest)
   meets-says right e = by_tests (bytes_eq (take (length shared) (lead_word G right)) shared) refl (degree_of weights (lead_word G right) == rest) refl
     where
@@ -62,16 +66,19 @@ module _ (weights : List ℕ) (G : List (List Term)) (left before rest : ℕ) wh
       by_tests false f b g = absurd (let h : false ≡ true = rw f at e in cc h)
       by_tests true f false g = absurd (let h : (true && false) ≡ true = sym (λ i. f i && g i) ∙ e in cc h)
 
+  -- a place that does not meet adds nothing
   pub block_upto-none : (right : ℕ) → met right ≡ false → block_upto (right + 1) ≡ block_upto right
   block_upto-none right e =
       filter_of_map_range_with_len_more (meets weights G rest) (overlap_at G left before) 0 right right (omega arith)
       ∙ ap (λ (b : Bool). block_upto right ++ cond b (at right ∷ []) []) e ∙ append-nil (block_upto right)
 
+  -- one that meets adds its overlap at the end
   pub block_upto-one : (right : ℕ) → met right ≡ true → block_upto (right + 1) ≡ block_upto right ++ at right ∷ []
   block_upto-one right e =
       filter_of_map_range_with_len_more (meets weights G rest) (overlap_at G left before) 0 right right (omega arith)
       ∙ ap (λ (b : Bool). block_upto right ++ cond b (at right ∷ []) []) e
 
+  -- with more places the list is no shorter
   pub block_upto-longer : (n right : ℕ) → length (block_upto right) ≤ length (block_upto (right + n))
   block_upto-longer zero right = omega (arith, ap (λ (k : ℕ). length (block_upto k)) (let z : right + 0 ≡ right = omega arith in z))
   block_upto-longer (suc n) right =
@@ -93,6 +100,7 @@ module _ (weights : List ℕ) (G : List (List Term)) (left before rest : ℕ) wh
       ∙ block_upto-none (right + n) (none (right + n) (omega arith) (omega arith))
       ∙ block_upto-skip n right (λ k from under. none k from (omega (arith, under)))
 
+  -- the same up to a place that is given
   pub block_upto-same : (right end : ℕ) → right ≤ end → ((k : ℕ) → right ≤ k → k < end → met k ≡ false) → block_upto end ≡ block_upto right
   block_upto-same right end le none =
       let whole : right + (end - right) ≡ end = omega (arith, le) in
@@ -144,6 +152,7 @@ module _ (b : Elements) (kept : IsKept b) (left before rest first end : ℕ) (is
         ])
       ]
 
+  -- a right element of the degree that begins with what is shared adds its overlap
   pub upto_met : (right : ℕ) → first ≤ right → right < end → take (length c) (lead_word b.elements right) ≡ c →
       upto (right + 1) ≡ upto right ++ overlap_at b.elements left before right ∷ []
   upto_met right from under e =

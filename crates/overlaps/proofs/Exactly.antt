@@ -44,6 +44,7 @@ module _ {X : Type 0} (p : X → Bool) where
       ]
       by_test false f n rest = let r = rest n in (Contains-more y xs x r.0, r.1)
 
+-- a word other than the empty one has a letter
 pub some-longer : (w : List ℕ) → w ≢ [] → 0 < length w
 some-longer [] h = absurd (h refl)
 some-longer (x ∷ w) h = omega arith
@@ -67,9 +68,11 @@ module _ (b : Elements) (kept : IsKept b) (free : IsFactorFree b.elements) where
       (lead_at i li) (lead_at j lj) f
 
   module _ (d : ℕ) where
+    -- an overlap that is an obstruction of degree d
     abbrev pub Obs : Overlap → Type 0
     Obs o = IsObstruction b.weights G d o.left o.right o.before o.shared o.behind
 
+    -- the degree that is left for the right element, behind so many letters of the left one
     abbrev pub rest_of : ℕ → ℕ → ℕ
     rest_of left before = d - degree_of b.weights (take before (lead_word G left))
 
@@ -116,6 +119,7 @@ module _ (b : Elements) (kept : IsKept b) (free : IsFactorFree b.elements) where
       pub begins : take (length (shared_at G left before)) (lead_word G right) ≡ shared_at G left before
       pub degree : degree_of b.weights (lead_word G right) ≡ rest_of left before
 
+    -- an overlap of a block comes from a right element that meets
     pub of_block : (left before : ℕ) (o : Overlap) → Contains (block b.weights G left before (rest_of left before)) o → IsFrom left before o
     of_block left before o m =
         let f = filter-says (meets b.weights G (rest_of left before)) (map (overlap_at G left before) (range_with_len 0 (length G))) o m in
@@ -123,6 +127,7 @@ module _ (b : Elements) (kept : IsKept b) (free : IsFactorFree b.elements) where
         let says = meets-says b.weights G left before (rest_of left before) r.0 (ap (meets b.weights G (rest_of left before)) r.2 ∙ f.1) in
         record { right = r.0; within = omega (arith, (range-bounds 0 (length G) r.0 r.1).1); is = r.2; begins = says.0; degree = says.1 }
 
+    -- each overlap of the walk is an obstruction of degree d
     pub sound : (o : Overlap) → Contains (all_blocks b.weights G d) o → Obs o
     sound o m =
         let l = Contains-flat_map_cases (blocks b.weights G d) (range_with_len 0 (length G)) o m in
@@ -139,6 +144,7 @@ module _ (b : Elements) (kept : IsKept b) (free : IsFactorFree b.elements) where
       pub left_lead : lead_word G o.left ≡ o.before ++ o.shared
       pub right_lead : lead_word G o.right ≡ o.shared ++ o.behind
 
+    -- the parts of an obstruction make up the leading words of its two elements
     pub leads_of : (o : Overlap) → Obs o → HasLeads o
     leads_of o h = record {
       left_within = slice_get_within G o.left h.first h.at_left;
@@ -147,6 +153,7 @@ module _ (b : Elements) (kept : IsKept b) (free : IsFactorFree b.elements) where
       right_lead = ap lead_or_none (get_or_from_slice_get G o.right h.second [] h.at_right) ∙ lead-is h.second (o.shared ++ o.behind) h.second_lead;
     }
 
+    -- each obstruction of degree d is in the walk
     pub complete : (o : Overlap) → Obs o → Contains (all_blocks b.weights G d) o
     complete o h =
         let l = leads_of o h in

@@ -56,5 +56,6 @@ rest-all xs at = take_all (length xs - at) (drop at xs) (omega (arith, length-dr
 pub begins_as : (u c w v : List ℕ) → u ≡ c → w ≡ v → OccursAt u w 0 → take (length c) v ≡ c
 begins_as u c w v is same o = (subst (λ (x : List ℕ). OccursAt x v 0) is (subst (λ (x : List ℕ). OccursAt u x 0) same o)).same
 
+-- and the other way round
 pub occurs_as : (u c w v : List ℕ) → u ≡ c → w ≡ v → take (length c) v ≡ c → OccursAt u w 0
 occurs_as u c w v is same e = subst (λ (x : List ℕ). OccursAt x w 0) (sym is) (subst (λ (x : List ℕ). OccursAt c x 0) (sym same) (occurs_in_front c v e))

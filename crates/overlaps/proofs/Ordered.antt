@@ -68,6 +68,7 @@ module _ {X : Type 0} (R : X → X → Type 0) (trans : (x y z : X) → R x y �
     pub has : (z : X) → Contains xs z → Contains list z
     pub ordered : AllPairs R list
 
+  -- a list of which each two members compare can be put in order
   pub order : (xs : List X) → AllPairs Compares xs → IsOrdered xs
   order [] h = record { list = []; size = refl; says = λ z m. m; has = λ z m. m; ordered = AllPairs-nil R }
   order (x ∷ xs) h =

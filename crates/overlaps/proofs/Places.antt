@@ -56,14 +56,17 @@ module _ {X : Type 0} (key : X → ℕ) where
     | inl under ↦ key_from d xs i e (AllPairs-rest (λ y z. key y ≤ key z) x xs up) (omega (arith, lt)) (omega (arith, le, below-more d x xs under))
   ]
 
+-- the leading degree of a polynomial is the degree of its leading word
 pub lead_degree-is : (weights : List ℕ) (f : List Term) → lead_degree weights f ≡ degree_of weights (lead_or_none f)
 lead_degree-is weights [] = refl
 lead_degree-is weights (t ∷ f) = refl
 
+-- where a polynomial has a leading word, lead_or_none gives it
 pub lead-is : (f : List Term) (w : List ℕ) → lead_of f ≡ Some w → lead_or_none f ≡ w
 lead-is [] w e = cc e
 lead-is (t ∷ f) w e = cc e
 
+-- a monic polynomial has a leading word
 pub monic-lead : (f : List Term) → IsMonic f → lead_of f ≡ Some (lead_or_none f)
 monic-lead [] m = absurd m
 monic-lead (t ∷ f) m = refl
@@ -72,6 +75,7 @@ module _ (b : Elements) (kept : IsKept b) where
   abbrev G : List (List Term)
   G = b.elements
 
+  -- at each place of the list stands a kept element
   pub element_kept : (i : ℕ) → i < length G → IsKeptElement b.weights b.done (get_or G i [])
   element_kept i lt = kept.each i [] lt
 
@@ -82,6 +86,7 @@ module _ (b : Elements) (kept : IsKept b) where
       let e = lead_degree-is b.weights (get_or G i []) in
       (omega (arith, e, h.from), omega (arith, e, h.upto, kept.degrees))
 
+  -- so its leading word has at most 64 letters
   pub lead_word-small : (i : ℕ) → i < length G → length (lead_word G i) ≤ 64
   lead_word-small i lt = omega (arith, length-le-degree_of b.weights kept.weights (lead_word G i), (lead_word-bounds i lt).1)
 
@@ -98,9 +103,11 @@ module _ (b : Elements) (kept : IsKept b) where
       let high = key_before (lead_degree b.weights) (suc d) G i [] rises (omega (arith, under, below-suc (lead_degree b.weights) d G)) in
       omega (arith, low, high, lead_degree-is b.weights (get_or G i []))
 
+  -- an element before the places of degree d has a lower degree
   pub before_degree : (d i : ℕ) → i < length G → i < count_below b.weights d G → degree_of b.weights (lead_word G i) < d
   before_degree d i within under = omega (arith, key_before (lead_degree b.weights) d G i [] rises under, lead_degree-is b.weights (get_or G i []))
 
+  -- one behind them has a greater degree
   pub behind_degree : (d i : ℕ) → i < length G → count_upto b.weights d G ≤ i → d < degree_of b.weights (lead_word G i)
   behind_degree d i within from =
       omega (

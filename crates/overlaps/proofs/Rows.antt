@@ -22,6 +22,7 @@ use Rattle.overlaps.specs.Listed.{AreListed, IsOf, IsRowFor, obstruction_of}
 use Rattle.overlaps.specs.Walk.{lead_word}
 use Rattle.overlaps.proofs.Places.{element_kept, lead-is}
 
+-- what follows from three facts holds of an answer of which the three hold
 pub IfOk-three : {T E : Type 0} (P Q R S : T → Type 0) → ((f : T) → P f → Q f → R f → S f) → (r : Result T E) → IfOk r P → IfOk r Q → IfOk r R → IfOk r S
 IfOk-three P Q R S h (Ok f) p q r = h f p q r
 IfOk-three P Q R S h (Err e) p q r = tt
@@ -38,9 +39,11 @@ module _ (b : Elements) (kept : IsKept b) where
       (HasOneDegree-from b.weights (lead_degree b.weights (get_or G i [])) (get_or G i []) (element_kept b kept i lt).degree))
 
   module _ (x : Obstruction) (of : IsOf b.weights G x) where
+    -- the left element of an obstruction is in the list
     pub left_within : x.left < length G
     left_within = omega (arith, slice_get_within G of.overlap.left of.obstruction.first of.obstruction.at_left, ap (λ (y : Obstruction). y.left) of.shown)
 
+    -- and so is the right one
     pub right_within : x.right < length G
     right_within = omega (arith, slice_get_within G of.overlap.right of.obstruction.second of.obstruction.at_right, ap (λ (y : Obstruction). y.right) of.shown)
 
@@ -51,6 +54,7 @@ module _ (b : Elements) (kept : IsKept b) where
     pub before : take (length (lead_word G x.left) - x.shared) x.word ≡ o.before
     pub behind : drop (length (lead_word G x.left)) x.word ≡ o.behind
 
+  -- an obstruction that shows an overlap is made of its parts
   pub parts : (x : Obstruction) (d : ℕ) (o : Overlap) → x ≡ obstruction_of o →
       (h : IsObstruction b.weights G d o.left o.right o.before o.shared o.behind) → HasParts x d o h
   parts x d o shown h =

@@ -22,6 +22,7 @@ use Rattle.overlaps.specs.Walk.{all_blocks, found_cmp}
 use Rattle.overlaps.proofs.Strict.{strictly, tied_both}
 use Rattle.overlaps.proofs.Apart.{all_compare, are_obstructions, in_order}
 
+-- the order of a list of obstructions is total
 pub found_total : IsTotalOrder found_cmp
 found_total = then_total (on_total (λ (o : Obstruction). o.word) (back_total letterwise_total)) (on_total (λ (o : Obstruction). o.left) nat_cmp_total)
 

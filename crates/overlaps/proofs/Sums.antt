@@ -20,10 +20,12 @@ module _ {X : Type 0} (f : ℕ → List X) (a : ℕ) where
   abbrev joined : ℕ → List X
   joined n = flat_map f (range_with_len a n)
 
+  -- one more number adds its list at the end
   pub joined-more : (n : ℕ) → joined (n + 1) ≡ joined n ++ f (a + n)
   joined-more n = ap (flat_map f) (range-more a n) ∙ flat_map-append f (range_with_len a n) ((a + n) ∷ [])
       ∙ ap (λ (r : List X). joined n ++ r) (append-nil (f (a + n)))
 
+  -- with more numbers the joined list is no shorter
   pub joined-longer : (more n : ℕ) → length (joined n) ≤ length (joined (n + more))
   joined-longer zero n = omega (arith, ap (λ (k : ℕ). length (joined k)) (let z : n + 0 ≡ n = omega arith in z))
   joined-longer (suc more) n =
