@@ -86,6 +86,7 @@ module _ (ideal : Ideal) (st : IsSetting ideal) (d : ℕ) where
               (combined_words (λ w. degree_of ideal.weights w ≡ d) triple_degree t.factors places));
         }
 
+    -- the factors of a tracked row stand at places of the triples
     pub places_of : (t : Row) → IsTracked ideal.modulus fs f t → HasPlaces (length all) t.factors
     places_of t tracked = subst (λ (n : ℕ). HasPlaces n t.factors) (length-map all (triple_terms ideal.relations)) tracked.places
 

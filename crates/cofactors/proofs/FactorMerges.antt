@@ -166,6 +166,7 @@ module _ (p a : ℕ) (f g made : List Factor) where
     second_left = IsLeft-rest p made y second x.place c m.second_left same;
   }
 
+-- where nothing has been made yet, the two lists are left whole
 pub Merges-none : (p a : ℕ) (f g : List Factor) → AreFactors p f → AreFactors p g → Merges p a f g [] f g
 Merges-none p a f g hf hg = record {
   sum = λ v. ap (λ (n : ℕ). (n + a * valued v g) % p) (zero-add (valued v f));
@@ -198,6 +199,7 @@ abbrev pub first_of : List Factor → Factor
 first_of f = get_or f 0 (record { place = 0; residue = 0 })
 
 module _ (p a : ℕ) (f g made : List Factor) where
+  -- where the first list has the lower place, its first factor is made
   pub step_first : (first second : List Factor) → 0 < length first + length second → firsts_cmp first second ≡ Less
       → Merges p a f g made first second → Merges p a f g (made ++ factor_at (first_of first).place (first_of first).residue) (after_first first) second
   step_first [] [] some e m = absurd (omega (arith, some))
@@ -207,6 +209,7 @@ module _ (p a : ℕ) (f g made : List Factor) where
       let lt : t.place < u.place = ranked t.place u.place Less (sym e) in
       rw after_first-cons (Merges-first p a f g made t first (u ∷ second) m (before_first p t.place u second m.second_left.are lt))
 
+  -- where the second list has the lower place, a times its first factor is made
   pub step_second : (first second : List Factor) (c : ℕ) → 0 < p → firsts_cmp first second ≡ Greater → c ≡ (a * (first_of second).residue) % p
       → Merges p a f g made first second → Merges p a f g (made ++ factor_at (first_of second).place c) first (after_first second)
   step_second first [] c some e value m = cc e
@@ -215,6 +218,7 @@ module _ (p a : ℕ) (f g made : List Factor) where
       let lt : u.place < t.place = ranked t.place u.place Greater (sym e) in
       rw after_first-cons (Merges-second p a f g made u c (t ∷ first) second some value m (before_first p u.place t first m.first_left.are lt))
 
+  -- where both have one place, the first factor and a times the second one are made one
   pub step_both : (first second : List Factor) (c : ℕ) → 0 < p → firsts_cmp first second ≡ Equal →
       c ≡ ((first_of first).residue + (a * (first_of second).residue) % p) % p
       → Merges p a f g made first second → Merges p a f g (made ++ factor_at (first_of first).place c) (after_first first) (after_first second)

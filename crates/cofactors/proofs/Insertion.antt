@@ -20,6 +20,7 @@ module _ {X : Type 0} where
     ]
   ]
 
+  -- what was in the list is in it still
   pub Contains-insert_kept : (xs : List X) (i : ℕ) (x y : X) → Contains xs y → Contains (insert xs i x) y
   Contains-insert_kept xs i x y m = elim (Contains-append_cases (take i xs) (drop i xs) y
       (subst (λ (zs : List X). Contains zs y) (sym (take-append-drop i xs)) m)) [
@@ -27,9 +28,11 @@ module _ {X : Type 0} where
         | inr n ↦ Contains-append_right (take i xs) (x ∷ drop i xs) y (Contains-more x (drop i xs) y n)
       ]
 
+  -- the item that is inserted is in the list
   pub Contains-insert_here : (xs : List X) (i : ℕ) (x : X) → Contains (insert xs i x) x
   Contains-insert_here xs i x = Contains-append_right (take i xs) (x ∷ drop i xs) x (Contains-first x (drop i xs))
 
+  -- what holds of all items and of the new one holds of all of the new list
   pub All-insert : (P : X → Type 0) (xs : List X) (i : ℕ) (x : X) → All P xs → P x → All P (insert xs i x)
   All-insert P xs i x h p = All-from_members P (insert xs i x) (λ y m. elim (Contains-insert_cases xs i x y m) [
     | inl is ↦ subst P is p
@@ -54,6 +57,7 @@ module _ {X : Type 0} where
       after_first : (y : X) → Contains (pre ++ post) y → R z y
       after_first y m = All-contains (R z) (pre ++ post) y (AllPairs-first R z (pre ++ post) f) m
 
+  -- pairs stay in order where the new item fits behind those before its place and before the others
   pub AllPairs-insert : (R : X → X → Type 0) (xs : List X) (i : ℕ) (x : X) → AllPairs R xs → All (λ y. R y x) (take i xs) →
       All (R x) (drop i xs) → AllPairs R (insert xs i x)
   AllPairs-insert R xs i x f before behind =

@@ -47,6 +47,7 @@ module _ (p : ℕ) (relations : List (List Term)) (qs : List Product) where
   abbrev at : Factor → Product
   at f = get_or qs f.place (triple 0 [] [])
 
+  -- the element at the place of a factor is the product of the triple there
   pub element_at : (f : Factor) → f.place < length qs → get_or fs f.place [] ≡ triple_terms relations (at f)
   element_at f within = get_or-map (triple_terms relations) qs f.place (triple 0 [] []) [] within
 

@@ -127,6 +127,7 @@ module _ (ideal : Ideal) (st : IsSetting ideal) (d : ℕ) where
     abbrev left : Vd
     left w = Kd.add (v w) (Kd.neg (s w))
 
+    -- the same as a polynomial
     abbrev pub normal_form : List Term
     normal_form = element_from ideal fm st d left
 
@@ -160,6 +161,7 @@ module _ (ideal : Ideal) (st : IsSetting ideal) (d : ℕ) where
         let zero : left x ≡ Kd.zero = ap (λ (n : Residue ideal.modulus). Kd.add (v x) (Kd.neg n)) same ∙ Kd.add_neg (v x) in
         some (ap (λ (n : Residue ideal.modulus). n.0) zero ∙ zero-mod ideal.modulus))
 
+    -- it is a normal form of f
     pub is_normal_form : IsNormalForm ideal d f normal_form
     is_normal_form = record {
       element = element_form ideal fm st d left;
@@ -246,6 +248,7 @@ module _ (ideal : Ideal) (st : IsSetting ideal) (d : ℕ) where
     sum = λ w. n.sum w ∙ ap (λ (g : List Term). total_at (g ++ flat_map terms_of n.multiples) w % ideal.modulus) e;
   }
 
+-- each element has exactly one normal form
 pub has_normal_form : HasNormalForm
 has_normal_form ideal st d f ef = record {
   value = normal_form ideal st d f ef;
@@ -253,6 +256,7 @@ has_normal_form ideal st d f ef = record {
   only = λ t h. same_forms ideal st d f t _ h (is_normal_form ideal st d f ef);
 }
 
+-- an element is in the ideal exactly where its normal form is 0
 pub tells_members : TellsMembers
 tells_members ideal st d f t ef n = (
   λ i. same_forms ideal st d f t [] n

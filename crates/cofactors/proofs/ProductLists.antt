@@ -62,12 +62,14 @@ module _ (p : ℕ) (fm : IsFieldModulus p) (relations : List (List Term)) where
   abbrev of : ℕ → Residue p
   of n = vectors.of p fm n
 
+  -- the product of a triple, without its coefficient
   abbrev pub core : Product → List Term
   core q = triple_terms relations q
 
   abbrev zeros : List Product → List ℕ
   zeros qs = map (λ q. 0) qs
 
+  -- a weighted sum is its first triple times the first coefficient, and the rest
   pub weighted-first : (c : ℕ) (cs : List ℕ) (q : Product) (qs : List Product) (w : List ℕ) →
       vec (weighted relations (c ∷ cs) (q ∷ qs)) w ≡ K.add (K.mul (of c) (vec (core q) w)) (vec (weighted relations cs qs) w)
   weighted-first c cs q qs w = vector_of-append p fm (scaled c (core q)) (weighted relations cs qs) w
@@ -105,6 +107,7 @@ module _ (p : ℕ) (fm : IsFieldModulus p) (relations : List (List Term)) where
   abbrev with_coefficient : ℕ → Product → Product
   with_coefficient c q = record { coefficient = c; left = q.left; relation = q.relation; right = q.right }
 
+  -- each triple with its coefficient, but for those whose coefficient is 0
   abbrev pub listed_products : List ℕ → List Product → List Product
   listed_products [] qs = []
   listed_products (c ∷ cs) [] = []
@@ -125,6 +128,7 @@ module _ (p : ℕ) (fm : IsFieldModulus p) (relations : List (List Term)) where
       by_test false e h = weighted-first c cs q qs w ∙ ap₂ K.add (sym (vector_of-scaled p fm c (core q) w)) h
           ∙ sym (vector_of-append p fm (scaled c (core q)) (flat_map (product_terms relations) (listed_products cs qs)) w)
 
+  -- a number that is not 0 is positive
   pub positive_from : (c : ℕ) → (c == 0) ≡ false → 0 < c
   positive_from zero e = cc e
   positive_from (suc c) e = omega arith
@@ -270,6 +274,7 @@ module _ (ideal : Ideal) (st : IsSetting ideal) (d : ℕ) where
         degree = subst (HasDegree ideal.weights d) (sym (λ i. product (s.3.0 i) (at i) (s.3.2 i))) degree;
       }
 
+  -- an element is its normal form and the sum of a product list
   pub product_list : (f t : List Term) → IsNormalForm ideal d f t → (products : List Product) × IsProductList ideal d products
       × IsSame ideal.modulus f (t ++ flat_map (product_terms ideal.relations) products)
   product_list f t n =
@@ -288,5 +293,6 @@ module _ (ideal : Ideal) (st : IsSetting ideal) (d : ℕ) where
             ∙ sym (vector_of-append ideal.modulus st.modulus t (flat_map (product_terms ideal.relations) products) w)),
       )
 
+-- the same as a law of all settings
 pub has_product_list : HasProductList
 has_product_list ideal st d f t n = product_list ideal st d f t n

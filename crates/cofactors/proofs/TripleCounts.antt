@@ -51,6 +51,7 @@ product_within m a b pos = elim (cases_lt m a) [
         omega (arith, least, more, big)
 
 module _ {Y : Type 0} (f : ℕ → List Y) where
+  -- a count that is cut off at m takes in the list of one more number
   pub count_one_more : (n m count rounds : ℕ) → count ≡ min (length (flat_map f (numbers_below n))) m → rounds ≡ min (length (f n)) m →
       min (count + rounds) m ≡ min (length (flat_map f (numbers_below (n + 1)))) m
   count_one_more n m count rounds c r =
@@ -73,6 +74,7 @@ triples_from-push weights d i (s ∷ rs) r =
     ∙ ap (λ (n : ℕ). triples_from weights d (suc i) rs ++ triples_at weights d n r) (omega arith))
     ∙ sym (append_assoc (triples_at weights d i s) (triples_from weights d (suc i) rs) (triples_at weights d (i + suc (length rs)) r))
 
+-- one more relation adds its triples behind those of the relations before it
 pub triples_from-take : (weights : List ℕ) (d i : ℕ) (rs : List (List Term)) (k : ℕ) (r : List Term) → k < length rs → r ≡ get_or rs k r
     → triples_from weights d i (take (k + 1) rs) ≡ triples_from weights d i (take k rs) ++ triples_at weights d (i + k) r
 triples_from-take weights d i rs k r within is =

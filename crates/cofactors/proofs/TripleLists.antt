@@ -42,6 +42,7 @@ degree_of_lead weights [] h = All-nil (λ t. degree_of weights t.word ≡ 0)
 degree_of_lead weights (t ∷ f) h = All-cons (λ (s : Term). degree_of weights s.word ≡ degree_of weights t.word) t f refl
     (λ k d within. sym (h 0 (suc k) d (omega arith) (omega (arith, within))))
 
+-- all words of a relation have the degree of its leading word
 pub one_degree : (p : ℕ) (weights : List ℕ) (r : List Term) → IsRelation p weights r → HasDegree weights (lead_degree weights r) r
 one_degree p weights r h = degree_of_lead weights r h.one_degree
 
@@ -131,6 +132,7 @@ module _ (weights : List ℕ) (aw : AreWeights weights) (d : ℕ) where
       Contains-append_right (triples_at weights d i s) (triples_from weights d (suc i) rs) q
       (from_listed (suc i) rs k r q (omega (arith, lt)) e (subst (λ (n : ℕ). IsTripleOf n r q) (omega arith) h))
 
+  -- a member of the list is a triple of one of the relations, by its number
   pub from_says : (i : ℕ) (rs : List (List Term)) (q : Product) → Contains (triples_from weights d i rs) q →
       (k : ℕ) × (k < length rs) × IsTripleOf (i + k) (get_or rs k []) q
   from_says i [] q m = absurd (Contains-none q m)
@@ -139,6 +141,7 @@ module _ (weights : List ℕ) (aw : AreWeights weights) (d : ℕ) where
     | inr h ↦ let t = from_says (suc i) rs q h in (suc t.0, omega (arith, t.1), subst (λ (n : ℕ). IsTripleOf n (get_or rs t.0 []) q) (omega arith) t.2)
   ]
 
+  -- the triples stand in the order of product lists
   pub from_ordered : (i : ℕ) (rs : List (List Term)) → AllPairs (StandsBefore weights) (triples_from weights d i rs)
   from_ordered i [] = AllPairs-nil (StandsBefore weights)
   from_ordered i (r ∷ rs) = AllPairs-append (StandsBefore weights) (triples_at weights d i r) (triples_from weights d (suc i) rs)
