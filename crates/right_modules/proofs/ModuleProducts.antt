@@ -111,6 +111,7 @@ module _ (ideal : Ideal) (free : ℕ) (ms : IsModuleSetting ideal free) (d : ℕ
   abbrev pub products_ideal : Ideal
   products_ideal = record ideal { relations = module_products }
 
+  -- the ideal of the products is a setting
   pub product_setting : IsSetting products_ideal
   product_setting = record {
     modulus = st.modulus;
