@@ -38,6 +38,7 @@ begins_of (k ∷ leads) w l m o = elim (Contains-cases k leads l m) [
     by_test true e = refl
     by_test false e = e
 
+-- where no word of the index stands at the front, the word begins with none
 pub begins_free : (leads : List Lead) (w : List ℕ) → IsFreeAt leads w 0 → begins leads w ≡ false
 begins_free [] w h = refl
 begins_free (k ∷ leads) w h = elim (cases_Bool (bytes_eq (take (length k.word) w) k.word)) [
@@ -46,10 +47,12 @@ begins_free (k ∷ leads) w h = elim (cases_Bool (bytes_eq (take (length k.word)
   | inr other ↦ rw other (begins_free leads w (All-tail (λ (m : Lead). OccursAt m.word w 0 → ⊥) k leads h))
 ]
 
+-- and where it begins with none, none stands at the front
 pub free_of_begins : (leads : List Lead) (w : List ℕ) → begins leads w ≡ false → IsFreeAt leads w 0
 free_of_begins leads w e = All-from_members (λ (m : Lead). OccursAt m.word w 0 → ⊥) leads
     (λ l m o. let t : begins leads w ≡ true = begins_of leads w l m o in cc)
 
+-- where this element's word of the index starts at the front, the word begins with one
 pub begins_started : (leads : List Lead) (w : List ℕ) (element : ℕ) → Starts leads w 0 element → begins leads w ≡ true
 begins_started leads w element h = begins_of leads w h.lead h.among h.here
 
@@ -79,6 +82,7 @@ IsFree-cons leads x w h r (suc k) =
     All-from_members (λ (m : Lead). OccursAt m.word (x ∷ w) (suc k) → ⊥) leads
     (λ l c o. All-contains (λ (m : Lead). OccursAt m.word w k → ⊥) leads l (r k) c (record { within = omega (arith, o.within); same = o.same }))
 
+-- where none stands in a word, none stands in it without its first letter
 pub IsFree-tail : (leads : List Lead) (x : ℕ) (w : List ℕ) → IsFree leads (x ∷ w) → IsFree leads w
 IsFree-tail leads x w h k =
     All-from_members (λ (m : Lead). OccursAt m.word w k → ⊥) leads
@@ -93,18 +97,21 @@ module _ (leads : List Lead) (x : ℕ) where
     pub is : (x ∷ tail) ≡ w
     pub free : begins leads (x ∷ tail) ≡ false
 
+  -- each word of a block is the letter before a tail, and begins with no word of the index
   pub block-says : (tails : List (List ℕ)) (w : List ℕ) → Contains (block leads x tails) w → IsInBlock tails w
   block-says tails w m =
       let r = Contains-flat_map_cases (λ v. unless_begins leads (x ∷ v)) tails w m in
       let e = unless-says (begins leads (x ∷ r.0)) (x ∷ r.0) w r.2 in
       record { tail = r.0; among = r.1; is = e.1; free = e.0 }
 
+  -- each such word is in the block
   pub in_block : (tails : List (List ℕ)) (v : List ℕ) → Contains tails v → begins leads (x ∷ v) ≡ false → Contains (block leads x tails) (x ∷ v)
   in_block tails v m e =
       let here : Contains (unless_begins leads (x ∷ v)) (x ∷ v) = subst (λ (b : Bool). Contains (cond b [] ((x ∷ v) ∷ [])) (x ∷ v)) (sym e)
       (Contains-first (x ∷ v) []) in
       Contains-flat_map (λ u. unless_begins leads (x ∷ u)) tails v (x ∷ v) m here
 
+  -- where the tails fall, the words of the block fall
   pub block-falling : (weights : List ℕ) → AreWeights weights → (tails : List (List ℕ)) → AllPairs IsLetterwiseGreater tails →
       AllPairs IsLetterwiseGreater (block leads x tails)
   block-falling weights aw tails h =

@@ -42,6 +42,7 @@ module _ {Y : Type 0} (f : ℕ → List Y) (m n : ℕ) (lt : n < m) where
   letters-more now new so_far grown =
       gathered-more f [] now new (range_with_len 0 m) n n (omega (arith, lt, length-range_with_len 0 m)) (letter_at m n lt) so_far grown
 
+  -- what is gathered from all m letters is longer than most where one more letter makes it so
   pub letters-longer : (most : ℕ) (now : List Y) → now ≡ flat_map f (take n (range_with_len 0 m)) → most < length (now ++ f n)
       → most < length (flat_map f (range_with_len 0 m))
   letters-longer most now so_far more =
