@@ -16,6 +16,7 @@ module _ {X : Type 0} (cmp : X → X → Ordering) (total : IsTotalOrder cmp) wh
   inserted x [] = x ∷ []
   inserted x (y ∷ ys) = cond (below y x) (y ∷ inserted x ys) (x ∷ y ∷ ys)
 
+  -- the members of a list, put in order one after the other
   abbrev pub sorted : List X → List X
   sorted [] = []
   sorted (x ∷ xs) = inserted x (sorted xs)

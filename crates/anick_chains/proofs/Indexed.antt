@@ -45,5 +45,6 @@ module _ (b : Elements) (kept : IsKept b) (leads : List Lead) (index : IsIndexOf
   pub stands-index : IsFree leads w → stands (leads_of b.elements) w ≡ false
   stands-index free = stands-not (leads_of b.elements) w (free_says free)
 
+  -- where a tip of the index starts in the word, the test by the list holds
   pub stands-starts : (at element : ℕ) → Starts leads w at element → stands (leads_of b.elements) w ≡ true
   stands-starts at element s = stands-has (leads_of b.elements) w (starts_says at element s)

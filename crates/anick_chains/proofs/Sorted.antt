@@ -55,6 +55,7 @@ module _ (weights : List ℕ) (aw : AreWeights weights) where
         let r = found x.0 x.1 in
         subst (Contains all) (ap (λ (y : Chain). y.pieces) r.2 ∙ x.2) r.1
 
+    -- and none of them is lost
     pub sorted_has : (c : List (List ℕ)) → Contains all c → Contains (pieces_of sorted) c
     sorted_has c m =
         Contains-map (λ (y : Chain). y.pieces) sorted (chain_of c) (Contains-permutation block sorted (chain_of c) moved

@@ -91,6 +91,7 @@ module _ (b : Elements) (kept : IsKept b) (free : IsFactorFree b.elements) where
       tips : AreListedTips names (leads_of b.elements)
       tips = listed_tips b kept free
 
+      -- each chain that is listed for degree d is a chain of degree d
       pub says : (c : List (List ℕ)) → Contains all c → IsChain T names c × (chain_degree weights c ≡ d)
       says c m = chains_at-says weights b.elements tips kept.weights d below chains_below c m
 

@@ -130,9 +130,11 @@ tallies_some weights G d below h =
 pub tally_total-is : (tallies : List Tally) → tally_total tallies ≡ sum_by (tally_weight (λ _ _ _. 1)) tallies
 tally_total-is tallies = sum_by-same (λ (t : Tally). t.count) (tally_weight (λ _ _ _. 1)) tallies (λ t m. omega arith)
 
+-- the total of tallies that tell of some chains is the number of these chains
 pub total_tells : (tallies : List Tally) (found : List Chain) → Tells tallies found → tally_total tallies ≡ length found
 total_tells tallies found tells = tally_total-is tallies ∙ tells (λ _ _ _. 1) ∙ sum_by-length found
 
+-- tallies that tell the same have the same total
 pub total_same : (a b : List Tally) → TellsSame a b → tally_total a ≡ tally_total b
 total_same a b same = tally_total-is a ∙ same (λ _ _ _. 1) ∙ sym (tally_total-is b)
 
