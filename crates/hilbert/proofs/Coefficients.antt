@@ -51,6 +51,7 @@ module _ (p : ℕ) (relations : List (List Term)) (basis : Elements) (st : IsSet
   lower = lists_lower (ideal_over p basis.weights relations) st (basis.done + 1) basis
       (record { kept = kept; next = refl; same_weights = refl; reduced = upto })
 
+  -- up to the degree that is done, the number of normal words is the Hilbert coefficient
   pub count_coefficient : (d n : ℕ) → d ≤ basis.done → IsCount basis.weights basis.elements d n
       → IsHilbertCoefficient (ideal_over p basis.weights relations) d n
   count_coefficient d n le c =
@@ -75,5 +76,6 @@ module _ (p : ℕ) (relations : List (List Term)) (basis : Elements) (st : IsSet
       )) in
       (H.coefficient n).1 (omega (arith, there, back, c.count))
 
+-- the same as a law of all reduced bases
 pub counts_coefficients : CountsCoefficients
 counts_coefficients p relations basis st kept upto d n le c = count_coefficient p relations basis st kept upto d n le c

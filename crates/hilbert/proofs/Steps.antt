@@ -30,9 +30,11 @@ each-push P numbers n d size each here e lt = elim (cases_lt e d) [
 ]
 
 module _ (weights : List ℕ) (G : List (List Term)) (limit : ℕ) where
+  -- before any degree there are no numbers
   pub no_counts : AreCounts weights G limit 0 []
   no_counts = record { size = refl; each = λ d lt. absurd (omega (arith, lt)); few = All-nil (λ n. n ≤ limit) }
 
+  -- a degree with no more normal words than the limit adds their number
   pub counts-more : (d : ℕ) (numbers : List ℕ) (words : List (List ℕ)) → AreCounts weights G limit d numbers →
       AreNormalWords weights G d words → length words ≤ limit → AreCounts weights G limit (d + 1) (numbers ++ length words ∷ [])
   counts-more d numbers words h normal le = record {
@@ -41,6 +43,7 @@ module _ (weights : List ℕ) (G : List (List Term)) (limit : ℕ) where
     few = All-push (λ n. n ≤ limit) numbers (length words) h.few le;
   }
 
+  -- one with more of them than the limit is the first that is too large
   pub first_large : (bound d degree value : ℕ) (numbers below words : _) → d ≤ bound → AreCounts weights G limit d numbers →
       AreNormalWords weights G d words → limit < length words → d ≡ degree → limit + 1 ≡ value → numbers ≡ below
       → IsFirstLarge weights G limit bound degree value below
@@ -88,6 +91,7 @@ module _ (weights : List ℕ) (leads : List Lead) where
     pub is_next : next_of held ≡ d
     pub few : length held ≤ 8
 
+  -- at first nothing is held
   pub none_next : IsNextHeld 0 []
   none_next = record { are_held = none_held; is_next = refl; few = omega arith }
 
@@ -113,6 +117,7 @@ module _ (weights : List ℕ) (leads : List Lead) where
       let size = length-append held (n ∷ []) in
       from_row d (held ++ n ∷ []) (without_first d x (held ++ n ∷ []) (omega (arith, size)) r) (inr (omega (arith, size, le))) (omega (arith, size, few))
 
+  -- one more degree is held, and where eight were held already the first of them goes
   pub held-more : (held : List WordsOfDegree) (n : WordsOfDegree) (d : ℕ) → IsNextHeld d held → n.degree ≡ d →
       AreNormal weights leads d n.words → IsNextHeld (d + 1) (drop (length held + 1 - 8) (held ++ n ∷ []))
   held-more held n d h same normal =
