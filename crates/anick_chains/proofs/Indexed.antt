@@ -41,7 +41,7 @@ module _ (b : Elements) (kept : IsKept b) (leads : List Lead) (index : IsIndexOf
         inside = occurs_factor s.lead.word w at s.here;
       }
 
-  -- the test by the index is that by the list
+  -- where no word of the index stands, the test by the list says so
   pub stands-index : IsFree leads w → stands (leads_of b.elements) w ≡ false
   stands-index free = stands-not (leads_of b.elements) w (free_says free)
 

@@ -126,7 +126,7 @@ tallies_some weights G d below h =
     (next_pieces weights G r.0.last (degree_of weights r.0.last + (d - r.0.degree))))
     r.2))
 
--- they have all chains
+-- the total is the sum of the tallies, where each of their chains has the weight 1
 pub tally_total-is : (tallies : List Tally) → tally_total tallies ≡ sum_by (tally_weight (λ _ _ _. 1)) tallies
 tally_total-is tallies = sum_by-same (λ (t : Tally). t.count) (tally_weight (λ _ _ _. 1)) tallies (λ t m. omega arith)
 

@@ -103,7 +103,7 @@ module _ (p : ℕ) (fm : IsFieldModulus p) (relations : List (List Term)) where
       ∙ add_left_comm K (K.mul (of c) (vec (core r) w)) (K.mul (of a) (vec (core q) w)) (vec (weighted relations cs qs) w)
       ∙ ap (K.add (K.mul (of a) (vec (core q) w))) (sym (weighted-first c cs r qs w))
 
-  -- the products with the coefficients that are not 0
+  -- a triple with this coefficient
   abbrev with_coefficient : ℕ → Product → Product
   with_coefficient c q = record { coefficient = c; left = q.left; relation = q.relation; right = q.right }
 
