@@ -32,6 +32,7 @@ named_or_not name read back text = elim (text_or_not text (name (read text))) [
   | inr other ↦ inr (λ a is. other (is ∙ ap name (sym (ap read is ∙ back a))))
 ]
 
+-- a text is the name of a command, or of none
 pub command_or_not : (word : List ℕ) → Decided (λ (command : Command). word ≡ command_name command)
 command_or_not = named_or_not command_name command_of command_of-name
 
@@ -88,6 +89,7 @@ value_or_not keys.Gens text = count_or_not 1 64 text
 value_or_not keys.List text = answer_or_not text
 value_or_not keys.Ask text = count_or_not 1 4096 text
 
+-- a word that has a key says a value of it, or none
 pub said_or_not : (key : Key) (word : List ℕ) → HasKey key word → Decided (Says key word)
 said_or_not key word has = elim (value_or_not key has.text) [
   | inl v ↦ inl (v.0, record { text = has.text; word_is = has.word_is; is_value = v.1 })
@@ -112,5 +114,6 @@ has_key_or_not key word = elim (front_or_not (name_of key ++ codes "=") word) [
   | inr none ↦ inr (λ has. none has.text (has.word_is ∙ sym (append_assoc (name_of key) (codes "=") has.text)))
 ]
 
+-- a word has a key of the row, or none of them
 pub key_or_not : (row : List Key) (word : List ℕ) → Decided (λ (key : Key). Contains row key × HasKey key word)
 key_or_not row word = among_or_not (λ key. HasKey key word) (λ key. has_key_or_not key word) row

@@ -17,9 +17,11 @@ with_digits-append : (n : ℕ) (bs : List ℕ) (b : ℕ) → with_digits n (bs +
 with_digits-append n [] b = refl
 with_digits-append n (c ∷ bs) b = with_digits-append (n * 10 + (c - 48)) bs b
 
+-- with one digit more the number is ten times what it was, and the digit
 pub with_digits-more : (n : ℕ) (bs : List ℕ) (i : ℕ) → i < length bs → with_digits n (take (i + 1) bs) ≡ with_digits n (take i bs) * 10 + (get_or bs i 0 - 48)
 with_digits-more n bs i within = ap (with_digits n) (take_more bs i 0 within) ∙ with_digits-append n (take i bs) (get_or bs i 0)
 
+-- a text says at most one number
 pub one_number : (text : List ℕ) (m n : ℕ) → IsNumber text m → IsNumber text n → m ≡ n
 one_number text m n p q = sym p.value ∙ q.value
 
@@ -32,6 +34,7 @@ listed_says m xs t =
 same_test : (m n : ℕ) → m ≡ n → (m == n) ≡ true
 same_test m n e = grind (arith, nat_tests)
 
+-- a number that is in the list passes the test of membership
 pub says_listed : (m : ℕ) (xs : List ℕ) → Contains xs m → list_any (λ y. y == m) xs ≡ true
 says_listed m xs h = list_any-from_Any (λ y. y == m) xs (h.0, m, h.1, h.2, same_test m m refl)
 
@@ -42,12 +45,14 @@ le_says m n e = grind (arith, nat_tests)
 listed_small : All (λ p. p ≤ 1000003) listed_moduli
 listed_small k d within = le_says (get_or listed_moduli k d) 1000003 (AllPass-from_list_all (λ p. nat_le p 1000003) listed_moduli refl k d within)
 
+-- no listed modulus is 0
 pub modulus_some : (p : ℕ) → Contains listed_moduli p → 0 < p
 modulus_some p m =
     let two = All-contains (λ n. 2 ≤ n) listed_moduli p (λ k d within. le_says 2 (get_or listed_moduli k d)
     (AllPass-from_list_all (λ n. nat_le 2 n) listed_moduli refl k d within)) m in
     omega (arith, two)
 
+-- none is greater than 1000003
 pub modulus_below : (p : ℕ) → Contains listed_moduli p → p ≤ 1000003
 modulus_below p m = All-contains (λ n. n ≤ 1000003) listed_moduli p listed_small m
 
@@ -70,6 +75,7 @@ digits_or_not (b ∷ bs) = elim (digit_or_not b) [
   | inr none ↦ inr (λ h. none (All-head IsAsciiDigit b bs h))
 ]
 
+-- a text says a number, or none
 pub number_or_not : (text : List ℕ) → Decided (IsNumber text)
 number_or_not [] = inr (λ n h. h.some refl)
 number_or_not (b ∷ bs) = elim (digits_or_not (b ∷ bs)) [

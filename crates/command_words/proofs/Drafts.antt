@@ -16,6 +16,7 @@ use Rattle.command_words.specs.Draft.{IsDraft, IsRefusal, Takes, filled, kept, p
 use Rattle.command_words.proofs.OneKey.{key_said, one_key, one_place, place_below}
 use Rattle.command_words.proofs.Parts.{no_split, only_member, split_last, when_none, when_some}
 
+-- no more values are kept than there are places for them
 pub filled-le : (values : List (Option Value)) → filled values ≤ length values
 filled-le [] = omega arith
 filled-le (None ∷ values) = omega (arith, filled-le values)
@@ -34,9 +35,11 @@ filled-set (None ∷ values) (suc i) v lt e = filled-set values i v (omega (arit
 filled-set (Some w ∷ values) (suc i) v lt e = ap (λ (n : ℕ). n + 1) (filled-set values i v (omega (arith, lt)) e)
 
 module _ (command : Command) (words : List (List ℕ)) (values : List (Option Value)) (draft : IsDraft command words values) where
+  -- a key of which nothing is kept stands in none of the words
   pub unkept : (key : Key) → kept values key ≡ None → Stands words key → ⊥
   unkept key none = when_none (Stands words key → ⊥) (IsTold words key) (kept values key) (draft.told key) (ap (λ (o : Option Value). is_some o) none)
 
+  -- a key of which a value is kept stands in one of them
   pub kept_stands : (key : Key) → IsSome (kept values key) → Stands words key
   kept_stands key some =
       let told = (when_some (Stands words key → ⊥) (IsTold words key) (kept values key) (draft.told key) some).1 in
@@ -124,6 +127,7 @@ module _ (command : Command) (words : List (List ℕ)) (values : List (Option Va
           (told_as_before key (kept values key) (λ has. apart (ap place_of (same_key key has))) (draft.told key)))
     ]
 
+    -- after one more word that is taken, what is kept is a draft of the words with that one
     pub draft_more : IsDraft command (words ++ word ∷ []) new
     draft_more = record {
       taken = taken_more;
@@ -133,6 +137,7 @@ module _ (command : Command) (words : List (List ℕ)) (values : List (Option Va
           ∙ ap (λ (n : ℕ). n + 1) draft.each_once ∙ sym (length-append words (word ∷ []));
     }
 
+-- where nothing is kept, it is the draft of no words
 pub draft_none : (command : Command) (values : List (Option Value)) → values ≡ replicate 12 None → IsDraft command [] values
 draft_none command values e = record {
   taken = λ fault h. no_split h.before h.word h.after h.words_are;

@@ -28,6 +28,7 @@ has_text : (words : List (List ℕ)) (key : Key) (o : Option Value) → MatchOpt
 has_text words key None h = tt
 has_text words key (Some v) h = (h.says.text, h.says.is_value)
 
+-- what a draft keeps of a key is a value of that key
 pub are_values : (command : Command) (words : List (List ℕ)) (values : List (Option Value)) → IsDraft command words values → AreValues values
 are_values command words values draft key = has_text words key (kept values key) (draft.told key)
 
@@ -72,6 +73,7 @@ pub record AreFields (values : List (Option Value)) (job : Job) : Type 0 where
   pub ask : job.ask ≡ count_in (kept values keys.Ask) 0
 
 module _ (values : List (Option Value)) (job : Job) (are : AreValues values) (fields : AreFields values job) where
+  -- a job with these fields has of each key the value that is kept, or else the default
   pub field_is : (key : Key) → value_at key job ≡ unwrap_or (kept values key) (default_of key)
   field_is keys.Mod = modulus_is (kept values keys.Mod) 0 job.modulus fields.modulus (are keys.Mod)
   field_is keys.Deg = count_is 1 64 (kept values keys.Deg) 0 job.bound fields.bound (are keys.Deg)
@@ -92,6 +94,7 @@ value_in_words words key None v h e = inr (h, e)
 value_in_words words key (Some w) v h e = inl (subst (IsTold words key) (sym e) h)
 
 module _ (command : Command) (rest : List (List ℕ)) (values : List (Option Value)) (draft : IsDraft command rest values) where
+  -- it is the job of the words, where a value of each required key is kept
   pub job_is : (words : List (List ℕ)) (job : Job) → words ≡ command_name command ∷ rest → job.command ≡ command
       → All (λ key. IsSome (kept values key)) (required_of command) →
       ((key : Key) → value_at key job ≡ unwrap_or (kept values key) (default_of key)) → IsJob words job
@@ -106,6 +109,7 @@ module _ (command : Command) (rest : List (List ℕ)) (values : List (Option Val
         values = λ key. value_in_words rest key (kept values key) (value_at key job) (draft.told key) (fields key);
       }
 
+  -- the first key of which nothing is kept is the first that no word has
   pub missing_is : (keys : List Key) (key : Key) → IsFirstGap keys values key → IsFirstMissing keys rest key
   missing_is keys key gap = record {
     earlier = gap.earlier;

@@ -27,6 +27,7 @@ module _ {X : Type 0} where
         ]
       ]
 
+  -- what stands between two parts of a list is a member of it
   pub middle : (b : List X) (w : X) (a : List X) → Contains (b ++ w ∷ a) w
   middle b w a = Contains-append_right b (w ∷ a) w (0, omega arith, refl)
 
@@ -48,6 +49,7 @@ among_or_not P decide (k ∷ row) = elim (decide k) [
   ]
 ]
 
+-- a key is in a row or not
 pub member_or_not : (row : List Key) (key : Key) → Contains row key ⊎ (Contains row key → ⊥)
 member_or_not row key = elim (among_or_not (λ k. k ≡ key) (λ k. same_or_not k key) row) [
   | inl m ↦ inl (subst (Contains row) m.1.1 m.1.0)

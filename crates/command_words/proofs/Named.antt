@@ -19,15 +19,18 @@ second_command : List ℕ → Command
 second_command [] = commands.Make
 second_command (b ∷ bs) = if b == 97 then commands.Make else commands.Module
 
+-- the command that a text names, and some command where it names none
 pub command_of : List ℕ → Command
 command_of [] = commands.Gb
 command_of (b ∷ bs) = if b == 103 then commands.Gb else if b == 99 then commands.Chains else if b == 110 then commands.Normal else second_command bs
 
+-- the name of a command is read as that command
 pub command_of-name : (command : Command) → command_of (command_name command) ≡ command
 unfolding command_of second_command
 command_of-name commands.Gb = refl
 command_of-name command = refl
 
+-- commands with the same name are one
 pub one_command : (a b : Command) → command_name a ≡ command_name b → a ≡ b
 one_command = one_by command_name command_of command_of-name
 
@@ -35,28 +38,34 @@ second_show : List ℕ → Show
 second_show [] = shows.Basis
 second_show (b ∷ bs) = if b == 97 then shows.Basis else shows.Both
 
+-- the value of `show` that a text names, and some value where it names none
 pub show_of : List ℕ → Show
 show_of [] = shows.Basis
 show_of (b ∷ bs) = if b == 115 then shows.Series else second_show bs
 
+-- the name of such a value is read as that value
 pub show_of-name : (show : Show) → show_of (show_name show) ≡ show
 unfolding show_of second_show
 show_of-name shows.Basis = refl
 show_of-name show = refl
 
+-- the engine that a text names, and some engine where it names none
 pub engine_of : List ℕ → EngineKind
 engine_of [] = engines.Race
 engine_of (b ∷ bs) = if b == 114 then engines.Race else if b == 99 then engines.Core else if b == 115 then engines.Seq else engines.Plain
 
+-- the name of an engine is read as that engine
 pub engine_of-name : (engine : EngineKind) → engine_of (engine_name engine) ≡ engine
 unfolding engine_of
 engine_of-name engines.Race = refl
 engine_of-name engine = refl
 
+-- yes where a text begins with `y`, and else no
 pub answer_of : List ℕ → Bool
 answer_of [] = false
 answer_of (b ∷ bs) = b == 121
 
+-- yes and no are read as they are written
 pub answer_of-name : (answer : Bool) → answer_of (answer_name answer) ≡ answer
 unfolding answer_of
 answer_of-name true = refl
@@ -82,6 +91,7 @@ same_answer = same_named answer_name answer_of answer_of-name Answer
 same_engine : (text : List ℕ) (v w : Value) → IsEngine text v → IsEngine text w → v ≡ w
 same_engine = same_named engine_name engine_of engine_of-name Kind
 
+-- a text is at most one value of a key
 pub one_value : (key : Key) (text : List ℕ) (v w : Value) → IsValue key text v → IsValue key text w → v ≡ w
 one_value keys.Mod text v w p q = same_modulus text v w p q
 one_value keys.Deg text v w p q = same_number 1 64 text v w p q

@@ -43,6 +43,7 @@ job_or_fault words j NoCommand p q = no_words words (command_name j.command) p.r
 job_or_fault words j UnknownCommand p q = unknown_known words j.command p.rest q p.words_are
 job_or_fault words j f p q = no_fault_of j.command p.rest p.taken p.complete f (behind_command words f q j.command p.rest p.words_are)
 
+-- words have at most one job or one fault, and never both
 pub one_answer : (words : List (List ℕ)) (a b : Result Job UsageFault) → IsAnswerTo words a → IsAnswerTo words b → a ≡ b
 one_answer words (Ok j) (Ok k) p q = ap Ok (one_job words j k p q)
 one_answer words (Ok j) (Err g) p q = absurd (job_or_fault words j g p q)

@@ -54,6 +54,7 @@ one_refusal command words f g p q = elim (compare_splits p.before p.word p.after
 not_taken : (command : Command) (words : List (List ℕ)) (f : UsageFault) → IsFirstRefusal command words f → AreTaken command words → ⊥
 not_taken command words f p taken = taken f (record { before = p.before; word = p.word; after = p.after; words_are = p.words_are; refused = p.refused })
 
+-- the words after a command have at most one fault
 pub one_fault_of : (command : Command) (words : List (List ℕ)) (f g : UsageFault) → IsFaultOf command words f → IsFaultOf command words g → f ≡ g
 one_fault_of command words (MissingKey k) (MissingKey l) p q = ap MissingKey (one_missing (required_of command) words k l p.1 q.1)
 one_fault_of command words (MissingKey k) g p q = absurd (not_taken command words g q p.0)

@@ -102,6 +102,7 @@ same_job j k c h =
       ask = ask i;
     }
 
+-- words have at most one job
 pub one_job : (words : List (List ℕ)) (j k : Job) → IsJob words j → IsJob words k → j ≡ k
 one_job words j k p q =
     let whole = sym p.words_are ∙ q.words_are in

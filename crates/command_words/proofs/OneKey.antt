@@ -34,12 +34,15 @@ unfolding key_of second_of
 key_of-word keys.Mod text = refl
 key_of-word key text = refl
 
+-- a word has at most one key
 pub one_key : (a b : Key) (word s t : List ℕ) → IsWordOf a s word → IsWordOf b t word → a ≡ b
 one_key a b word s t p q = sym (key_of-word a s) ∙ ap key_of (sym p ∙ q) ∙ key_of-word b t
 
+-- behind a key and `=` it has one text
 pub one_text : (key : Key) (s t : List ℕ) → name_of key ++ (codes "=" ++ s) ≡ name_of key ++ (codes "=" ++ t) → s ≡ t
 one_text key s t e = append_cancel_left (codes "=") s t (append_cancel_left (name_of key) (codes "=" ++ s) (codes "=" ++ t) e)
 
+-- a word that says a value of a key has that key
 pub key_said : (key : Key) (word : List ℕ) (value : Value) → Says key word value → HasKey key word
 key_said key word value says = record { text = says.text; word_is = says.word_is }
 
@@ -63,9 +66,11 @@ unfolding key_at
 key_at-place keys.Mod = refl
 key_at-place key = refl
 
+-- keys with the same place are one
 pub one_place : (a b : Key) → place_of a ≡ place_of b → a ≡ b
 one_place = one_by place_of key_at key_at-place
 
+-- each key has one of twelve places
 pub place_below : (key : Key) → place_of key < 12
 place_below keys.Mod = lit< tt
 place_below key = lit< tt

@@ -165,6 +165,7 @@ some_answer (first ∷ rest) = elim (command_or_not first) [
   | inr none ↦ (Err UnknownCommand, record { first = first; rest = rest; words_are = refl; unknown = none })
 ]
 
+-- words have exactly one answer, a job or a fault
 pub has_one_answer : (words : List (List ℕ)) → HasOneAnswer words
 has_one_answer words =
     let some = some_answer words in

@@ -5,6 +5,7 @@ use Rattle.command_words.specs.declared.job.Key.{Key}
 use Rattle.command_words.specs.declared.value.Value.{Value}
 use Rattle.command_words.specs.Values.{IsValue}
 
+-- whether a text is a value of a key, and which, is the same of an equal key
 pub value_of_key : (a b : Key) (text : List ℕ) (o : Option Value) → a ≡ b →
     MatchOption o ((value : Value) → IsValue b text value → ⊥) (IsValue b text) →
     MatchOption o ((value : Value) → IsValue a text value → ⊥) (IsValue a text)
