@@ -158,6 +158,7 @@ gathered-from p k names s (l ∷ ls) some h =
     subst (λ (n : ℕ). AreSmall (length names) n (gathered p names (gather p names s l) ls)) e
     (gathered-from p (k + 1) names (gather p names s l) ls some (gather-bounded p k names s l some h))
 
+-- what some lexemes say has letters below the number of names, and no more relations than lexemes
 pub gathered-small : (p : ℕ) (names : List (List ℕ)) (ls : List Lexeme) → 0 < length names →
     AreSmall (length names) (length ls) (gathered p names (fresh p [] [] false) ls)
 gathered-small p names ls some =

@@ -145,6 +145,7 @@ pub record DeclaresTree (tree : Tree) (ls : List Lexeme) : Type 0 where
   pub count : length (letters_of tree).weights ≡ length (letters_of tree).names
   pub fit : AreFit (letters_of tree).names (Some places.AfterList) (spelled_relations tree.relations ++ ending)
 
+-- lexemes that spell a tree and are fit declare its letters
 pub declares-tree : (tree : Tree) (ls : List Lexeme) → name (codes "vars") ∷ ls ≡ spelled tree →
     AreFit [] (Some places.Beginning) (name (codes "vars") ∷ ls) → DeclaresTree tree ls
 declares-tree tree ls is h =

@@ -28,6 +28,7 @@ takes_exponent-leads None rest comes = absurd (let e : true ≡ false = comes in
 takes_exponent-leads (Some place) [] comes = refl
 takes_exponent-leads (Some place) (t ∷ ts) comes = refl
 
+-- at a token that may come, the first fault is the first of meaning
 pub first_here : (names : List (List ℕ)) (begun letters : ℕ) (caret : Bool) (t : Placed) (before : List Placed) (rest : List Piece) →
     is_none (next_place t.place t.lexeme) ≡ false → HasPassed names begun letters before → leads_caret rest ≡ caret →
     first_of (faults_here before t (placed_from (next_place t.place t.lexeme) rest)) ≡ first_of (faults_with names begun letters caret t)
@@ -49,6 +50,7 @@ drop_third : (a b d : Option InputFault) → first_of (a ∷ b ∷ d ∷ []) ≡
 drop_third None b d = drop_none b d
 drop_third (Some fault) b d = refl
 
+-- the first of them behind an operator is the first of those of what begins a factor
 pub used_faults-with : (names : List (List ℕ)) (begun letters : ℕ) (caret : Bool) (l : Lexeme) (at : ℕ) →
     first_of (used_faults names letters caret l at) ≡ first_of (faults_with names begun letters caret
     (record { place = places.AfterOperator; lexeme = l; at = at }))
@@ -69,6 +71,7 @@ next_faults names begun letters caret (name bytes) at = drop_third (when (begun 
     (when (not (is_among bytes names)) (faults.UnknownVariable at)) (when (passes letters 1 && not caret) (faults.WordTooLong at))
 next_faults names begun letters caret l at = drop_third (when (begun == 4096) (faults.TooManyRelations at)) None None
 
+-- the first where a relation begins is the first of those of its first token
 pub begin_faults-with : (names : List (List ℕ)) (begun letters : ℕ) (caret : Bool) (place : Place) (l : Lexeme) (at : ℕ) →
     (place ≡ places.AfterList) ⊎ (place ≡ places.AfterComma) → first_of (begin_faults names begun letters caret place l at)
     ≡ first_of (faults_with names begun letters caret (record { place = place; lexeme = l; at = at }))

@@ -33,6 +33,7 @@ AreFit names None ls = Unit {0}
 AreFit names (Some place) [] = Unit {0}
 AreFit names (Some place) (l ∷ ls) = IsFit names place l × AreFit (more_names names place l) (next_place place l) ls
 
+-- the declared names after one more lexeme are those before it, and the one that it declares
 pub more_names-is : (names : List (List ℕ)) (place : Place) (l : Lexeme) → names ++ declares place l ≡ more_names names place l
 more_names-is names places.AfterVars (name bytes) = refl
 more_names-is names places.AfterListComma (name bytes) = refl

@@ -59,6 +59,7 @@ two-degrees p weights terms (t ∷ f) first other two element e =
     let e : first ≡ other = sym two.first_is ∙ a ∙ sym b ∙ two.other_is in
     omega (arith, two.below)
 
+-- the element of a sum with words of two degrees is refused as not homogeneous
 pub mixed : (p : ℕ) (weights : List ℕ) (terms : List Term) (k first other : ℕ) → HasTwoDegrees p weights terms first other → (f : List Term)
     → IsElementOf p terms f → first_of (relation_faults weights k (f ∷ [])) ≡ Some (faults.NotHomogeneous k)
 mixed p weights terms k first other two f element = elim (cases_Bool (differs weights f)) [
@@ -72,9 +73,11 @@ no_faults weights k f constant one e =
     ap (λ (b : Bool). first_of (when b (faults.NotHomogeneous k) ∷ when (is_constant f) (faults.Constant k) ∷ [])) (no-difference weights f one)
     ∙ ap (λ (b : Bool). first_of (when b (faults.Constant k) ∷ [])) e
 
+-- an element of one degree that is no constant has no fault
 pub sound : (weights : List ℕ) (k : ℕ) (f : List Term) → HasOneDegree weights f → is_constant f ≡ false → first_of (relation_faults weights k (f ∷ [])) ≡ None
 sound weights k f one e = no_faults weights k f false one e
 
+-- a sum whose element is a constant is refused for it
 pub constant-fault : (p : ℕ) (weights : List ℕ) (terms : List Term) (k : ℕ) (g : List Term) → IsElementOf p terms g → HasOneDegree weights g
     → is_constant g ≡ true
     → (f : List Term) → IsElementOf p terms f → first_of (relation_faults weights k (f ∷ [])) ≡ Some (faults.Constant k)
@@ -103,6 +106,7 @@ no-empty-word weights aw (t ∷ u ∷ f) form one e =
 
 -- faults of more elements
 
+-- where some faults are none, the first is the first of those behind them
 pub first_of-past : (xs ys : List (Option InputFault)) → first_of xs ≡ None → first_of (xs ++ ys) ≡ first_of ys
 first_of-past [] ys e = refl
 first_of-past (None ∷ xs) ys e = first_of-past xs ys e

@@ -102,6 +102,7 @@ pub record HasNormalForm (p : ℕ) (f : List Term) : Type 0 where
   pub residues : HasResidues p polynomial
   pub sum : IsSame p polynomial f
 
+-- each sum of terms is a polynomial modulo p
 pub normal_form : (p : ℕ) → 0 < p → (f : List Term) → HasNormalForm p f
 normal_form p some f =
     let l = words_of f in

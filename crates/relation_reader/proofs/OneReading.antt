@@ -109,10 +109,12 @@ outcome-once text p (refused f) (refused g) (inr h) (inr j) = ap refused (relati
 
 -- There is one.
 
+-- relations with the elements that they mean
 pub record HasMeanings (p : ℕ) (names : List (List ℕ)) (rs : List Relation) : Type 0 where
   pub meanings : List (List Term)
   pub are : AreMeanings p names rs meanings
 
+-- any relations mean some elements
 pub meanings-of : (p : ℕ) → 0 < p → (names : List (List ℕ)) (rs : List Relation) → HasMeanings p names rs
 meanings-of p some names [] = record { meanings = []; are = tt }
 meanings-of p some names (r ∷ rs) =
@@ -160,6 +162,7 @@ outcome text p some tokens stop splits = elim (is_fault (fault_with text tokens 
   | inr found ↦ (refused found.0, inl (record { tokens = tokens; stop = stop; splits = splits; first = found.1 }))
 ]
 
+-- each text has exactly one reading or exactly one first fault
 pub has_one_reading : HasOneReading
 has_one_reading text p some =
     let few : length text - 0 < length text + 1 = omega arith in

@@ -391,6 +391,7 @@ stops-once text from (Some fault) (Some other) h k =
     ap (λ f. Some f) (fault-is text a.at fault a.fault_there ∙ ap (λ n. fault_from (byte_kind (get_or text n 0)) n) e
     ∙ sym (fault-is text b.at other b.fault_there))
 
+-- a text splits in at most one way from a place on
 pub splits-once : (text : List ℕ) (from : ℕ) (ts : List Token) (s : Option InputFault) (us : List Token) (r : Option InputFault) →
     SplitsFrom text from ts s → SplitsFrom text from us r → (ts ≡ us) × (s ≡ r)
 splits-once text from [] s [] r h k = (refl, stops-once text from s r h k)

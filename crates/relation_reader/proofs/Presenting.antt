@@ -30,6 +30,7 @@ use Rattle.relation_reader.proofs.OneReading.{no-stop}
 pub All-from_map : {X Y : Type 0} (P : Y → Type 0) (f : X → Y) (xs : List X) → All P (map f xs) → All (λ x. P (f x)) xs
 All-from_map P f xs h k d within = subst P (get_or-map f xs k d (f d) within) (h k (f d) (omega (arith, within, length-map xs f)))
 
+-- the tokens of a text stand inside it
 pub tokens-inside : (text : List ℕ) (tokens : List Token) → SplitsFrom text 0 tokens None → All (IsInside text) tokens
 tokens-inside text tokens splits k d within = token-within text 0 tokens None k d splits within
 
@@ -62,6 +63,7 @@ module _ (text : List ℕ) (tokens : List Token) (none : place_fault (pieces_of 
   weights-are : weights ≡ tree_letters.weights
   weights-are = ap (λ (l : Letters). l.weights) are
 
+  -- what a text without a fault that has a place declares makes an alphabet
   pub declared : DeclaredLetters names weights
   declared = record {
     names_fit = subst AreNames (sym names-are) (understood text tokens none).are_names;
@@ -113,6 +115,7 @@ module _ (text : List ℕ) (tokens : List Token) (none : place_fault (pieces_of 
         let rest : length ts ≡ length tokens - end = ap length (slice-is tokens end) ∙ length-drop end tokens in
         omega (arith, length-map ts (λ (t : Token). lexeme_of t.mark (span text t.start t.end)), rest, tokens-few text 0 tokens None (omega arith) splits)
 
+    -- it has fewer than 2^32 relations
     pub sums-few : length sums < 2 ^ 32
     sums-few = omega (arith, sums-small.count, lexemes-few)
 
@@ -125,9 +128,11 @@ module _ (text : List ℕ) (tokens : List Token) (none : place_fault (pieces_of 
           (λ t s. omega (arith, s.few, lexemes-few, degree_of-bound letters.weights alphabet.weights t.word)) f h;
     }
 
+    -- the terms of each can be summed
     pub sums-summable : All (AreSummable p letters.weights) sums
     sums-summable k d within = summable (get_or sums k d) (sums-residues k d within) (sums-small.terms k d within)
 
+    -- with the elements of sound relations the text is read
     pub reads : (found : List (List Term)) → AreSound p letters.weights sums found → Reads text p letters found
     reads found h = record {
       meanings = h.elements;
@@ -137,6 +142,7 @@ module _ (text : List ℕ) (tokens : List Token) (none : place_fault (pieces_of 
       others = h.others;
     }
 
+    -- an error at the relations is one of the text
     pub refuses : (fault : ReaderFault) → IsFirstError p letters.weights sums fault → IsReadError text p fault
     refuses answers.NoMemory h = tt
     refuses (answers.Text fault) h = inr (record {

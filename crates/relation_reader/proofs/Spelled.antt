@@ -193,6 +193,7 @@ items-walk b (item ∷ items) rest =
     ∙ next-item b item.name item.weight (listed items ++ rest)
     ∙ items-walk (weight_end item.weight) items rest
 
+-- what a tree spells leads from the beginning to the end
 pub spelled-walk : (tree : Tree) → reached (Some places.Beginning) (spelled tree) ≡ Some places.AfterEnd
 spelled-walk tree =
     let rest = semicolon ∷ (spelled_relations tree.relations ++ (semicolon ∷ the_end ∷ [])) in

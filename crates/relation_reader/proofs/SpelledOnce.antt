@@ -257,5 +257,6 @@ tree_of-spelled tree =
     let first = item-first tree.first.name tree.first.weight rest tree.others tree.relations (items-list tree.others tree.relations) in
     λ i. record { first = first.item_is i; others = first.items_are i; relations = first.relations_are i }
 
+-- two trees do not spell the same
 pub spells_once : (s t : Tree) → spelled s ≡ spelled t → s ≡ t
 spells_once s t e = sym (tree_of-spelled s) ∙ ap tree_of e ∙ tree_of-spelled t

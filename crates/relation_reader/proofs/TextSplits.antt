@@ -27,6 +27,7 @@ run-last first other text start at more within past holds =
     let e : at ≡ length text = omega arith in
     record { end = at; more = more; within = within; spelled = holds; longest = ap (λ n. begins other (drop n text)) e ∙ begins-end other text }
 
+-- a name or a number that began has an end
 pub run-end : (first other : ℕ → Bool) (text : List ℕ) (start n at : ℕ) → length text - at ≤ n → start < at → at ≤ length text →
     (begins first (span text start at) && are_all other (span text start at)) ≡ true → RunEnd first other text start
 run-end first other text start zero at few more within holds =
@@ -75,6 +76,7 @@ gap-last text from at g ordered within past holds whole =
     let rest : after_bytes between (drop from text) ≡ g = sym (ap (after_bytes between) (ap (span text from) e ∙ span-rest text from)) ∙ holds in
     (inside, λ f. whole (sym rest ∙ f))
 
+-- a gap goes on to the end of the text, or ends at a byte that breaks it
 pub gap-end : (text : List ℕ) (from n at : ℕ) (g : Gap) → length text - at ≤ n → from ≤ at → at ≤ length text →
     after_bytes between (span text from at) ≡ g → g ≢ broken → StopsAt text from None ⊎ ((end : ℕ) × BreaksAt text from end)
 gap-end text from zero at g few ordered within holds whole =
@@ -130,9 +132,11 @@ mark-of b e = elim (cases_Bool (b == 43)) [
   ]
 ]
 
+-- the test of equal numbers holds of the same number
 pub same_number : (n : ℕ) → (n == n) ≡ true
 same_number n = grind (arith, nat_tests)
 
+-- where a gap ends, a token begins or a fault of tokens stands
 pub token-there : (text : List ℕ) (at : ℕ) → at < length text → after_byte between (get_or text at 0) ≡ broken →
     ((t : Token) × IsTokenAt text at t) ⊎ ((fault : InputFault) × IsFaultAt text at fault)
 token-there text at within breaks =
@@ -229,6 +233,7 @@ pub record Split (text : List ℕ) (from : ℕ) : Type 0 where
   pub stop : Option InputFault
   pub splits : SplitsFrom text from tokens stop
 
+-- what stands outside comments is not broken
 pub whole : between ≢ broken
 whole = λ e. cc
 
@@ -239,6 +244,7 @@ token-first text from at t b h rest = record {
   splits = (subst (IsGap text from) (sym h.from) b.gap, h.token, rest.splits);
 }
 
+-- a text splits from each place on
 pub split-from : (text : List ℕ) (n from : ℕ) → length text - from < n → from ≤ length text → Split text from
 split-from text zero from few within = absurd (omega arith)
 split-from text (suc n) from few within =

@@ -15,6 +15,7 @@ pub All-others : (P : List Term → Type 0) (found : List (List Term)) (f : List
 All-others P found [] h here = subst (All P) (sym (append-nil found)) h
 All-others P found (t ∷ f) h here = All-push P found (t ∷ f) h (here (λ e. cc e))
 
+-- with one more element there is at most one more that is not 0
 pub length-others : (found : List (List Term)) (f : List Term) → length (found ++ others_than_zero (f ∷ [])) ≤ length found + 1
 length-others found [] = omega (arith, ap length (append-nil found))
 length-others found (t ∷ f) = omega (arith, length-append found ((t ∷ f) ∷ []))
@@ -38,6 +39,7 @@ module _ {X : Type 0} (terms_of : X → List Term) (all : List X) (n : ℕ) (x :
       ∙ ap (λ (ls : List (List Term)). take n (map terms_of all) ++ ls)
       (drop-cons (map terms_of all) n (terms_of x) inside ∙ ap (λ (t : List Term). t ∷ drop (suc n) (map terms_of all)) here)
 
+  -- the next relation is sound too, where its element has no fault
   pub sound-turn : (p : ℕ) (weights : List ℕ) (found : List (List Term)) (f : List Term) →
       AreSound p weights (take n (map terms_of all)) found → IsElementOf p (terms_of x) f
       → ((k : ℕ) → first_of (relation_faults weights k (f ∷ [])) ≡ None) →
@@ -46,6 +48,7 @@ module _ {X : Type 0} (terms_of : X → List Term) (all : List X) (n : ℕ) (x :
       subst (λ (ls : List (List Term)). AreSound p weights ls (found ++ others_than_zero (f ∷ []))) (sym so_far)
       (AreSound-push p weights (take n (map terms_of all)) found (terms_of x) f h element none)
 
+  -- where the relations before are sound, an error of the next one is the first of all
   pub error-turn : (p : ℕ) → 0 < p → (weights : List ℕ) (found : List (List Term)) (fault : ReaderFault) →
       AreSound p weights (take n (map terms_of all)) found → IsRelationError p weights (terms_of x) (n + 1) fault
       → IsFirstError p weights (map terms_of all) fault

@@ -84,6 +84,7 @@ understood-from text (t ∷ ts) tree is h =
           ∙ relations-walk p (letters_of tree).names tree.relations d.fit;
     }
 
+-- a text in which no fault has a place is understood
 pub understood : (text : List ℕ) (tokens : List Token) → place_fault (pieces_of text tokens None) None ≡ None → Understood text tokens
 understood text tokens none =
     let t = tree-of (map (λ (piece : Piece). piece.lexeme) (pieces_of text tokens None)) (accepted text tokens none) in
@@ -102,6 +103,7 @@ reduced-total p (t ∷ terms) w =
     by_test true = mod-mod t.coefficient p
     by_test false = refl
 
+-- terms modulo p have residues
 pub reduced-residues : (p : ℕ) → 0 < p → (names : List (List ℕ)) (r : Relation) → HasResidues p (reduced_terms p names r)
 reduced-residues p some names r = All-map (λ (t : Term). t.coefficient < p) (reduced p) (terms_of_relation p names r) (λ k d within. mod-lt _ some)
 
@@ -115,6 +117,7 @@ meanings-from p names (r ∷ rs) (f ∷ fs) h = (
   meanings-from p names rs fs h.1,
 )
 
+-- what is understood means the elements of its relations
 pub means-from : (text : List ℕ) (p : ℕ) (tokens : List Token) (letters : Letters) (meanings : List (List Term)) →
     SplitsFrom text 0 tokens None → place_fault (pieces_of text tokens None) None ≡ None
     → (u : Understood text tokens) → letters ≡ letters_of u.tree →
