@@ -124,6 +124,7 @@ module _ (G : List (List Term)) (words : List (List ℕ)) (lower : (w v : List �
   -- a list that falls and has these words and all that its own words bring
   module _ (all : List (List ℕ)) (falls : AllPairs IsLetterwiseGreater all) (has_words : (w : List ℕ) → Contains words w → Contains all w)
       (has_brought : (w v : List ℕ) (r : List Term) → Contains all w → IsReducer G w r → Contains (words_in r) v → Contains all v) where
+    -- the closure of these words has a list of columns
     pub some_columns : (columns : List (List ℕ)) × AreColumns G words columns
     some_columns =
         let c = closed_from all words falls (λ w m. given w m) in

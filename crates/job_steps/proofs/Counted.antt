@@ -21,6 +21,7 @@ use Rattle.job_steps.specs.States.{SinkState}
 module _ (law : CountsCoefficients) (p : ℕ) (letters : Letters) (relations : List (List Term)) (basis : Elements)
     (st : IsSetting (ideal_over p letters.weights relations)) (same : basis.weights ≡ letters.weights) (kept : IsKept basis)
     (reduced : IsReducedUpto p relations basis) (limit : ℕ) where
+  -- a number of normal words of a degree that is done is its Hilbert coefficient
   pub coefficient : (d n : ℕ) → d ≤ basis.done → IsCount basis.weights basis.elements d n → IsHilbertCoefficient (ideal_over p letters.weights relations) d n
   coefficient d n le c =
       subst (λ (ws : List ℕ). IsHilbertCoefficient (ideal_over p ws relations) d n) same
@@ -40,6 +41,7 @@ module _ (law : CountsCoefficients) (p : ℕ) (letters : Letters) (relations : L
     printed = refl;
   }
 
+  -- where no number up to the bound is above the limit, their text is the whole series
   pub whole_from_counts : (bound : ℕ) (numbers : List ℕ) → bound ≡ basis.done →
       AreCounts basis.weights basis.elements limit (bound + 1) numbers →
       IsWholeSeries p letters relations limit basis.done (series_text numbers)
@@ -60,6 +62,7 @@ module _ (law : CountsCoefficients) (p : ℕ) (letters : Letters) (relations : L
         absurd (omega (arith, at.rest, some, large))
   ]
 
+  -- where one is, the text of those below the first such degree is the cut series
   pub cut_from_large : 0 < limit → (bound d value : ℕ) (below : List ℕ) → bound ≡ basis.done →
       IsFirstLarge basis.weights basis.elements limit bound d value below →
       IsCutSeries p letters relations limit basis.done d value (series_text below)

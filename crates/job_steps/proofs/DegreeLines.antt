@@ -30,6 +30,7 @@ pub if_err : {T E : Type 0} (r : Result T E) (a x : E) (P : E → Type 0) → r 
 if_err (Ok v) a x P e s h = tt
 if_err (Err y) a x P e s h = let is : y ≡ a = cc e in subst P (sym (is ∙ s)) h
 
+-- what is not shown is hidden
 pub is_hidden : (shows : Bool) → not shows ≡ true → shows ≡ false
 is_hidden true e = cc e
 is_hidden false e = refl
@@ -70,11 +71,13 @@ module _ (names : List (List ℕ)) (p : ℕ) (xs : List (List Term)) where
 
   module _ (h k m : SinkState) (a b c : ℕ) (element : List Term) (low : a ≤ b) (below : b < c) (within : c ≤ length xs)
       (is : element ≡ get_or xs b element) where
+    -- one more element is written
     pub written_more : GainsAll h k (lines a b) → GainsAll k m (element_line names p element) → GainsAll h m (lines a (b + 1))
     written_more w v =
         subst (GainsAll h m) (sym (lines_more a b element low (omega (arith, below, within)) is))
         (all_behind h k m (lines a b) (element_line names p element) w v)
 
+    -- or not, and then the lines up to a later place are not written whole
     pub unwritten_more : (fault : PrintFault) → GainsAll h k (lines a b) → IsUnwritten k m (element_line names p element) fault →
         IsUnwritten h m (lines a c) fault
     unwritten_more fault w u =
@@ -126,6 +129,7 @@ module _ (names : List (List ℕ)) (p : ℕ) (weights : List ℕ) (d done : ℕ)
       pub degree_written : GainsAll k m element_lines → GainsAll h m text
       degree_written v = subst (GainsAll h m) (sym degree_lines) (all_behind h k m (head_line d) element_lines own_head v)
 
+      -- its lines were not written whole behind its head
       pub degree_unwritten : (fault : PrintFault) → IsUnwritten k m element_lines fault → IsUnwritten h m text fault
       degree_unwritten fault u = subst (λ (t : List ℕ). IsUnwritten h m t fault) (sym degree_lines)
           (unwritten_behind h k m (head_line d) element_lines fault own_head u)
@@ -140,6 +144,7 @@ module _ (t : Task) (old new : Elements) (same : old.weights ≡ t.letters.weigh
   abbrev added_lines : List ℕ
   added_lines = degree_text t.letters.names t.modulus new.done added
 
+  -- what was added is the reduced basis of the next degree, in which no quantity passes
   pub is_next : IsNext t old added
   is_next = record {
     reduced = subst (λ (n : ℕ). IsReducedBasis (ideal_of_task t) n added) done
@@ -152,9 +157,11 @@ module _ (t : Task) (old new : Elements) (same : old.weights ≡ t.letters.weigh
   lines_are is = ap (λ (n : ℕ). degree_text t.letters.names t.modulus n added) done
       ∙ ap (λ (b : Bool). lines_of b t.letters.names t.modulus (old.done + 1) added) (sym is)
 
+  -- its lines were gained, where the basis is shown
   pub shown_next : (a b : SinkState) → t.shows_basis ≡ true → GainsAll a b added_lines → OfNext t old (GainsAll a b)
   shown_next a b is w = (added, is_next, subst (GainsAll a b) (lines_are is) w)
 
+  -- nothing was gained, where it is hidden
   pub hidden_next : (a b : SinkState) → t.shows_basis ≡ false → GainsAll a b [] → OfNext t old (GainsAll a b)
   hidden_next a b is w = (
     added,
@@ -162,12 +169,14 @@ module _ (t : Task) (old new : Elements) (same : old.weights ≡ t.letters.weigh
     subst (λ (shows : Bool). GainsAll a b (lines_of shows t.letters.names t.modulus (old.done + 1) added)) (sym is) w,
   )
 
+  -- its lines were not gained whole, where the basis is shown
   pub undone_shown : (a b : SinkState) (Here Next : Type 0) (fault : PrintFault) → t.shows_basis ≡ true → Next → IsUnwritten a b added_lines fault →
       IsNextUndone t old a b Here Next fault
   undone_shown a b Here Next (Limit kind d value) is next u = absurd u
   undone_shown a b Here Next WriteFault is next u = (u.0, (added, is_next, subst (GainsPart a b) (lines_are is) u.1), next)
   undone_shown a b Here Next NoMemory is next u = inr ((added, is_next, subst (GainsSome a b) (lines_are is) u), next)
 
+  -- the elements of a basis have residues of the modulus
   pub residues_of : IsSetting (ideal_of_task t) → IsKept new → All (HasResidues t.modulus) new.elements
   residues_of st kept =
       let below : IsBelow (ideal_of_task t) (new.done + 1) new =

@@ -71,6 +71,7 @@ module _ (t : Task) (text : List ℕ) (so_far : IsBasisSoFar t t.bound text) whe
     due_with_series series (inl h) = inr (whole, whole_reach series h, whole_text series h, refl)
     due_with_series series (inr h) = inr (crowded h.0 h.1, cut_reach h.0 h.1 series h.2, cut_text h.0 h.1 series h.2, refl)
 
+    -- the whole series is gained behind the basis
     pub done_with_series : (a b c : SinkState) (series : List ℕ) → GainsAll a b text →
         IsWholeSeries t.modulus t.letters t.relations t.normal_words t.bound series → GainsAll b c series → HasPrinted t whole a c
     done_with_series a b c series w is v = record {
@@ -80,6 +81,7 @@ module _ (t : Task) (text : List ℕ) (so_far : IsBasisSoFar t t.bound text) whe
       appended = Appends-trans a.held b.held c.held text series w.appended v.appended;
     }
 
+    -- the series is not gained whole behind the basis, so the task is not done
     pub undone_series : IsSetting (ideal_of_task t) →
         (a b c : SinkState) (Holds : ℕ → Type 0) (fault : PrintFault) → Holds t.bound → GainsAll a b text →
         IsSeriesUndone t.modulus t.letters t.relations t.normal_words t.bound b c fault → IsUndone t a c Holds fault

@@ -104,6 +104,7 @@ module _ (ideal : Ideal) (st : IsSetting ideal) (d : ℕ) (below : Elements) (ba
       omega (arith, some_terms basis (λ f m. ((is_basis.exactly f).0 m).monic), ap terms_in same, h.2, le, bounds)
   few_by kind number bounds q h le = absurd bounds
 
+  -- where no quantity passes and a limit bounds the elements, the reduced basis has at most 16,777,216
   pub few_elements : (limits : List (LimitKind × ℕ)) (l : LimitKind × ℕ) → Contains limits l → BoundsElements l.0 l.1 →
       NonePasses (IsQuantity ideal below d) limits → length basis ≤ 16777216
   few_elements limits l among bounds none =

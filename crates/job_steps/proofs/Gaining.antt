@@ -13,12 +13,15 @@ use Rattle.job_steps.specs.Gains.{GainsAll, GainsPart, GainsSome, IsUnwritten}
 use Rattle.job_steps.specs.Progress.{IsBeginning}
 use Rattle.job_steps.specs.States.{SinkState}
 
+-- a text begins with itself
 pub beginning_self : (x : List ℕ) → IsBeginning x x
 beginning_self x = record { rest = []; joined = sym (append-nil x) }
 
+-- a beginning of a beginning is one of the whole
 pub beginning_trans : (x y z : List ℕ) → IsBeginning x y → IsBeginning y z → IsBeginning x z
 beginning_trans x y z a b = record { rest = a.rest ++ b.rest; joined = b.joined ∙ ap (λ (l : List ℕ). l ++ b.rest) a.joined ∙ append_assoc x a.rest b.rest }
 
+-- the same behind a first part
 pub beginning_behind : (x y z : List ℕ) → IsBeginning y z → IsBeginning (x ++ y) (x ++ z)
 beginning_behind x y z a = record { rest = a.rest; joined = ap (λ (l : List ℕ). x ++ l) a.joined ∙ sym (append_assoc x y a.rest) }
 
@@ -38,6 +41,7 @@ cut_of_beginning g x y cut a = record {
   joined = a.joined ∙ ap (λ (l : List ℕ). l ++ a.rest) cut.joined ∙ append_assoc g cut.rest a.rest;
 }
 
+-- a text that is cut short is so behind a first part too
 pub cut_behind : (x g y : List ℕ) → IsCutShort g y → IsCutShort (x ++ g) (x ++ y)
 cut_behind x g y cut = record { rest = cut.rest; more = cut.more; joined = ap (λ (l : List ℕ). x ++ l) cut.joined ∙ sym (append_assoc x g cut.rest) }
 
@@ -54,6 +58,7 @@ room_left (Some k) (Some l) m n falls room = omega (arith, falls, room)
 pub no_room_for : (r : Option ℕ) (x y : List ℕ) → IsBeginning x y → (HasRoom r (length x) → ⊥) → HasRoom r (length y) → ⊥
 no_room_for r x y a none room = none (room_within r (length x) (length y) (omega (arith, ap length a.joined, length-append x a.rest)) room)
 
+-- a count that rose from a later value rose from an earlier one
 pub rose_behind : (f g h : ℕ) → f ≤ g → Rose g h → Rose f h
 rose_behind f g h later rose = omega (arith, later, rose)
 
@@ -65,9 +70,11 @@ room_kept : (r : Option ℕ) → RoomFalls r r 0
 room_kept None = tt
 room_kept (Some k) = omega arith
 
+-- an empty text is gained whole with no write
 pub all_none : (a : SinkState) → GainsAll a a []
 all_none a = record { appended = Appends-nil a.held; falls = room_kept a.room; kept = refl }
 
+-- two texts that are gained whole one after the other are gained as one
 pub all_behind : (a b c : SinkState) (x y : List ℕ) → GainsAll a b x → GainsAll b c y → GainsAll a c (x ++ y)
 all_behind a b c x y w v = record {
   appended = Appends-trans a.held b.held c.held x y w.appended v.appended;
@@ -75,6 +82,7 @@ all_behind a b c x y w v = record {
   kept = v.kept ∙ w.kept;
 }
 
+-- the same where the second was cut short
 pub part_behind : (a b c : SinkState) (x y : List ℕ) → GainsAll a b x → GainsPart b c y → GainsPart a c (x ++ y)
 part_behind a b c x y w part = record {
   gained = x ++ part.gained;
@@ -83,6 +91,7 @@ part_behind a b c x y w part = record {
   no_room = λ room. part.no_room (room_left a.room b.room (length x) (length y) w.falls (subst (HasRoom a.room) (length-append x y) room));
 }
 
+-- the same where some prefix of the second was gained
 pub some_behind : (a b c : SinkState) (x y : List ℕ) → Appends a.held b.held x → GainsSome b c y → GainsSome a c (x ++ y)
 some_behind a b c x y appended part = record {
   gained = x ++ part.gained;
@@ -96,11 +105,13 @@ pub part_front : (a b c : SinkState) (x y : List ℕ) (w : GainsAll a b x) (part
 unfolding part_behind
 part_front a b c x y w part = beginning_front x part.gained
 
+-- the same of some prefix
 pub some_front : (a b c : SinkState) (x y : List ℕ) (appended : Appends a.held b.held x) (part : GainsSome b c y) →
     IsBeginning x (some_behind a b c x y appended part).gained
 unfolding some_behind
 some_front a b c x y appended part = beginning_front x part.gained
 
+-- with no write the empty prefix of each text is gained
 pub some_none : (a : SinkState) (x : List ℕ) → GainsSome a a x
 some_none a x = record { gained = []; appended = Appends-nil a.held; beginning = record { rest = x; joined = refl } }
 
@@ -108,11 +119,13 @@ some_none a x = record { gained = []; appended = Appends-nil a.held; beginning =
 pub appended_none : (a b c : Option (List ℕ)) (x : List ℕ) → Appends a b x → Appends b c [] → Appends a c x
 appended_none a b c x p q = subst (Appends a c) (append-nil x) (Appends-trans a b c x [] p q)
 
+-- a text that was not written behind one that was leaves both together unwritten
 pub unwritten_behind : (a b c : SinkState) (x y : List ℕ) (fault : PrintFault) → GainsAll a b x → IsUnwritten b c y fault → IsUnwritten a c (x ++ y) fault
 unwritten_behind a b c x y (Limit kind d value) w u = absurd u
 unwritten_behind a b c x y WriteFault w u = (rose_from a.faults b.faults c.faults w.kept u.0, part_behind a b c x y w u.1)
 unwritten_behind a b c x y NoMemory w u = some_behind a b c x y w.appended u
 
+-- where a beginning was not written, the whole was not
 pub unwritten_before : (a c : SinkState) (x y : List ℕ) (fault : PrintFault) → IsBeginning x y → IsUnwritten a c x fault → IsUnwritten a c y fault
 unwritten_before a c x y (Limit kind d value) b u = absurd u
 unwritten_before a c x y WriteFault b u = (

@@ -80,6 +80,7 @@ module _ (ideal : Ideal) (st : IsSetting ideal) (d : ℕ) (below : Elements) (is
         ap (degree_of ideal.weights) (sym same) ∙ All-head (λ (s : Term). degree_of ideal.weights s.word ≡ e) t g h.degree,
       )
 
+  -- a relation of the degree has words of it alone
   pub relation_in : (f : List Term) → Contains (of_degree ideal.weights d ideal.relations) f → IsInDegree f
   relation_in f m =
       let r = of_degree-says ideal.weights d ideal.relations f m in
@@ -94,6 +95,7 @@ module _ (ideal : Ideal) (st : IsSetting ideal) (d : ℕ) (below : Elements) (is
       ∙ ap (λ (l : List ℕ). take at w ++ (take (length r) (drop at w) ++ l)) (sym (drop-drop (length r) at w))
       ∙ ap (λ (l : List ℕ). take at w ++ l) (take-append-drop (length r) (drop at w)) ∙ take-append-drop at w
 
+  -- a reducer of a word of the degree has words of it alone
   pub reducer_in : (w v : List ℕ) (r : List Term) → Contains all_words w → IsReducer G w r → Contains (words_in r) v → Contains all_words v
   reducer_in w v r among h m =
       let e = element_of h.element h.among in
@@ -111,6 +113,7 @@ module _ (ideal : Ideal) (st : IsSetting ideal) (d : ℕ) (below : Elements) (is
       (subst (λ (n : ℕ). HasDegree ideal.weights n (product u h.element x)) sum (HasDegree-product ideal.weights e.0 u h.element x e.1.degree))
       v (subst (λ (f : List Term). Contains (words_in f) v) h.is m)
 
+  -- a word of a reducer is the word that it reduces, or less
   pub reducer_less : (w v : List ℕ) (r : List Term) → IsReducer G w r → Contains (words_in r) v → (w ≡ v) ⊎ IsLetterwiseGreater w v
   reducer_less w v r h m =
       let e = element_of h.element h.among in
@@ -137,9 +140,11 @@ module _ (ideal : Ideal) (st : IsSetting ideal) (d : ℕ) (below : Elements) (is
     behind_over : IsOver letters o.behind
     behind_over = All-back (λ n. n < letters) o.shared o.behind right_lead.0
 
+    -- the word of an overlap is one of the degree
     pub overlap_in : Contains all_words (overlap_word o)
     overlap_in = listed_in (overlap_word o) (All-append (λ n. n < letters) (o.before ++ o.shared) o.behind left_lead.0 behind_over) h.degree
 
+    -- its row has words of the degree alone
     pub row_in : IsInDegree (obstruction_row ideal.modulus h.first o.behind o.before h.second)
     row_in =
         let before_over = All-front (λ n. n < letters) o.before o.shared left_lead.0 in

@@ -15,6 +15,7 @@ use Rattle.job_steps.proofs.OneReach.{one_reach, one_task_text}
 use Rattle.job_steps.proofs.Reached.{some_reach}
 use Rattle.job_steps.proofs.Values.{some_quantity}
 
+-- each task that is posed comes exactly so far
 pub has_one_reach : HasOneReach
 has_one_reach t h =
     let some = some_reach t h.setting h.some h.letters h.degrees (some_quantity (ideal_of_task t) h.setting)
@@ -22,6 +23,7 @@ has_one_reach t h =
     none) in
     record { value = some.0; holds = some.1; only = λ reach is. one_reach t h.setting reach some.0 is some.1 }
 
+-- and has exactly one text
 pub has_one_text : HasOneText
 has_one_text t h = let one = has_one_reach t h in one_task_text t h.setting one.value one.holds
 
@@ -58,12 +60,14 @@ module _ (t : Task) where
         let none = no_room_for before.room h.due o.1 o.3 h.part.no_room in
         (o.0, o.1, o.2, record { gained = h.part.gained; appended = h.part.appended; cut_short = cut; no_room = none })
 
+    -- the same of some prefix
     pub outcome_some : (before after : SinkState) → HasPrintedSome t before after → HasGainedSome before after (IsTaskOutcome t)
     outcome_some before after h =
         let o = begun h.due h.begins in
         let own = beginning_trans h.part.gained h.due o.1 h.part.beginning o.3 in
         (o.0, o.1, o.2, record { gained = h.part.gained; appended = h.part.appended; beginning = own })
 
+-- each task that is posed has exactly one status with its text
 pub has_one_outcome : HasOneOutcome
 has_one_outcome t posed =
     let one = has_one_text t posed in

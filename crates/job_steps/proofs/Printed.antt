@@ -20,6 +20,7 @@ use Rattle.job_steps.specs.Progress.{HasLinesBelow, IsBasisPart, IsBasisSoFar, I
 use Rattle.job_steps.specs.States.{SinkState}
 use Rattle.job_steps.proofs.Gaining.{appended_none, beginning_self, part_behind, part_front, rose_from, some_behind, some_front}
 
+-- the texts of more degrees stand behind those of the first
 pub degree_texts-append : (names : List (List ℕ)) (p d : ℕ) (xs ys : List (List (List Term))) →
     degree_texts names p d (xs ++ ys) ≡ degree_texts names p d xs ++ degree_texts names p (d + length xs) ys
 degree_texts-append names p d [] ys = ap (λ (n : ℕ). degree_texts names p n ys) (let e : d ≡ d + 0 = omega arith in e)
@@ -29,6 +30,7 @@ degree_texts-append names p d (x ∷ xs) ys =
     ∙ ap (λ (n : ℕ). degree_texts names p (d + 1) xs ++ degree_texts names p n ys) e)
     ∙ sym (append_assoc (degree_text names p d x) (degree_texts names p (d + 1) xs) (degree_texts names p (d + length (x ∷ xs)) ys))
 
+-- the basis text of no degree is empty
 pub no_basis : (p : ℕ) (letters : Letters) (relations : List (List Term)) → IsBasisText p letters relations 0 []
 no_basis p letters relations = record { bases = []; count = refl; each = λ k within. absurd (omega (arith, within)); printed = refl }
 
@@ -64,6 +66,7 @@ module _ (p : ℕ) (letters : Letters) (relations : List (List Term)) where
   part_next true d text elements h new = basis_next d text elements h new
   part_next false d text elements h new = append-nil text ∙ h
 
+  -- before the first degree the part of the basis is empty, shown or not
   pub part_start : (shows : Bool) → IsPart shows (IsBasisText p letters relations 0) []
   part_start true = no_basis p letters relations
   part_start false = refl
@@ -83,6 +86,7 @@ pub record Stands (t : Task) (d : ℕ) (below : Elements) (text : List ℕ) : Ty
   pub reduced : IsReducedUpto t.modulus t.relations below
   pub so_far : IsBasisSoFar t d text
 
+-- a basis of no degree stands at degree 0 with an empty text
 pub stands_start : (t : Task) (below : Elements) → below.done ≡ 0 → below.weights ≡ t.letters.weights → IsKept below → Stands t 0 below []
 stands_start t below done weights kept = record {
   done = done;
@@ -96,6 +100,7 @@ module _ (t : Task) (d : ℕ) (below : Elements) (text : List ℕ) (s : Stands t
   abbrev lines : List (List Term) → List ℕ
   lines elements = lines_of t.shows_basis t.letters.names t.modulus (below.done + 1) elements
 
+  -- behind the text so far come the lines of the next degree
   pub so_far_next : (elements : List (List Term)) → IsNext t below elements →
       IsBasisSoFar t (d + 1) (text ++ lines elements)
   so_far_next elements next = record {

@@ -152,6 +152,7 @@ module _ (t : Task) (st : IsSetting (ideal_of_task t)) (some : 0 < length t.lett
     | inr large ↦ (crowded large.0 large.1, (none, shows, omega (arith, large.2), large.3))
   ]
 
+  -- a task comes so far, for some reach
   pub some_reach : (reach : Reach) × IsReach t reach
   some_reach = elim (comes_or_refused t.bound (omega arith)) [
     | inl c ↦ with_series t.shows_series refl c.passes_none

@@ -72,6 +72,7 @@ module _ (ideal : Ideal) (st : IsSetting ideal) where
   one_coefficient : (d h k : ℕ) → IsHilbertCoefficient ideal d h → IsHilbertCoefficient ideal d k → h ≡ k
   one_coefficient d h k a b = let dim = has_one_dimension ideal st d in (dim.coefficient h).0 a ∙ sym ((dim.coefficient k).0 b)
 
+  -- where the coefficients below a degree are small, none of them is the first large one
   pub small_and_large : (limit d e value : ℕ) → AreSmallBelow ideal limit e → IsFirstLargeCoefficient ideal limit d value →
       d < e → ⊥
   small_and_large limit d e value small large within =
@@ -104,6 +105,7 @@ module _ (t : Task) (st : IsSetting (ideal_of_task t)) where
   abbrev weights : List ℕ
   weights = t.letters.weights
 
+  -- where no quantity passes up to a degree, none is the first refused one up to there
   pub none_and_refused : (d e value : ℕ) (kind : LimitKind) → PassesNone t e → IsFirstRefused (ideal_of_task t) t.limits t.bound kind d value
       → d ≤ e → ⊥
   none_and_refused d e value kind none first le =
@@ -226,6 +228,7 @@ module _ (t : Task) (st : IsSetting (ideal_of_task t)) where
   ]
   so_far_begins d (crowded e w) x y a rb b = output_begins d (e - 1) x y a b
 
+  -- what was due begins the text of the task
   pub due_begins : (e : ℕ) (s : Reach) (x y : List ℕ) → IsDue t e x → IsReach t s → IsText t s y → IsBeginning x y
   due_begins e s x y (inl a) rb b = so_far_begins e s x y a rb b
   due_begins e s x y (inr a) rb b = subst (IsBeginning x) (one_text a.0 s x y a.1 a.2 rb b) (beginning_self x)
@@ -245,6 +248,7 @@ module _ (t : Task) (st : IsSetting (ideal_of_task t)) where
   unfolding printed_part
   part_upto a c Holds e x due part below holds = (printed_part a c e x due part below, holds)
 
+  -- the same of some prefix
   pub some_upto : (a c : SinkState) (Holds : ℕ → Type 0) (e : ℕ) (x : List ℕ) → IsDue t e x → (part : GainsSome a c x) →
       HasLinesBelow t e part.gained → Holds e → (p : HasPrintedSome t a c) × Holds p.last
   unfolding printed_some

@@ -20,6 +20,7 @@ same_words a b = elim (cases_Bool (bytes_eq a b)) [
   | inr other ↦ inr (λ e. let t : bytes_eq a b ≡ true = here a b e in cc)
 ]
 
+-- an option holds one word at most
 pub some_word : (v w : List ℕ) → Some v ≡ Some w → v ≡ w
 some_word v w e = cc e
 
@@ -110,6 +111,7 @@ module _ (G : List (List Term)) (w : List ℕ) where
       (Contains-map (reducer_by l.at) (kept (StandsAt l.at) (stands_at l.at) G) h.element
       (in_kept (StandsAt l.at) (stands_at l.at) G h.element h.among stands))
 
+  -- each word has a list of all its reducers
   pub has_reducers : HasReducers
   has_reducers = elim (least (suc (length w))) [
     | inl before ↦

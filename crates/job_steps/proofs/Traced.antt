@@ -49,15 +49,18 @@ module _ (May : Accounts) (t : Task) where
             ∙ sym (trace_texts-append t.letters.names 1 h.accounts (account ∷ []));
       }
 
+  -- the trace of no degree is empty
   pub part_start : (traces : Bool) → IsTracePart May t traces 0 []
   part_start true = record { accounts = []; count = refl; each = tt; printed = refl }
   part_start false = refl
 
+  -- behind the trace of degrees 1 to e comes that of the next degree
   pub part_next : (traces : Bool) (e : ℕ) (text : List ℕ) (account : Account) → IsTracePart May t traces e text → IsAccountOf May t (e + 1) account
       → IsTracePart May t traces (e + 1) (text ++ trace_of traces t.letters.names (e + 1) account)
   part_next true e text account h one = trace_next e text account h one
   part_next false e text account h one = ap (λ (l : List ℕ). l ++ []) h
 
+-- nothing is told where nothing has changed
 pub tells_none : (a : TellerState) → Tells a a []
 tells_none a = record {
   later = omega arith;
@@ -97,11 +100,13 @@ module _ (a b c : TellerState) (x y : List ℕ) (w : Tells a b x) (v : Tells b c
     );
   }
 
+  -- two texts that are told one after the other are told as one
   pub tells_behind : Tells a c (x ++ y)
   tells_behind = by_middle b.failed refl
 
 -- the trace that was told stays, or grows by that of a degree
 module _ (May : Accounts) (t : Task) (traces : Bool) (d : ℕ) (a b c : TellerState) where
+  -- nothing more was told
   pub told_here : OfTrace May t traces d (Tells a b) → Tells b c [] → OfTrace May t traces d (Tells a c)
   told_here w v = (w.0, w.1, subst (Tells a c) (append-nil w.0) (tells_behind a b c w.0 [] w.2 v))
 
@@ -126,6 +131,7 @@ module _ (May Now : Accounts) (t : Task) (given : Presentation) (field : ℕ) (m
   next_text account = ap (λ (n : ℕ). trace_of traces given.alphabet.names (n + 1) account) s.done
       ∙ ap (λ (l : Letters). trace_of traces l.names (d + 1) account) letters
 
+  -- the trace of the next degree was told
   pub told_next : (a b c : TellerState) → OfTrace May t traces d (Tells a b) →
       OfNextTrace Now field given below traces (Tells b c) → OfTrace May t traces (d + 1) (Tells a c)
   told_next a b c w v =
@@ -147,5 +153,6 @@ module _ (a c : TellerState) (x : List ℕ) (begun : a.failed ≡ false) (w : Te
     some = (w.part begun is).1;
   }
 
+  -- it was told whole, or the count of faults rose and a prefix was told
   pub told_end : IsTold a.err c.err x
   told_end = by_end c.failed refl

@@ -127,6 +127,7 @@ module _ (ideal : Ideal) (st : IsSetting ideal) (d : ℕ) (below : Elements) (is
         };
       }
 
+  -- each kind of quantity has a value
   pub some_quantity : (kind : LimitKind) → (q : ℕ) × IsQuantity ideal below d kind q
   some_quantity PlainWords = (length (words_of_degree ideal.weights d), refl)
   some_quantity Rows = (length (of_degree ideal.weights d ideal.relations) + length obstructions.0, (obstructions.0, obstructions.1, refl))
