@@ -27,6 +27,7 @@ use Rattle.bergman_cli.specs.Normal.{AreAnswers, HasManyTriples, HasNone, IsAnsw
 use Rattle.bergman_cli.proofs.AnswerTexts.{AreAnswers-append}
 use Rattle.bergman_cli.proofs.Places.{none_next}
 
+-- no number of triples is both at most the limit and above it
 pub few_are_not_many : (n : ℕ) → n ≤ most_triples → most_triples < n → ⊥
 few_are_not_many n few many = omega (arith, few, many)
 

@@ -34,6 +34,7 @@ module _ (p : ℕ) (unread rest : SourceState) where
   input_not NoMemory h none memory = memory refl
   input_not status h none memory = h
 
+  -- a job without a reading ends with a status of the input or for want of memory
   pub ungiven_not : (command : Command) (status : Status) → IsUngivenTo command p unread rest status → (IsOfInput status → ⊥) → status ≢ NoMemory → ⊥
   ungiven_not command status h none memory = elim (make_or_reads command) [
     | inl make ↦ memory (subst (λ (c : Command). IsUngivenTo c p unread rest status) make h)
@@ -88,18 +89,21 @@ module _ (job : Job) (unread rest : SourceState) (before after : SinkState) wher
   abbrev Ends : Status → Type 0
   Ends = IsJobEnd job unread rest before after
 
+  -- a job does not end with a usage fault
   pub job_reads : (status : Status) → Ends status → ReadsNothing status → ⊥
   job_reads status (inl h) none = ungiven_not job.modulus unread rest job.command status h.0 (not_both_input status none) (λ is. subst ReadsNothing is none)
   job_reads status (inr h) none =
       never job h.letters h.relations before after job.command status (not_both status none)
       (λ is. subst ReadsNothing is none) (λ is. subst ReadsNothing is none) h.holds
 
+  -- where a job ends by itself, the text of an outcome with this status was gained
   pub job_own : (status : Status) → Ends status → IsOwn status → OfGiven job unread.left rest.left
       (λ letters relations. HasGained before after (IsOutcome job letters relations status))
   job_own status (inl h) own = absurd (ungiven_not job.modulus unread rest job.command status h.0 (own_is_not_of_input status own)
       (own_is_not status NoMemory (λ none. none) own))
   job_own status (inr h) own = given_so job unread.left rest.left _ _ h (work_gained job h.letters h.relations before after job.command status h.holds own)
 
+  -- where it ends at its input, its command reads the source and the input has this end
   pub job_input : (status : Status) → Ends status → IsOfInput status → ReadsSource job.command × IsInputEnd job.modulus unread rest status
   job_input status (inl h) of = elim (make_or_reads job.command) [
     | inl make ↦ absurd (of_input_is_not status NoMemory (λ none. none) of (subst (λ (c : Command). IsUngivenTo c job.modulus unread rest status) make h.0))
@@ -109,15 +113,18 @@ module _ (job : Job) (unread rest : SourceState) (before after : SinkState) wher
       absurd (never job h.letters h.relations before after job.command status (λ own. own_is_not_of_input status own of)
       (of_input_is_not status WriteFault (λ none. none) of) (of_input_is_not status NoMemory (λ none. none) of) h.holds)
 
+  -- where it ends with a write fault, the count of faults rose
   pub job_write : Ends WriteFault → Rose before.faults after.faults
   job_write (inl h) = absurd (ungiven_not job.modulus unread rest job.command WriteFault h.0 (λ none. none) (λ is. cc))
   job_write (inr h) = work_write job h.letters h.relations before after job.command h.holds
 
+  -- and a proper prefix of the text of an outcome was gained
   pub job_part : job.bound ≤ 64 → Ends WriteFault → OfGiven job unread.left rest.left (λ letters relations. HasWrittenPart job letters relations before after)
   job_part few (inl h) = absurd (ungiven_not job.modulus unread rest job.command WriteFault h.0 (λ none. none) (λ is. cc))
   job_part few (inr h) = given_so job unread.left rest.left _ _ h
       (work_part job h.letters h.relations before after (gb_posed job h.letters h.relations few h.alphabet h.setting) job.command h.holds)
 
+  -- where memory is wanting, nothing was gained or some prefix of such a text
   pub job_memory : job.bound ≤ 64 → Ends NoMemory →
       Appends before.held after.held [] ⊎ OfGiven job unread.left rest.left (λ letters relations. HasWrittenSome job letters relations before after)
   job_memory few (inl h) = inl h.1
@@ -149,17 +156,21 @@ module _ (words : List (List ℕ)) (unread rest : SourceState) (before after : S
   job_of_end status end some = (as_job status some).1 end
 
   module _ (status : Status) (end : End status) where
+    -- where a run ends by itself, the text of an outcome of its job was gained
     pub end_own : IsOwn status → OfWork words unread.left rest.left (λ job letters relations. HasGained before after (IsOutcome job letters relations status))
     end_own own = let e = job_of_end status end (λ none. not_both status none own) in
         (e.0, e.1, job_own e.0 unread rest before after status e.2 own)
 
+    -- where it ends at its input, its command reads the source and the input has this end
     pub end_input : IsOfInput status → OfJob words (λ job. ReadsSource job.command × IsInputEnd job.modulus unread rest status)
     end_input of = let e = job_of_end status end (λ none. not_both_input status none of) in
         (e.0, e.1, job_input e.0 unread rest before after status e.2 of)
 
+    -- where it ends with a write fault, the count of faults rose
     pub end_write : status ≡ WriteFault → Rose before.faults after.faults
     end_write is = let e = subst End is end in job_write e.0 unread rest before after e.2
 
+    -- and a proper prefix of the text of an outcome was gained
     pub end_part : status ≡ WriteFault → OfWork words unread.left rest.left (λ job letters relations. HasWrittenPart job letters relations before after)
     end_part is = let e = subst End is end in (
       e.0,
@@ -168,6 +179,7 @@ module _ (words : List (List ℕ)) (unread rest : SourceState) (before after : S
           (bound_range words e.0 e.1).1 e.2,
     )
 
+    -- where memory is wanting, nothing was gained or some prefix of such a text
     pub end_memory : status ≡ NoMemory →
         Appends before.held after.held [] ⊎ OfWork words unread.left rest.left (λ job letters relations. HasWrittenSome job letters relations before after)
     end_memory is =
@@ -188,5 +200,6 @@ module _ (words : List (List ℕ)) (unread rest : SourceState) (before after : S
       | inr some ↦ absurd (fault_and_job fault _ h (job_of_end status end some))
     ]
 
+    -- a run ends with a usage fault exactly where its words have this fault
     pub usage_exactly : (fault : UsageFault) (status : Status) → End status → (status ≡ Usage fault) ↔ IsUsageFault words fault
     usage_exactly fault status end = (λ is. subst End is end, λ h. usage_only fault status h end)

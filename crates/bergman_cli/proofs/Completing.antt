@@ -130,11 +130,13 @@ module _ (words : List (List ℕ)) (unread rest : SourceState) (before after : S
       let some : ReadsNothing status → ⊥ = λ none. reads_nothing_not End (λ fault h. no_fault words one job fault is h) status none end in
       same_job status (job_of_end words unread rest before after status end some)
 
+  -- where a status of the job has its cause, the run ends with it or with a mishap
   pub job_completes : HasOneReading → (own status : Status) → End status → IsCaused job unread.left own →
       (status ≡ own) ⊎ IsMishap job.command own unread rest before after status
   job_completes law own status end cause = caused_comes job law (modulus_some job.modulus (listed words job is)) unread rest before after own status
       (ends_of status end) cause
 
+-- so each run completes
 pub completes : (words : List (List ℕ)) (unread rest : SourceState) (before after : SinkState) → HasOneAnswer words → HasOneReading
     → (status : Status) → IsEnd words unread rest before after status → Completes words unread rest before after status
 completes words unread rest before after one law status end job own is cause =

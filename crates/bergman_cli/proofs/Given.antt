@@ -23,27 +23,33 @@ pub make_or_reads : (command : Command) → (command ≡ commands.Make) ⊎ Read
 make_or_reads commands.Make = inl refl
 make_or_reads command = inr tt
 
+-- make is no command that reads its source
 pub make_reads_nothing : (command : Command) → command ≡ commands.Make → ReadsSource command → ⊥
 make_reads_nothing command is reads = subst ReadsSource is reads
 
 module _ (job : Job) (left now : Option (List ℕ)) (text : List ℕ) where
+  -- with a command that reads its source the given text is the input
   pub given_input : (command : Command) → ReadsSource command → IsGivenTo command job left now text → IsInput left now text
   given_input commands.Make reads h = absurd reads
   given_input command reads h = h
 
+  -- and back
   pub input_given : (command : Command) → ReadsSource command → IsInput left now text → IsGivenTo command job left now text
   input_given commands.Make reads h = absurd reads
   input_given command reads h = h
 
+  -- and the text that is told is what the source has left, at most 1,048,576 bytes
   pub told_input : (command : Command) → ReadsSource command → IsToldTo command job left text → (left ≡ Some text) × (length text ≤ 1048576)
   told_input commands.Make reads h = absurd reads
   told_input command reads h = h
 
 module _ (p : ℕ) (unread rest : SourceState) (status : Status) where
+  -- with such a command the input has the end for which there was no reading
   pub ungiven_input : (command : Command) → ReadsSource command → IsUngivenTo command p unread rest status → IsInputEnd p unread rest status
   ungiven_input commands.Make reads h = absurd reads
   ungiven_input command reads h = h
 
+  -- and back
   pub input_ungiven : (command : Command) → ReadsSource command → IsInputEnd p unread rest status → IsUngivenTo command p unread rest status
   input_ungiven commands.Make reads h = absurd reads
   input_ungiven command reads h = h
@@ -53,6 +59,7 @@ told_text : (xs text : List ℕ) (now : Option (List ℕ)) → IsInput (Some xs)
 told_text xs text None h = absurd h.taken
 told_text xs text (Some ys) h = h.taken ∙ ap (λ (l : List ℕ). text ++ l) h.at_end ∙ append-nil text
 
+-- where a source tells what it has left, this is its input
 pub input_is : (left now : Option (List ℕ)) (text own : List ℕ) → left ≡ Some text → IsInput left now own → text ≡ own
 input_is left now text own told h = told_text text own now (subst (λ (l : Option (List ℕ)). IsInput l now own) told h)
 
@@ -81,12 +88,15 @@ reading_is_no_fault l rs fault e = cc
 
 -- a text has one reading or one first fault
 module _ (law : HasOneReading) (text : List ℕ) (p : ℕ) (some : 0 < p) where
+  -- two readings of a text are one
   pub one_reading : (l m : Letters) (rs ss : List (List Term)) → Reads text p l rs → Reads text p m ss → (l ≡ m) × (rs ≡ ss)
   one_reading l m rs ss h k = let one = law text p some in outcome_readings l m rs ss (one.only (reading l rs) h ∙ sym (one.only (reading m ss) k))
 
+  -- two first faults of a text are one
   pub one_text_fault : (f g : InputFault) → FirstFault text p f → FirstFault text p g → f ≡ g
   one_text_fault f g h k = let one = law text p some in outcome_faults f g (one.only (refused f) h ∙ sym (one.only (refused g) k))
 
+  -- a text with a reading has no first fault
   pub no_text_fault : (l : Letters) (rs : List (List Term)) (fault : InputFault) → Reads text p l rs → FirstFault text p fault → ⊥
   no_text_fault l rs fault h k = let one = law text p some in reading_is_no_fault l rs fault (one.only (reading l rs) h ∙ sym (one.only (refused fault) k))
 

@@ -57,11 +57,13 @@ module _ (words : List (List ℕ)) (job : Job) (j : IsJob words job) where
   required : (command : Command) → job.command ≡ command → AllStand command
   required command is = subst AllStand is j.complete
 
+  -- the modulus of a job is a listed one
   pub listed : Contains listed_moduli job.modulus
   listed =
       let t = told words job keys.Mod j (modulus_stands job.command j.complete) in
       subst (Contains listed_moduli) (sym (one_count job.modulus t.1.number t.1.value_is)) t.1.listed
 
+  -- its bound is from 1 to 64
   pub bound_range : (1 ≤ job.bound) × (job.bound ≤ 64)
   bound_range = let t = told words job keys.Deg j (bound_stands job.command j.complete) in in_range 1 64 job.bound t.0 t.1
 
@@ -74,9 +76,11 @@ module _ (words : List (List ℕ)) (job : Job) (j : IsJob words job) where
   ask_range : job.command ≡ Normal → (1 ≤ job.ask) × (job.ask ≤ 4096)
   ask_range is = let t = told words job keys.Ask j (required Normal is 2 keys.Ask (lit< tt)) in in_range 1 4096 job.ask t.0 t.1
 
+-- a job has a worker or more
 pub some_workers : (words : List (List ℕ)) (job : Job) → IsJob words job → 1 ≤ job.workers
 some_workers words job j = (workers_range words job j).0
 
+-- it has at most 64 workers
 pub few_workers : (words : List (List ℕ)) (job : Job) → IsJob words job → job.workers ≤ 64
 few_workers words job j = (workers_range words job j).1
 
@@ -96,11 +100,14 @@ module _ (words : List (List ℕ)) (one : HasOneAnswer words) where
   same_answer : (a b : Result Job UsageFault) → a ≡ one.answer → b ≡ one.answer → a ≡ b
   same_answer a b e f = e ∙ sym f
 
+  -- two jobs of the same words are one
   pub one_job : (j k : Job) → IsJob words j → IsJob words k → j ≡ k
   one_job j k a b = let e : Ok j ≡ Ok k = same_answer (Ok j) (Ok k) (one.only (Ok j) a) (one.only (Ok k) b) in cc
 
+  -- words that are a job have no usage fault
   pub no_fault : (j : Job) (f : UsageFault) → IsJob words j → IsUsageFault words f → ⊥
   no_fault j f a b = let e : Ok j ≡ Err f = same_answer (Ok j) (Err f) (one.only (Ok j) a) (one.only (Err f) b) in cc
 
+  -- two usage faults of the same words are one
   pub one_fault : (f g : UsageFault) → IsUsageFault words f → IsUsageFault words g → f ≡ g
   one_fault f g a b = let e : Err f ≡ Err g = same_answer (Err f) (Err g) (one.only (Err f) a) (one.only (Err g) b) in cc

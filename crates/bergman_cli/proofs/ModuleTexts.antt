@@ -94,10 +94,12 @@ module _ (job : Job) (given : Presentation) (p : ℕ) (field : p ≡ job.modulus
   pub basis_shown : job.show ≡ shows.Basis → (text : List ℕ) → BasisText p text → IsModuleText job given.alphabet given.relations text
   basis_shown is text h = shown shows.Basis is text [] text (own_basis text h) refl (sym (append-nil text))
 
+  -- the series alone
   pub series_shown : job.show ≡ shows.Series → (numbers text : List ℕ) → AreModuleNumbers p given job.gens job.bound numbers →
       text ≡ module_series_text numbers → IsModuleText job given.alphabet given.relations text
   series_shown is numbers text h same = shown shows.Series is [] (module_series_text numbers) text refl (own_series numbers h) same
 
+  -- the basis and behind it the series
   pub both_shown : job.show ≡ shows.Both → (numbers basis text : List ℕ) → BasisText p basis →
       AreModuleNumbers p given job.gens job.bound numbers → text ≡ basis ++ module_series_text numbers
       → IsModuleText job given.alphabet given.relations text

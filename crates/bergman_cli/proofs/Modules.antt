@@ -138,6 +138,7 @@ module _ (job : Job) (letters : Letters) (relations : List (List Term)) where
     one_module_status (Limit k d v) other a b = absurd b
     one_module_status status other a b = absurd a
 
+  -- the status that is due is one that the work ends with by itself
   pub module_status_own : (status : Status) → Due status → IsOwn status
   module_status_own Done h = tt
   module_status_own (Input (TooFewNames names)) h = tt

@@ -96,6 +96,7 @@ module _ (job : Job) (letters : Letters) (relations : List (List Term)) where
   ending_own (too_many place) = tt
   ending_own answered = tt
 
+  -- the status that is due is one that the work ends with by itself
   pub normal_status_own : (status : Status) → IsNormalStatus job letters relations status → IsOwn status
   normal_status_own status h = subst IsOwn (sym h.2) (ending_own h.0)
 

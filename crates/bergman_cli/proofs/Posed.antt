@@ -19,6 +19,7 @@ bounding : (engine : EngineKind) → (limit : LimitKind × ℕ) × Contains (lim
 bounding Plain = ((PlainWords, 4096), (0, omega arith, refl), omega arith)
 bounding engine = ((Terms, 16777216), (4, omega arith, refl), omega arith)
 
+-- on an alphabet with relations over a field, up to at most 64 degrees, the task of gb is posed
 pub gb_posed : (job : Job) (letters : Letters) (relations : List (List Term)) → job.bound ≤ 64 → IsAlphabet letters →
     IsSetting (ideal_over job.modulus letters.weights relations) → IsPosed (gb_task job letters relations)
 gb_posed job letters relations degrees alphabet st =
@@ -33,6 +34,7 @@ gb_posed job letters relations degrees alphabet st =
       bounds = b.2;
     }
 
+-- so each job with gb has exactly one status with its text
 pub has_one_gb_outcome : HasOneGbOutcome
 has_one_gb_outcome job letters relations sound alphabet st =
     has_one_outcome (gb_task job letters relations) (gb_posed job letters relations sound.few_degrees alphabet st)

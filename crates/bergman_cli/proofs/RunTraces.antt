@@ -117,6 +117,7 @@ module _ (p : ℕ) (given : Presentation) (limits : List (LimitKind × ℕ)) (as
     abbrev Undone : Task → Bool → PrintFault → Type 0
     Undone t traces fault = IsUndone t before after (λ e. OfTrace May t traces e Told) fault
 
+    -- where the task is done, the trace that was told is its own
     pub told_done : OfTrace May (task_of p given limits asked) asked.trace asked.bound Told → Traced Done
     told_done h = done_traced May (accounts_of job) task own_setting (traces_of job) engine.accounts before after Told
         (moved (λ t b. OfTrace May t b t.bound Told) h)
@@ -125,15 +126,18 @@ module _ (p : ℕ) (given : Presentation) (limits : List (LimitKind × ℕ)) (as
     undone_by : (fault named : PrintFault) → fault ≡ named → Undone (task_of p given limits asked) asked.trace fault → Undone task (traces_of job) named
     undone_by fault named same h = moved (λ t b. Undone t b named) (subst (λ (f : PrintFault). Undone (task_of p given limits asked) asked.trace f) same h)
 
+    -- where a limit stops it
     pub told_limit : (kind : LimitKind) (d value : ℕ) (fault : PrintFault) → fault ≡ stops.Limit kind d value →
         Undone (task_of p given limits asked) asked.trace fault → Traced (Limit kind d value)
     told_limit kind d value fault same h = limit_traced May (accounts_of job) task own_setting
         (traces_of job) engine.accounts before after Told kind d value (undone_by fault (stops.Limit kind d value) same h)
 
+    -- where a write failed
     pub told_write : (fault : PrintFault) → fault ≡ stops.WriteFault → Undone (task_of p given limits asked) asked.trace fault → Traced WriteFault
     told_write fault same h = write_traced May (accounts_of job) task own_setting (traces_of job) engine.accounts before after
         Told (undone_by fault stops.WriteFault same h)
 
+    -- where memory was wanting
     pub told_memory : (fault : PrintFault) → fault ≡ stops.NoMemory → Undone (task_of p given limits asked) asked.trace fault → Traced NoMemory
     told_memory fault same h = memory_traced May (accounts_of job) task own_setting (traces_of job) engine.accounts before after Told
         (undone_by fault stops.NoMemory same h)
@@ -200,6 +204,7 @@ module _ (words : List (List ℕ)) (left now : Option (List ℕ)) (before after 
     none_of : (status : Status) → (IsTraced status → ⊥) → IsWorkTrace job letters relations before after status trace → trace ≡ []
     none_of status none h = untraced job letters relations before after trace job.command status none h
 
+    -- the trace of the work is that of the run
     pub work_trace : (status : Status) → IsWorkTrace job letters relations before after status trace → Traces status trace
     work_trace Done h = given_trace Done h
     work_trace (Limit kind d value) h = given_trace (Limit kind d value) h

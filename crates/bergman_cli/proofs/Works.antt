@@ -47,6 +47,7 @@ module _ (job : Job) (letters : Letters) (relations : List (List Term)) where
   outcome_due Normal status text h = (h.0, h.1, h.2)
   outcome_due command status text h = h.0
 
+  -- the status that is due is one that work ends with by itself
   pub due_own : (command : Command) (status : Status) → Due command status → IsOwn status
   due_own Gb status h = task_status_own (gb_task job letters relations) status h
   due_own Make status h = task_status_own (make_task job letters relations) status h
@@ -100,15 +101,18 @@ module _ (job : Job) (letters : Letters) (relations : List (List Term)) where
         (of_parts (Outcome Normal) before after status (λ is. subst IsOwn is own) h) own
     work_gained command status h own = answered_gained (Outcome command) before after status h own
 
+    -- where work ends with a write fault, the count of faults rose
     pub work_write : (command : Command) → Ends command statuses.WriteFault → Rose before.faults after.faults
     work_write Gb h = h.0
     work_write command h = h.0
 
     module _ (posed : IsPosed (gb_task job letters relations)) where
+      -- and a proper prefix of the text of an outcome was gained
       pub work_part : (command : Command) → Ends command statuses.WriteFault → HasWrittenPartOf command job letters relations before after
       work_part Gb h = (outcome_part (gb_task job letters relations) posed before after h.1, h.1)
       work_part command h = h.1
 
+      -- where memory is wanting, nothing was gained or some prefix of such a text
       pub work_memory : (command : Command) → Ends command statuses.NoMemory →
           Appends before.held after.held [] ⊎ HasWrittenSomeOf command job letters relations before after
       work_memory Gb h = inr (outcome_some (gb_task job letters relations) posed before after h, h)
