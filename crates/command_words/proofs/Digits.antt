@@ -41,7 +41,7 @@ says_listed m xs h = list_any-from_Any (λ y. y == m) xs (h.0, m, h.1, h.2, same
 le_says : (m n : ℕ) → nat_le m n ≡ true → m ≤ n
 le_says m n e = grind (arith, nat_tests)
 
--- the listed moduli are from 2 to 1000003
+-- no listed modulus is above 1000003
 listed_small : All (λ p. p ≤ 1000003) listed_moduli
 listed_small k d within = le_says (get_or listed_moduli k d) 1000003 (AllPass-from_list_all (λ p. nat_le p 1000003) listed_moduli refl k d within)
 

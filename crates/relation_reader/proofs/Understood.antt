@@ -59,7 +59,7 @@ pub record Understood (text : List ℕ) (tokens : List Token) : Type 0 where
   pub terms : (p : ℕ) → gathered p (letters_of tree).names (fresh p [] [] false) (listed [] [] 1 (lexemes_of text (drop 1 tokens))).rest
       ≡ map (reduced_terms p (letters_of tree).names) tree.relations
 
--- a text begins with `vars`
+-- a text whose lexemes spell a tree and are fit is understood
 understood-from : (text : List ℕ) (tokens : List Token) (tree : Tree) → map (λ (piece : Piece). piece.lexeme) (pieces_of text tokens None) ≡ spelled tree
     → AreFit [] (Some places.Beginning) (map (λ (piece : Piece). piece.lexeme) (pieces_of text tokens None)) → Understood text tokens
 understood-from text [] tree is h = absurd (let e : the_end ∷ [] ≡ spelled tree = is in cc)
