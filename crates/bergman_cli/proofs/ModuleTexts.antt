@@ -90,7 +90,7 @@ module _ (job : Job) (given : Presentation) (p : ℕ) (field : p ≡ job.modulus
     joined = joined;
   }
 
-  -- the basis alone, the series alone, and both
+  -- the basis alone
   pub basis_shown : job.show ≡ shows.Basis → (text : List ℕ) → BasisText p text → IsModuleText job given.alphabet given.relations text
   basis_shown is text h = shown shows.Basis is text [] text (own_basis text h) refl (sym (append-nil text))
 

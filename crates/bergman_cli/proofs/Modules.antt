@@ -151,7 +151,7 @@ module _ (job : Job) (letters : Letters) (relations : List (List Term)) where
   module_quiet Done text h none = absurd none
   module_quiet status text h none = h
 
-  -- a text that is not empty is that of the whole module
+  -- a text that is not empty is written
   pub module_writes : (status : Status) (text : List ℕ) → IsTextWith job letters relations status text → text ≢ [] → Writes Module status
   module_writes Done text h some = tt
   module_writes (Products d value) text h some = tt
