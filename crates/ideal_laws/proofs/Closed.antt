@@ -23,6 +23,7 @@ multiples-widened u v (m ∷ ms) =
     product-append u (terms_of m) (flat_map terms_of ms) v ∙ (λ i. terms_of-widened u v m i ++ multiples-widened u v ms i)
 
 module _ (p : ℕ) (weights : List ℕ) (aw : AreWeights weights) where
+  -- the product of an element by words over the letters is an element, of the degrees of the three together
   pub IsElement-product : (d : ℕ) (u : List ℕ) (f : List Term) (v : List ℕ) → IsOver (length weights) u → IsOver (length weights) v → IsElement p weights d f
       → IsElement p weights (degree_of weights u + d + degree_of weights v) (product u f v)
   IsElement-product d u f v hu hv e = record {
@@ -32,6 +33,7 @@ module _ (p : ℕ) (weights : List ℕ) (aw : AreWeights weights) where
     degree = HasDegree-product weights d u f v e.degree;
   }
 
+  -- the product of a member by words over the letters is a member, of the degrees of the three together
   pub inside_product : (relations : List (List Term)) (d : ℕ) (u : List ℕ) (f : List Term) (v : List ℕ) → IsOver (length weights) u →
       IsOver (length weights) v → IsInIdeal (ideal_over p weights relations) d f
       → IsInIdeal (ideal_over p weights relations) (degree_of weights u + d + degree_of weights v) (product u f v)
@@ -50,6 +52,7 @@ module _ (p : ℕ) (weights : List ℕ) (aw : AreWeights weights) where
     sum = λ w. IsSame-product p u f (flat_map terms_of i.multiples) v i.sum w ∙ ap (λ (g : List Term). total_at g w % p) (multiples-widened u v i.multiples);
   }
 
+-- where the leading word of f is w, that of u * f * v is u * w * v
 pub lead-product : (u : List ℕ) (f : List Term) (v w : List ℕ) → lead_of f ≡ Some w → lead_of (product u f v) ≡ Some (u ++ w ++ v)
 lead-product u [] v w e = cc e
 lead-product u (t ∷ f) v w e = let is : t.word ≡ w = cc e in ap (λ (x : List ℕ). Some (u ++ x ++ v)) is

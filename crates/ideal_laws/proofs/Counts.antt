@@ -25,14 +25,17 @@ module _ {X : Type 0} (p : X → Bool) where
   unfolding counted
   count_by-later x xs e = sym (counted-is (x ∷ xs)) ∙ ap (λ (b : Bool). cond b (1 + counted xs) (counted xs)) e ∙ counted-is xs
 
+  -- where each member of a list passes the test, as many pass as the list is long
   pub count_by-all : (xs : List X) → All (λ x. p x ≡ true) xs → count_by p xs ≡ length xs
   count_by-all [] h = refl
   count_by-all (x ∷ xs) h = count_by-first x xs (All-head (λ x. p x ≡ true) x xs h) ∙ ap suc (count_by-all xs (All-tail (λ x. p x ≡ true) x xs h))
 
+  -- where each member of a list fails the test, none passes
   pub count_by-none : (xs : List X) → All (λ x. p x ≡ false) xs → count_by p xs ≡ 0
   count_by-none [] h = refl
   count_by-none (x ∷ xs) h = count_by-later x xs (All-head (λ x. p x ≡ false) x xs h) ∙ count_by-none xs (All-tail (λ x. p x ≡ false) x xs h)
 
+  -- of two lists joined as many members pass the test as of the one and of the other together
   pub count_by-append : (xs ys : List X) → count_by p (xs ++ ys) ≡ count_by p xs + count_by p ys
   count_by-append [] ys = omega arith
   count_by-append (x ∷ xs) ys = elim (cases_Bool (p x)) [
@@ -52,6 +55,7 @@ not_ltb a b le = elim (cases_Bool (ltb a b)) [
   | inr fails ↦ fails
 ]
 
+-- the test of equality is false of two numbers that differ
 pub not_eqb : (a b : ℕ) → (a ≡ b → ⊥) → (a == b) ≡ false
 not_eqb a b ne = elim (cases_Bool (a == b)) [
   | inl holds ↦ absurd (ne (eqb-true a b holds))
@@ -65,18 +69,23 @@ module _ {X : Type 0} (key : X → ℕ) where
   abbrev upto : ℕ → List X → ℕ
   upto d xs = count_by (λ x. leb (key x) d) xs
 
+  -- where each key is at most d, as many members have a key up to d as the list is long
   pub upto-all : (d : ℕ) (xs : List X) → All (λ x. key x ≤ d) xs → upto d xs ≡ length xs
   upto-all d xs h = count_by-all (λ x. leb (key x) d) xs (λ k e within. le-leb _ d (h k e within))
 
+  -- where each key is above d, no member has a key up to d
   pub upto-none : (d : ℕ) (xs : List X) → All (λ x. d < key x) xs → upto d xs ≡ 0
   upto-none d xs h = count_by-none (λ x. leb (key x) d) xs (λ k e within. not_leb _ d (h k e within))
 
+  -- where each key is d or more, no member has a key below d
   pub below-none : (d : ℕ) (xs : List X) → All (λ x. d ≤ key x) xs → below d xs ≡ 0
   below-none d xs h = count_by-none (λ x. ltb (key x) d) xs (λ k e within. not_ltb _ d (h k e within))
 
+  -- two lists joined have as many members with a key up to d as the one and the other together
   pub upto-append : (d : ℕ) (xs ys : List X) → upto d (xs ++ ys) ≡ upto d xs + upto d ys
   upto-append d xs ys = count_by-append (λ x. leb (key x) d) xs ys
 
+  -- as many members have a key below d + 1 as have one up to d
   pub below-suc : (d : ℕ) (xs : List X) → below (suc d) xs ≡ upto d xs
   below-suc d [] = refl
   below-suc d (x ∷ xs) = elim (cases_lt d (key x)) [
@@ -86,6 +95,7 @@ module _ {X : Type 0} (key : X → ℕ) where
         ∙ sym (count_by-first (λ x. leb (key x) d) x xs (le-leb (key x) d le))
   ]
 
+  -- no more members have a key below d than have one up to d
   pub below-le-upto : (d : ℕ) (xs : List X) → below d xs ≤ upto d xs
   below-le-upto d [] = omega arith
   below-le-upto d (x ∷ xs) = elim (cases_lt d (key x)) [
@@ -146,5 +156,6 @@ module _ {X : Type 0} (key : X → ℕ) where
         ]
       ]
 
+  -- no member has a key below 0
   pub below-zero : (xs : List X) → below 0 xs ≡ 0
   below-zero xs = below-none 0 xs (λ k e within. omega arith)

@@ -106,6 +106,7 @@ module _ (ideal : Ideal) (st : IsSetting ideal) where
   abbrev pub less : Vd → Vd → Vd
   less a b y = Kd.add (a y) (Kd.mul (Kd.neg Kd.one) (b y))
 
+  -- a vector less itself is 0 at each word
   pub less_itself : (a : Vd) (y : List ℕ) → less a a y ≡ Kd.zero
   less_itself a y = ap (Kd.add (a y)) (Kd.mul_comm (Kd.neg Kd.one) (a y) ∙ mul_neg Kd (a y) Kd.one ∙ ap Kd.neg (Kd.mul_one (a y))) ∙ Kd.add_neg (a y)
 
@@ -120,11 +121,13 @@ module _ (ideal : Ideal) (st : IsSetting ideal) where
         | inr (inr h) ↦ absurd (letterwise-apart h.of_f h.of_g h.greater (some_same h.of_f h.of_g (sym h.leads_f ∙ lg ∙ sym lf ∙ h.leads_g)))
       ]
 
+  -- the leading word of a lower element has the degree of the element
   pub lower_degree : (d : ℕ) (g : List Term) (m : List ℕ) → (l : IsLower ideal st d g) → lead_of g ≡ Some m → degree_of ideal.weights m ≡ l.degree
   lower_degree d [] m l e = cc e
   lower_degree d (t ∷ g) m l e = let is : t.word ≡ m = cc e in ap (degree_of ideal.weights) (sym is)
       ∙ All-head (λ (s : Term). degree_of ideal.weights s.word ≡ l.degree) t g l.reduced.inside.element.degree
 
+  -- the leading word of a lower element is over the letters
   pub lead_over : (d : ℕ) (g : List Term) (m : List ℕ) → IsLower ideal st d g → lead_of g ≡ Some m → IsOver (length ideal.weights) m
   lead_over d [] m l e = cc e
   lead_over d (t ∷ g) m l e = let is : t.word ≡ m = cc e in subst (IsOver (length ideal.weights)) is
@@ -267,6 +270,7 @@ module _ (ideal : Ideal) (st : IsSetting ideal) where
       ∙ one_times s.coefficient (vec (product (u ++ s.word ++ c) (t ∷ h) v) y) lg.reduced.monic)))
       (IsInSpan-add Kd (List ℕ) _ _ _ y_below (IsInSpan-scaled Kd (List ℕ) _ (Kd.neg Kd.one) (vec (by_second u c v (s ∷ g) h)) x_below))
 
+  -- the leading word of a lower product of degree e has degree e
   pub lower_word : (d e : ℕ) (x : List ℕ) (f : Vd) → IsLowerProduct ideal st d e x f → degree_of ideal.weights x ≡ e
   lower_word d e x f h = ap (degree_of ideal.weights) h.word ∙ degree_of-round ideal.weights h.left h.lead h.right
       ∙ ap (λ (n : ℕ). degree_of ideal.weights h.left + n + degree_of ideal.weights h.right) (lower_degree d h.element h.lead h.lower h.is_lead)
@@ -388,6 +392,8 @@ module _ (ideal : Ideal) (st : IsSetting ideal) where
         (span_from_ideal ideal st.modulus (degree_of ideal.weights whole) (product [] g b)
         (lower_inside ideal st d (degree_of ideal.weights whole) whole (vec (product [] g b)) first_product))
 
+    -- where lower elements g and h have the leading words a * c and c * b, none of the three empty, g * b - a * h is in the span of the
+    -- products of the degree of a * c * b
     pub obstruction_member : IsMemberVector ideal st.modulus st (degree_of ideal.weights whole) (vec (obstruction_row ideal.modulus g b a h))
     obstruction_member = same_span Kd (List ℕ) _ difference _ (λ y. Kd.add_comm (Kd.mul (Kd.neg Kd.one) (vec (product a h []) y))
         (vec (product [] g b) y) ∙ sym (row_difference y)) member_difference
@@ -451,6 +457,8 @@ module _ (ideal : Ideal) (st : IsSetting ideal) where
           (λ y. row_difference y ∙ ap₂ (λ (f k : List Term). less (vec f) (vec k) y) first second)
           (IsInSpan-one Kd (List ℕ) _ (vec (obstruction_row ideal.modulus g b a h)) (row (row_of e)))
 
+      -- so where u * (a * c * b) * v has degree d, the product of g at this word less that of h is a sum of multiples of products with
+      -- smaller leading words and of rows of obstructions
       pub overlapping : IsInSpan Kd (List ℕ) (IsBelow d w) (less (vec (product u g (b ++ v))) (vec (product (u ++ a) h v)))
       overlapping = elim (cases_lt (degree_of ideal.weights whole) d) [
         | inl lt ↦ inner_overlap lt

@@ -244,6 +244,7 @@ module _ (ideal : Ideal) (st : IsSetting ideal) (d : ℕ) where
             ∙ sym (vector_of_combination (factors_of v es) es (λ g n. n) w)),
       )
 
+  -- the number of the leading words of a degree is a dimension of it
   pub has_dimension : IsDimension ideal d (length (leading_words ideal fmd st d))
   has_dimension = record {
     members = members;
@@ -329,6 +330,7 @@ module _ (ideal : Ideal) (st : IsSetting ideal) (d : ℕ) where
       (λ y. sym (vector_of_element ideal fmd st d e.1 member y) ∙ same_vectors ideal.modulus fmd f (combination c.0 fs) c.2 y)
       ∙ readings-combination ideal.modulus fmd dep.factors es c.0 fs dep.sum) dep.other
 
+  -- each dimension of a degree is the number of its leading words
   pub only_dimension : (k : ℕ) → IsDimension ideal d k → k ≡ length (leading_words ideal fmd st d)
   only_dimension k h = elim (cases_lt (length h.members) (length (leading_words ideal fmd st d))) [
     | inl fewer ↦ absurd (at_least h.members h.spanning fewer)
@@ -395,6 +397,7 @@ module _ (ideal : Ideal) (st : IsSetting ideal) (d : ℕ) where
   joined_column w (inl m) = lead_column w (listed_leading ideal fmd st d w m)
   joined_column w (inr m) = (kept-says IsNoLead (λ w. turned w (decide w)) columns w m).0
 
+  -- a degree has one dimension, the number of its leading words, and one Hilbert coefficient, the number of its other words
   pub dimension_of_degree : HasDimension ideal d
   dimension_of_degree = record {
     leading = leading_words ideal fmd st d;
@@ -414,5 +417,6 @@ module _ (ideal : Ideal) (st : IsSetting ideal) (d : ℕ) where
     );
   }
 
+-- over a field of residues each degree of an ideal has exactly one dimension and one Hilbert coefficient
 pub has_one_dimension : HasOneDimension
 has_one_dimension ideal st d = dimension_of_degree ideal st d

@@ -38,6 +38,7 @@ factors_from w i = map (λ n. take n (drop i w)) (range_with_len 0 (suc (length 
 abbrev pub factors : List ℕ → List (List ℕ)
 factors w = flat_map (factors_from w) (range_with_len 0 (suc (length w)))
 
+-- each factor of a word is in the list of its factors
 pub factor_listed : (v w : List ℕ) → IsFactor v w → Contains (factors w) v
 factor_listed v w i =
     let sizes = ap length i.joined ∙ length-append (i.before ++ v) i.after in
@@ -50,6 +51,7 @@ factor_listed v w i =
     (Contains-map (λ n. take n (drop (length i.before) w)) (range_with_len 0 (suc (length w))) (length v)
     (Contains-range 0 (suc (length w)) (length v) (omega arith) (omega (arith, sizes, length-append i.before v)))))
 
+-- the list of the factors of a word has factors of it alone
 pub listed_factor : (v w : List ℕ) → Contains (factors w) v → IsFactor v w
 listed_factor v w h =
     let i = Contains-flat_map_cases (factors_from w) (range_with_len 0 (suc (length w))) v h in
@@ -61,9 +63,11 @@ listed_factor v w h =
           ∙ ap (λ (r : List ℕ). take i.0 w ++ r) (take-append-drop n.0 (drop i.0 w)) ∙ take-append-drop i.0 w);
     }
 
+-- a word is a factor of itself
 pub factor_itself : (w : List ℕ) → IsFactor w w
 factor_itself w = record { before = []; after = []; joined = sym (append-nil w) }
 
+-- a factor of a factor of a word is a factor of the word
 pub factor_trans : (u v w : List ℕ) → IsFactor u v → IsFactor v w → IsFactor u w
 factor_trans u v w i j = record {
   before = j.before ++ i.before;
@@ -71,10 +75,12 @@ factor_trans u v w i j = record {
   joined = j.joined ∙ ap (λ (x : List ℕ). j.before ++ x ++ j.after) i.joined ∙ simp append_assoc refl;
 }
 
+-- what holds of each letter of a * b holds of each letter of a
 pub All-front : (P : ℕ → Type 0) (a b : List ℕ) → All P (a ++ b) → All P a
 All-front P [] b h = All-nil P
 All-front P (x ∷ a) b h = All-cons P x a (All-head P x (a ++ b) h) (All-front P a b (All-tail P x (a ++ b) h))
 
+-- what holds of each letter of a * b holds of each letter of b
 pub All-back : (P : ℕ → Type 0) (a b : List ℕ) → All P (a ++ b) → All P b
 All-back P [] b h = h
 All-back P (x ∷ a) b h = All-back P a b (All-tail P x (a ++ b) h)
@@ -96,17 +102,19 @@ module _ (ideal : Ideal) (st : IsSetting ideal) where
       apart : bytes_eq v w ≡ false → v ≢ w
       apart f e = let t : bytes_eq v w ≡ true = here v w e in cc
 
-  -- a leading word is minimal, or has a proper factor that is a leading word
+  -- w is minimal, or has a proper factor that is a leading word
   pub data IsMinimalOr (w : List ℕ) : Type 0 where
     minimal : IsMinimal ideal w → IsMinimalOr w
     inside : (v : List ℕ) → IsProperFactor v w → IsLeadingWord ideal (degree_of ideal.weights v) v → IsMinimalOr w
 
+  -- a leading word is minimal, or has a proper factor that is a leading word
   pub minimal_or : (w : List ℕ) → IsLeadingWord ideal (degree_of ideal.weights w) w → IsMinimalOr w
   minimal_or w l = elim (search_list (IsOther w) (is_other w) (factors w)) [
     | found v m h ↦ inside v (record { inside = listed_factor v w m; other = h.0 }) h.1
     | none all ↦ minimal (record { leading = l; none_inside = λ v proper k. all v (factor_listed v w proper.inside) (proper.other, k) })
   ]
 
+  -- a word is minimal or not
   pub is_minimal : (w : List ℕ) → IsMinimal ideal w ⊎ (IsMinimal ideal w → ⊥)
   is_minimal w = elim (is_leading ideal st.modulus st (degree_of ideal.weights w) w) [
     | inr not ↦ inr (λ m. not m.leading)
@@ -143,6 +151,7 @@ module _ (ideal : Ideal) (st : IsSetting ideal) where
         lead = lead-product i.before l.member i.after v l.lead ∙ ap Some (sym i.joined);
       }
 
+-- a word over the letters is a leading word exactly where some factor of it is minimal
 pub factor_law : IsFactorLaw
 factor_law ideal st w over = (
   minimal_inside ideal st (length w) w (omega arith),

@@ -16,6 +16,7 @@ use Rattle.ideal_laws.specs.Ideal.{ideal_over}
 use Rattle.ideal_laws.specs.Kept.{IsKept, IsKeptElement, IsStored, StandsBefore, count_below, count_upto, lead_degree}
 use Rattle.ideal_laws.proofs.Counts.{not_eqb, upto-all, upto-append, upto-none, with_key}
 
+-- the leading word of a monic polynomial whose words all have degree d has degree d
 pub lead_degree-is : (weights : List ℕ) (d : ℕ) (f : List Term) → IsMonic f → HasDegree weights d f → lead_degree weights f ≡ d
 lead_degree-is weights d [] m h = absurd m
 lead_degree-is weights d (t ∷ f) m h = All-head (λ (s : Term). degree_of weights s.word ≡ d) t f h
@@ -26,6 +27,7 @@ of_degree-filter weights d ([] ∷ fs) m = absurd (All-head IsMonic [] fs m)
 of_degree-filter weights d ((t ∷ f) ∷ fs) m =
     ap (λ (gs : List (List Term)). cond (degree_of weights t.word == d) ((t ∷ f) ∷ gs) gs) (of_degree-filter weights d fs (All-tail IsMonic (t ∷ f) fs m))
 
+-- the elements of degree d of two lists joined are those of the first and then those of the second
 pub of_degree-append : (weights : List ℕ) (d : ℕ) (fs gs : List (List Term)) → of_degree weights d (fs ++ gs) ≡ of_degree weights d fs ++ of_degree weights d gs
 of_degree-append weights d [] gs = refl
 of_degree-append weights d ([] ∷ fs) gs = of_degree-append weights d fs gs
@@ -37,6 +39,7 @@ of_degree-append weights d ((t ∷ f) ∷ fs) gs = by_test (degree_of weights t.
     by_test true e = ap (λ (hs : List (List Term)). (t ∷ f) ∷ hs) e
     by_test false e = e
 
+-- where no leading word has degree d, the list has no element of degree d
 pub of_degree-none : (weights : List ℕ) (d : ℕ) (fs : List (List Term)) → All (λ f. lead_degree weights f ≢ d) fs → of_degree weights d fs ≡ []
 of_degree-none weights d [] h = refl
 of_degree-none weights d ([] ∷ fs) h = of_degree-none weights d fs (All-tail (λ f. lead_degree weights f ≢ d) [] fs h)
@@ -45,6 +48,7 @@ of_degree-none weights d ((t ∷ f) ∷ fs) h =
     (not_eqb (degree_of weights t.word) d (All-head (λ f. lead_degree weights f ≢ d) (t ∷ f) fs h))
     ∙ of_degree-none weights d fs (All-tail (λ f. lead_degree weights f ≢ d) (t ∷ f) fs h)
 
+-- where each element is monic and all its words have degree d, the elements of degree d are the whole list
 pub of_degree-all : (weights : List ℕ) (d : ℕ) (fs : List (List Term)) → All IsMonic fs → All (HasDegree weights d) fs → of_degree weights d fs ≡ fs
 of_degree-all weights d [] m h = refl
 of_degree-all weights d ([] ∷ fs) m h = absurd (All-head IsMonic [] fs m)
@@ -145,6 +149,7 @@ module _ (basis : Elements) (added : List (List Term)) (next : AreNext basis add
         ∙ omega (arith, upto-append (lead_degree basis.weights) d basis.elements added, none)
   ]
 
+  -- where a basis with fewer than 64 degrees is stored, it is stored with the next degree too, whose end is the number of all elements
   pub stored_grown : (ends : List ℕ) → IsStored basis ends → basis.done < 64 →
       IsStored (grown basis added) (set ends (basis.done + 1) (length (basis.elements ++ added)))
   stored_grown ends h room = record {

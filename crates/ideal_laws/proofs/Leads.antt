@@ -47,9 +47,11 @@ module _ (p : ℕ) (fm : IsFieldModulus p) where
   zero_entry : (v : V) (x : List ℕ) → v x ≡ K.zero → ((v x).0 == 0) ≡ true
   zero_entry v x e = ap (λ (n : Residue p). n.0 == 0) e ∙ ap (λ (n : ℕ). n == 0) (zero-mod p)
 
+  -- a vector whose entry at x is the number 0 is 0 at x
   pub zero_from : (v : V) (x : List ℕ) → ((v x).0 == 0) ≡ true → v x ≡ K.zero
   zero_from v x e = same_residue p _ _ (eqb-true (v x).0 0 e ∙ sym (zero-mod p))
 
+  -- where a vector is 1 at x, its entry there is not the number 0
   pub one_entry : (v : V) (x : List ℕ) → v x ≡ K.one → ((v x).0 == 0) ≡ false
   one_entry v x e = ap (λ (n : Residue p). n.0 == 0) e ∙ ap (λ (n : ℕ). n == 0) (mod-eq_of_lt {n = 1} {m = p} (omega (arith, fm.two_or_more)))
 
@@ -137,6 +139,7 @@ module _ (ideal : Ideal) (fm : IsFieldModulus ideal.modulus) (st : IsSetting ide
   abbrev pub IsMemberVector : Vd → Type 0
   IsMemberVector = IsInSpan Kd (List ℕ) (IsProductVector ideal fm d)
 
+  -- the products of a degree have reduced rows over the words of the degree
   pub found : (es : List (List ℕ × Vd)) × IsBasis Kd (List ℕ) columns vectors_of_degree es
   found = eliminated Kd (List ℕ) columns vectors_of_degree
 
@@ -154,13 +157,14 @@ module _ (ideal : Ideal) (fm : IsFieldModulus ideal.modulus) (st : IsSetting ide
       let q = listed_product ideal.weights st.are_weights ideal.modulus (positive ideal.modulus fm) ideal.relations d r.0 r.1 in
       record { multiple = q.multiple; is_multiple = q.is_multiple; is = r.2 ∙ ap (vectors.vector_of ideal.modulus fm) q.is }
 
+  -- at the words of the degree a member is the sum of the rows, each times the member's entry at the leading column of the row
   pub had_from_rows : (v : Vd) → IsMemberVector v → AreSameAt Kd (List ℕ) columns v (sum_of Kd (List ℕ) (from_leads Kd (List ℕ) rows v))
   had_from_rows v s = found.1.coordinates v (span_weaker ideal.modulus fm _ _ product_vector_listed v s)
 
   in_columns : (w : List ℕ) → IsOver (length ideal.weights) w → degree_of ideal.weights w ≡ d → Contains columns w
   in_columns w over e = subst (λ (n : ℕ). Contains (words_of_degree ideal.weights n) w) e (listed_word ideal.weights st.are_weights w over)
 
-  -- members are 0 off the words of the degree
+  -- a product is 0 off the words of the degree
   product_off : (v : Vd) → IsProductVector ideal fm d v → (w : List ℕ) → (Contains columns w → ⊥) → v w ≡ Kd.zero
   product_off v h w off =
       let m = h.multiple in let i = h.is_multiple in
@@ -171,12 +175,14 @@ module _ (ideal : Ideal) (fm : IsFieldModulus ideal.modulus) (st : IsSetting ide
       (subst (Contains columns) e (in_columns (get_or f k t).word (letters k t within) (i.degree k t within)))) in
       ap (λ (u : Vd). u w) h.is ∙ same_residue ideal.modulus _ _ (ap (λ (n : ℕ). n % ideal.modulus) none)
 
+  -- a member is 0 off the words of the degree
   pub member_off : (v : Vd) → IsMemberVector v → (w : List ℕ) → (Contains columns w → ⊥) → v w ≡ Kd.zero
   member_off v s w off = IsInSpan-zero_at Kd (List ℕ) (IsProductVector ideal fm d) w (λ g h. product_off g h w off) v s
 
   abbrev pub element_from : Vd → List Term
   element_from v = from_words columns (entries ideal.modulus fm v)
 
+  -- the element from a member has at each word the member's entry as its coefficient
   pub total_of_element : (v : Vd) → IsMemberVector v → (w : List ℕ) → total_at (element_from v) w ≡ (v w).0
   total_of_element v s w = elim (listed columns w) [
     | inl m ↦ from_words-total columns (entries ideal.modulus fm v) w (words_of_degree-falling ideal.weights st.are_weights d) m
@@ -184,9 +190,11 @@ module _ (ideal : Ideal) (fm : IsFieldModulus ideal.modulus) (st : IsSetting ide
         (ap (λ (n : Residue ideal.modulus). n.0) (member_off v s w off) ∙ zero-mod ideal.modulus)
   ]
 
+  -- the vector of the element from a member is this member at each word
   pub vector_of_element : (v : Vd) → IsMemberVector v → (w : List ℕ) → vectors.vector_of ideal.modulus fm (element_from v) w ≡ v w
   vector_of_element v s w = same_residue ideal.modulus _ _ (ap (λ (n : ℕ). n % ideal.modulus) (total_of_element v s w) ∙ mod-eq_of_lt (v w).1)
 
+  -- the element from a vector is an element of the degree
   pub element_form : (v : Vd) → IsElement ideal.modulus ideal.weights d (element_from v)
   element_form v = record {
     form = from_words-polynomial columns (entries ideal.modulus fm v) (words_of_degree-falling ideal.weights st.are_weights d);
@@ -197,6 +205,7 @@ module _ (ideal : Ideal) (fm : IsFieldModulus ideal.modulus) (st : IsSetting ide
         (λ x m ne. (words_of_degree-says ideal.weights st.are_weights d x m).1);
   }
 
+  -- the element from a member is in the ideal
   pub element_inside : (v : Vd) → IsMemberVector v → IsInIdeal ideal d (element_from v)
   element_inside v s = ideal_from_span ideal fm d (element_from v) (element_form v)
       (record { parts = s.parts; each = s.each; sum = λ w. vector_of_element v s w ∙ s.sum w })
@@ -216,21 +225,25 @@ module _ (ideal : Ideal) (fm : IsFieldModulus ideal.modulus) (st : IsSetting ide
     | inr n ↦ row_inside gs es h.1 e n
   ]
 
+  -- each row is a member
   pub row_member : (e : List ℕ × Vd) → Contains rows e → IsMemberVector e.1
   row_member e m = span_weaker ideal.modulus fm _ _ listed_product_vector e.1 (row_inside vectors_of_degree rows found.1.inside e m)
 
   abbrev pub leading_words : List (List ℕ)
   leading_words = map (λ (e : List ℕ × Vd). e.0) rows
 
+  -- each leading word of the degree is the leading column of a row
   pub leading_listed : (w : List ℕ) → IsLeadingWord ideal d w → Contains leading_words w
   leading_listed w l =
       let v = vectors.vector_of ideal.modulus fm l.member in
       lead_among ideal.modulus fm columns rows found.1.reduced v (had_from_rows v (span_from_ideal ideal fm d l.member l.inside)) w
       (ap lead_of (sym (member_is l.member l.inside)) ∙ l.lead)
 
+  -- the element from a row has the leading column of the row as its leading word
   pub row_leads : (e : List ℕ × Vd) → Contains rows e → lead_of (element_from e.1) ≡ Some e.0
   row_leads e m = lead_of_row ideal.modulus fm columns rows found.1.reduced e m
 
+  -- the leading column of a row is a leading word of the degree
   pub listed_leading : (w : List ℕ) → Contains leading_words w → IsLeadingWord ideal d w
   listed_leading w h =
       let r = Contains-map_cases (λ (e : List ℕ × Vd). e.0) rows w h in

@@ -25,7 +25,7 @@ use Rattle.ideal_laws.specs.Laws.{IsRelation, IsSetting}
 use Rattle.ideal_laws.specs.Overlaps.{AreLower, ListsFactorFree, ListsLower}
 use Rattle.ideal_laws.proofs.OneBasis.{monic-led, monic_total, some_same}
 
--- a polynomial other than 0 is listed in the degree of its leading word, and one that is listed has this degree
+-- a polynomial other than 0 of a list is listed in the degree of its leading word
 pub of_degree-has : (weights : List ℕ) (d : ℕ) (fs : List (List Term)) (g : List Term) → Contains fs g → g ≢ [] → lead_degree weights g ≡ d →
     Contains (of_degree weights d fs) g
 of_degree-has weights d [] g m other e = absurd (Contains-none g m)
@@ -45,6 +45,7 @@ of_degree-has weights d ((t ∷ f) ∷ fs) g m other e = elim (Contains-cases (t
     by_test true n = Contains-more (t ∷ f) (of_degree weights d fs) g n
     by_test false n = n
 
+-- what is listed in degree d is in the list, and its leading word has degree d
 pub of_degree-says : (weights : List ℕ) (d : ℕ) (fs : List (List Term)) (g : List Term) → Contains (of_degree weights d fs) g →
     Contains fs g × (lead_degree weights g ≡ d)
 of_degree-says weights d [] g m = absurd (Contains-none g m)
@@ -72,6 +73,7 @@ positive_product weights aw u (t ∷ r) v other words h =
     )
 
 module _ (ideal : Ideal) (st : IsSetting ideal) where
+  -- a list of multiples of relations of degree 0 is empty
   pub none_of_degree_0 : (ms : List Multiple) → All (IsMultiple ideal 0) ms → ms ≡ []
   none_of_degree_0 [] h = refl
   none_of_degree_0 (m ∷ ms) h =
@@ -156,6 +158,7 @@ module _ (p : ℕ) (relations : List (List Term)) (below : Elements) (st : IsSet
       apart : bytes_eq v w ≡ false → v ≢ w
       apart f e = let t : bytes_eq v w ≡ true = (bytes_eq-Decides v w).1 e in cc
 
+-- a basis with the reduced basis of each degree below d lists exactly the reduced elements of these degrees
 pub lists_lower : ListsLower
 lists_lower ideal st d below h =
     let own = subst (λ (ws : List ℕ). IsSetting (record ideal { weights = ws })) (sym h.same_weights) st in
@@ -163,15 +166,18 @@ lists_lower ideal st d below h =
     (subst (λ (ws : List ℕ). AreLower (record ideal { weights = ws }) (below.done + 1) below.elements) h.same_weights
     (lower ideal.modulus ideal.relations below own h.kept h.reduced))
 
+-- in a basis with the reduced basis of each degree below d no leading word is a factor of another
 pub lists_factor_free : ListsFactorFree
 lists_factor_free ideal st d below h =
     factor_free ideal.modulus ideal.relations below (subst (λ (ws : List ℕ). IsSetting (record ideal { weights = ws })) (sym h.same_weights) st) h.kept
     h.reduced
 
--- so its elements are polynomials with residues
+-- a list of exactly the reduced elements of degrees below d
 module _ (ideal : Ideal) (d : ℕ) (G : List (List Term)) (lower : AreLower ideal d G) where
+  -- its elements are polynomials
   pub lower_forms : All IsPolynomial G
   lower_forms = All-from_members IsPolynomial G (λ g m. ((lower g).0 m).2.inside.element.form)
 
+  -- all coefficients of its elements are residues
   pub lower_residues : All (HasResidues ideal.modulus) G
   lower_residues = All-from_members (HasResidues ideal.modulus) G (λ g m. ((lower g).0 m).2.inside.element.residues)

@@ -15,6 +15,7 @@ pub record IsSplit (a x b y : List ℕ) : Type 0 where
   pub longer : b ≡ a ++ between
   pub rest : x ≡ between ++ y
 
+-- where a * x and b * y are one word, and a is no longer than b, there is a word c with b = a * c and x = c * y
 pub split : (a x b y : List ℕ) → a ++ x ≡ b ++ y → length a ≤ length b → IsSplit a x b y
 split [] x b y e le = record { between = b; longer = refl; rest = e }
 split (c ∷ a) x [] y e le = absurd (omega (arith, le))
@@ -34,6 +35,8 @@ pub data IsMet (u m v u' n v' : List ℕ) : Type 0 where
   starts : (b : List ℕ) → b ≢ [] → u' ≡ u → n ≡ m ++ b → v ≡ b ++ v' → IsMet u m v u' n v'
   overlap : (a c b : List ℕ) → a ≢ [] → c ≢ [] → b ≢ [] → u' ≡ u ++ a → m ≡ a ++ c → n ≡ c ++ b → v ≡ b ++ v' → IsMet u m v u' n v'
 
+-- of two factors m and n of one word, m beginning no later, n stands behind m or inside it, or is longer and begins where m does,
+-- or overlaps m on the right
 pub meet : (u m v u' n v' : List ℕ) → u ++ (m ++ v) ≡ u' ++ (n ++ v') → length u ≤ length u' → IsMet u m v u' n v'
 meet u m v u' n v' e le =
     let s = split u (m ++ v) u' (n ++ v') e le in
@@ -94,6 +97,7 @@ module _ (u c v : List ℕ) where
       let right = total_at-append (scaled t.coefficient (product u g (c ++ t.word ++ v))) (by_second g h) w in
       omega (arith, left, right, same, one_first s g h w)
 
+  -- the sum taken by the terms of h has at each word the same coefficient as the sum taken by those of g
   pub both_ways : (g h : List Term) (w : List ℕ) → total_at (by_second g h) w ≡ total_at (by_first g h) w
   both_ways [] h w = by_second-none h w
   both_ways (s ∷ g) h w =

@@ -28,6 +28,7 @@ pub record IsEnded (v : List ℕ) : Type 0 where
   pub last : ℕ
   pub is : v ≡ front ++ last ∷ []
 
+-- a word that is not empty has a last letter
 pub ended : (v : List ℕ) → v ≢ [] → IsEnded v
 ended [] ne = absurd (ne refl)
 ended (x ∷ []) ne = record { front = []; last = x; is = refl }
@@ -153,6 +154,7 @@ module _ (ideal : Ideal) (st : IsSetting ideal) where
               (product [] r (front ++ x ∷ [])) h,
         )
 
+    -- a product u * r * v of degree d, of a relation r other than 0 by words over the letters, is a neighbour of degree d
     pub product_neighbour : (u : List ℕ) (r : List Term) (v : List ℕ) → r ≢ [] → Contains ideal.relations r → IsOver (length ideal.weights) u
         → IsOver (length ideal.weights) v
         → HasDegree ideal.weights d (product u r v) → IsNeighbour ideal d (product u r v)
@@ -182,6 +184,7 @@ module _ (ideal : Ideal) (st : IsSetting ideal) where
     same_parts [] = refl
     same_parts (m ∷ ms) = ap (λ (f : List Term). terms_of m ++ f) (same_parts ms)
 
+    -- a member of degree d is a sum of multiples of neighbours of degree d
     pub spanned : (f : List Term) → IsInIdeal ideal d f → IsSpanned ideal.modulus (IsNeighbour ideal d) f
     spanned f i = record {
       parts = map part_of i.multiples;
@@ -225,6 +228,7 @@ module _ (ideal : Ideal) (st : IsSetting ideal) where
     abbrev pub vector_part : Part → Residue ideal.modulus × V
     vector_part c = (vectors.of ideal.modulus fm c.factor, vectors.vector_of ideal.modulus fm c.element)
 
+    -- the vector of a sum of multiples of elements is the sum of these multiples of their vectors
     pub vector_of-parts : (cs : List Part) (w : List ℕ) → vectors.vector_of ideal.modulus fm (flat_map part_terms cs) w ≡ sum_of K (List ℕ) (map vector_part cs)
         w
     vector_of-parts [] w = same_residue ideal.modulus _ _ refl
@@ -254,5 +258,6 @@ module _ (ideal : Ideal) (st : IsSetting ideal) where
       sum = s.sum;
     })
 
+-- an element of a degree of 1 or more is a member exactly where it is a sum of multiples of neighbours
 pub neighbour_span : IsNeighbourSpan
 neighbour_span ideal st d pos f e = (spanned ideal st d f, from_neighbours ideal st d f e)

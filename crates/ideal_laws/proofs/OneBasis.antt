@@ -35,6 +35,7 @@ use Rattle.ideal_laws.proofs.Search.{AllPairs-kept, in_kept, kept, kept-says, sa
 use Rattle.ideal_laws.proofs.Vectors.{span_from_ideal}
 use Rattle.ideal_laws.proofs.Vectors as vectors
 
+-- two words of which the options are one are one
 pub some_same : (a b : List ℕ) → Some a ≡ Some b → a ≡ b
 some_same a b e = cc e
 
@@ -42,6 +43,7 @@ some_same a b e = cc e
 pub greater_strict : (f : List Term) → HasGreaterLead f f → ⊥
 greater_strict f h = letterwise-apart h.of_f h.of_g h.greater (some_same h.of_f h.of_g (sym h.leads_f ∙ h.leads_g))
 
+-- the order of elements by their leading words is transitive
 pub greater_trans : (f g h : List Term) → HasGreaterLead f g → HasGreaterLead g h → HasGreaterLead f h
 greater_trans f g h a b = record {
   of_f = a.of_f;
@@ -59,6 +61,7 @@ pub record IsLed (f : List Term) (w : List ℕ) : Type 0 where
   pub is : f ≡ first ∷ rest
   pub word : first.word ≡ w
 
+-- a polynomial with the leading word w is a term at w and a rest
 pub led : (f : List Term) (w : List ℕ) → lead_of f ≡ Some w → IsLed f w
 led [] w e = cc e
 led (t ∷ f) w e = record { first = t; rest = f; is = refl; word = cc e }
@@ -72,7 +75,7 @@ below-all P (t ∷ f) w e h q =
     (All-contains (λ s. IsLetterwiseGreater t.word s.word) f s (AllPairs-first (λ s t. IsLetterwiseGreater s.word t.word) t f h.falling)
     m)))
 
--- what stands at the leading word of a monic polynomial, and at a word that is none of the others
+-- a monic polynomial has the coefficient 1 at its leading word
 pub monic_total : (f : List Term) (w : List ℕ) → lead_of f ≡ Some w → IsPolynomial f → IsMonic f → total_at f w ≡ 1
 monic_total [] w e h m = absurd m
 monic_total (t ∷ f) w e h m =
@@ -81,6 +84,7 @@ monic_total (t ∷ f) w e h m =
     (AllPairs-first (λ s t. IsLetterwiseGreater s.word t.word) t f h.falling k s within) (is ∙ sym same)) in
     ap (λ (b : Bool). cond b t.coefficient 0 + total_at f w) (here t.word w is) ∙ omega (arith, m, none)
 
+-- at a word in L other than its leading word a polynomial has 0, where none of its other words is in L
 other_total : (f : List Term) (w : List ℕ) (L : List ℕ → Type 0) → lead_of f ≡ Some w → All (λ t. L t.word → ⊥) (below_lead f) →
     (x : List ℕ) → L x → x ≢ w → total_at f x ≡ 0
 other_total [] w L e h x l ne = refl
@@ -91,6 +95,7 @@ other_total (t ∷ f) w L e h x l ne =
       | inr n ↦ λ there. All-contains (λ s. L s.word → ⊥) f s h n (subst L (sym there) l)
     ]))
 
+-- a monic polynomial has a leading word
 pub monic-led : (f : List Term) → IsMonic f → (w : List ℕ) × (lead_of f ≡ Some w)
 monic-led [] m = absurd m
 monic-led (t ∷ f) m = (t.word, refl)
@@ -109,6 +114,7 @@ module _ (p : ℕ) (fm : IsFieldModulus p) where
     | inr n ↦ zero_at_member x es e z.1 n
   ]
 
+  -- a vector that is 0 at the leading columns of a list of rows is 0 at that of each of them
   pub zero_at_lead : (v : V) (es : List (List ℕ × V)) (e : List ℕ × V) → IsZeroAtLeads K (List ℕ) v es → Contains es e → v e.0 ≡ K.zero
   zero_at_lead v [] e z m = absurd (Contains-none e m)
   zero_at_lead v (d ∷ es) e z m = elim (Contains-cases d es e m) [
@@ -116,7 +122,7 @@ module _ (p : ℕ) (fm : IsFieldModulus p) where
     | inr n ↦ zero_at_lead v es e z.1 n
   ]
 
-  -- a row is 1 at its own leading column and 0 at those of the other rows
+  -- a row is 1 at its own leading column
   pub row_one : (xs : List (List ℕ)) (es : List (List ℕ × V)) → IsReduced K (List ℕ) xs es → (e : List ℕ × V) → Contains es e → e.1 e.0 ≡ K.one
   row_one xs es done e m = absurd (Contains-none e m)
   row_one xs es (skip x ys es' z r) e m = row_one ys es r e m
@@ -125,6 +131,7 @@ module _ (p : ℕ) (fm : IsFieldModulus p) where
     | inr n ↦ row_one ys es' r e n
   ]
 
+  -- a row is 0 at the leading columns of the other rows
   pub row_zero : (xs : List (List ℕ)) (es : List (List ℕ × V)) → IsReduced K (List ℕ) xs es → (e d : List ℕ × V) → Contains es e →
       Contains es d → d.0 ≢ e.0 → e.1 d.0 ≡ K.zero
   row_zero xs es done e d m n ne = absurd (Contains-none e m)
@@ -140,6 +147,7 @@ module _ (p : ℕ) (fm : IsFieldModulus p) where
     ]
   ]
 
+  -- the leading column of a row is one of the columns
   pub lead_in_columns : (xs : List (List ℕ)) (es : List (List ℕ × V)) → IsReduced K (List ℕ) xs es → (e : List ℕ × V) → Contains es e → Contains xs e.0
   lead_in_columns xs es done e m = absurd (Contains-none e m)
   lead_in_columns xs es (skip x ys es' z r) e m = Contains-more x ys e.0 (lead_in_columns ys es r e m)
@@ -148,6 +156,7 @@ module _ (p : ℕ) (fm : IsFieldModulus p) where
     | inr n ↦ Contains-more x ys e.0 (lead_in_columns ys es' r e n)
   ]
 
+  -- where the columns fall, the rows stand by falling leading columns
   pub leads_falling : (xs : List (List ℕ)) (es : List (List ℕ × V)) → IsReduced K (List ℕ) xs es → AllPairs IsLetterwiseGreater xs →
       AllPairs (λ (d e : List ℕ × V). IsLetterwiseGreater d.0 e.0) es
   leads_falling xs es done h = AllPairs-nil (λ (d e : List ℕ × V). IsLetterwiseGreater d.0 e.0)
@@ -171,6 +180,7 @@ module _ (p : ℕ) (fm : IsFieldModulus p) where
       λ i. cond (((a.0 ∙ sym b.0) i).0 == 0) (from_words-same xs u v s a.1 b.1 i)
       (record { word = x; coefficient = ((a.0 ∙ sym b.0) i).0 } ∷ from_words-same xs u v s a.1 b.1 i)
 
+  -- where u is the same as v at the columns, and v and w are the same everywhere, u is the same as w at the columns
   pub same_after : (xs : List (List ℕ)) (u v w : V) → AreSameAt K (List ℕ) xs u v → ((y : List ℕ) → v y ≡ w y) → AreSameAt K (List ℕ) xs u w
   same_after [] u v w s e = tt
   same_after (x ∷ xs) u v w s e = (s.0 ∙ e x, same_after xs u v w s.1 e)
@@ -204,6 +214,7 @@ module _ (ideal : Ideal) (st : IsSetting ideal) (d : ℕ) where
   minimal_row : (e : List ℕ × RowVector) → IsMinimalRow e ⊎ (IsMinimalRow e → ⊥)
   minimal_row e = is_minimal ideal st e.0
 
+  -- the elements from the rows with minimal leading columns, in their order
   pub basis : List (List Term)
   basis = map element_of (kept IsMinimalRow minimal_row es)
 
@@ -255,6 +266,7 @@ module _ (ideal : Ideal) (st : IsSetting ideal) (d : ℕ) where
       subst (Contains basis) (sym is) (Contains-map element_of (kept IsMinimalRow minimal_row es) e
       (in_kept IsMinimalRow minimal_row es e there.1 (subst (IsMinimal ideal) (sym there.2) (h.minimal w.0 w.1))))
 
+  -- these elements are the reduced basis of the degree
   pub is_basis : IsReducedBasis ideal d basis
   unfolding basis
   is_basis = record {
@@ -298,11 +310,13 @@ minimal_led ideal st w h =
       row_leads ideal st.modulus st d c.0 c.1 ∙ ap Some c.2,
     )
 
+-- two reduced bases of one degree are one
 pub bases_are_one : (ideal : Ideal) (d : ℕ) (fs gs : List (List Term)) → IsReducedBasis ideal d fs → IsReducedBasis ideal d gs → fs ≡ gs
 bases_are_one ideal d fs gs a b =
     same_lists HasGreaterLead greater_strict greater_trans fs gs a.falling b.falling (λ f m. (b.exactly f).1 ((a.exactly f).0 m))
     (λ f m. (a.exactly f).1 ((b.exactly f).0 m))
 
+-- over a field of residues each degree of an ideal has exactly one reduced basis
 pub has_one_basis : HasOneBasis
 has_one_basis ideal st d = record {
   value = basis ideal st d;

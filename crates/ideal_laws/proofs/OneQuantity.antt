@@ -127,6 +127,7 @@ module _ (G : List (List Term)) (free : IsFactorFree G) where
       let columns = columns_one (words_of gs) xs ys (subst (λ (hs : List (List Term)). AreColumns G (words_of hs) xs) rows a.are_columns) b.are_columns in
       (rows, reducers_one ys rs ss (subst (λ (zs : List (List ℕ)). AllZip (HasReducer G) zs rs) columns a.are_reducers) b.are_reducers)
 
+-- over the reduced basis of the degrees below d each quantity of degree d is at most one number
 pub one_quantity : HasOneQuantity
 one_quantity ideal st d below h PlainWords q r a b = a ∙ sym b
 one_quantity ideal st d below h Rows q r a b =

@@ -168,8 +168,11 @@ module _ (ideal : Ideal) (st : IsSetting ideal) (d : ℕ) (G : List (List Term))
 
   -- the parts that vectors stand for
   record HasParts (cs : List (Residue ideal.modulus × V)) : Type 0 where
+    -- a residue and an element in the place of each residue and vector
     pub parts : List Part
+    -- the elements are generators
     pub each : All (λ c. (c.factor < ideal.modulus) × Gen c.element) parts
+    -- the two sums have one vector
     pub sum : (w : List ℕ) → sum_of K (List ℕ) cs w ≡ vec (flat_map part_terms parts) w
 
   parts_from : (cs : List (Residue ideal.modulus × V)) → All (λ c. vectors_of.IsGenerator ideal st d c.1) cs → HasParts cs
@@ -210,5 +213,7 @@ module _ (ideal : Ideal) (st : IsSetting ideal) (d : ℕ) (G : List (List Term))
         sum = λ w. same_vectors ideal.modulus st.modulus f _ s.sum w ∙ vector_of-parts ideal st d s.parts w;
       }))
 
+-- over the reduced elements of degrees below d an element of degree d is in the ideal exactly where it is a sum of multiples of
+-- reducers, relations and rows of obstructions
 pub overlaps_suffice : OverlapsSuffice
 overlaps_suffice ideal st d G lower f e = (spanned_by ideal st d G lower f, from_spanned ideal st d G lower f e)

@@ -18,11 +18,13 @@ abbrev pub has_degree : List ℕ → ℕ → List Term → Bool
 has_degree weights d [] = true
 has_degree weights d (t ∷ f) = (degree_of weights t.word == d) && has_degree weights d f
 
+-- where all words have degree d, the test says so
 pub has_degree-is : (weights : List ℕ) (d : ℕ) (f : List Term) → HasDegree weights d f → has_degree weights d f ≡ true
 has_degree-is weights d [] h = refl
 has_degree-is weights d (t ∷ f) h =
     rw (eq-eqb _ _ (All-head (λ t. degree_of weights t.word ≡ d) t f h)) (has_degree-is weights d f (All-tail (λ t. degree_of weights t.word ≡ d) t f h))
 
+-- where the test says so, all words have degree d
 pub has_degree-says : (weights : List ℕ) (d : ℕ) (f : List Term) → has_degree weights d f ≡ true → HasDegree weights d f
 has_degree-says weights d [] e = All-nil (λ t. degree_of weights t.word ≡ d)
 has_degree-says weights d (t ∷ f) e = All-cons (λ t. degree_of weights t.word ≡ d) t f (eqb-true _ _ (first _ _ e)) (has_degree-says weights d f (second _ _ e))

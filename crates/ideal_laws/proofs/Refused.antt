@@ -15,6 +15,7 @@ module _ (ideal : Ideal) (limits : List (LimitKind × ℕ)) (below : Elements) (
   abbrev Q : LimitKind → ℕ → Type 0
   Q = IsQuantity ideal below (below.done + 1)
 
+  -- where no quantity passes up to the last degree that is done, and none in the next one, none passes up to the next one
   pub upto_next : (d : ℕ) → below.done ≡ d → NonePassesUpto ideal limits d → NonePasses Q limits →
       NonePassesUpto ideal limits (d + 1)
   upto_next d is before here e from le = elim (cases_lt d e) [
@@ -27,6 +28,7 @@ module _ (ideal : Ideal) (limits : List (LimitKind × ℕ)) (below : Elements) (
     | inr earlier ↦ before e from earlier
   ]
 
+  -- where no quantity passes up to the last degree that is done, and one passes in the next one, within the bound, it is the first refused
   pub refused_next : (d bound : ℕ) → below.done ≡ d → d < bound → NonePassesUpto ideal limits d → (kind : LimitKind) (degree value : ℕ)
       → (degree ≡ below.done + 1) × IsFirstPassing Q limits kind value → IsFirstRefused ideal limits bound kind degree value
   refused_next d bound is within before kind degree value h = record {

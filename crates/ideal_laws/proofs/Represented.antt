@@ -33,6 +33,7 @@ use Rattle.ideal_laws.proofs.OneBasis.{minimal_led, monic_total}
 use Rattle.ideal_laws.proofs.Vectors.{span_from_ideal}
 use Rattle.ideal_laws.proofs.Vectors as vectors
 
+-- where R holds of all pairs of a list, it holds of each word before x and x
 pub before_it : (R : List ℕ → List ℕ → Type 0) (pre : List (List ℕ)) (x : List ℕ) (xs : List (List ℕ)) → AllPairs R (pre ++ x ∷ xs) →
     (y : List ℕ) → Contains pre y → R y x
 before_it R [] x xs h y m = absurd (Contains-none y m)
@@ -88,6 +89,7 @@ module _ (ideal : Ideal) (st : IsSetting ideal) where
   abbrev pub IsLowerAmong : ℕ → ℕ → List (List ℕ) → Vr → Type 0
   IsLowerAmong d e xs v = (w : List ℕ) × Contains xs w × IsLowerProduct d e w v
 
+  -- a lower product of degree e is a member of degree e
   pub lower_inside : (d e : ℕ) (w : List ℕ) (v : Vr) → (h : IsLowerProduct d e w v) → IsInIdeal ideal e (product h.left h.element h.right)
   lower_inside d e w v h = subst (λ (n : ℕ). IsInIdeal ideal n (product h.left h.element h.right)) h.degree
       (inside_product ideal.modulus ideal.weights st.are_weights ideal.relations h.lower.degree h.left h.element h.right h.left_over h.right_over
@@ -96,6 +98,7 @@ module _ (ideal : Ideal) (st : IsSetting ideal) where
   lower_lead : (d e : ℕ) (w : List ℕ) (v : Vr) → (h : IsLowerProduct d e w v) → lead_of (product h.left h.element h.right) ≡ Some w
   lower_lead d e w v h = lead-product h.left h.element h.right h.lead h.is_lead ∙ ap Some (sym h.word)
 
+  -- a lower product is 1 at its leading word
   pub lower_one : (d e : ℕ) (w : List ℕ) (v : Vr) → IsLowerProduct d e w v → v w ≡ Kr.one
   lower_one d e w v h =
       let i = lower_inside d e w v h in
@@ -103,6 +106,7 @@ module _ (ideal : Ideal) (st : IsSetting ideal) where
       (monic_total (product h.left h.element h.right) w (lower_lead d e w v h) i.element.form
       (product-monic h.left h.element h.right h.lower.reduced.monic)))
 
+  -- a lower product is 0 at each word that is greater than its leading word
   pub lower_above : (d e : ℕ) (w y : List ℕ) (v : Vr) → IsLowerProduct d e w v → IsLetterwiseGreater y w → v y ≡ Kr.zero
   lower_above d e w y v h g =
       let i = lower_inside d e w v h in

@@ -10,6 +10,7 @@ module _ {X : Type 0} (P : X → Type 0) (decide : (x : X) → P x ⊎ (P x → 
     found : (x : X) → Contains xs x → P x → IsSearched xs
     none : ((x : X) → Contains xs x → P x → ⊥) → IsSearched xs
 
+  -- some member of a list has P, or none has it
   pub search_list : (xs : List X) → IsSearched xs
   search_list [] = none (λ x m h. Contains-none x m)
   search_list (x ∷ xs) = elim (decide x) [
@@ -32,6 +33,7 @@ module _ {X : Type 0} (P : X → Type 0) (decide : (x : X) → P x ⊎ (P x → 
   kept [] = []
   kept (x ∷ xs) = kept_if x (decide x) (kept xs)
 
+  -- a member of a list that has P is kept
   pub in_kept : (xs : List X) (x : X) → Contains xs x → P x → Contains (kept xs) x
   in_kept [] x m h = absurd (Contains-none x m)
   in_kept (y ∷ xs) x m h = by_answer (decide y) (Contains-cases y xs x m) (λ n. in_kept xs x n h)
@@ -42,6 +44,7 @@ module _ {X : Type 0} (P : X → Type 0) (decide : (x : X) → P x ⊎ (P x → 
       by_answer (inr q) (inl e) f = absurd (q (subst P (sym e) h))
       by_answer (inr q) (inr n) f = f n
 
+  -- what is kept is a member of the list that has P
   pub kept-says : (xs : List X) (x : X) → Contains (kept xs) x → Contains xs x × P x
   kept-says [] x m = absurd (Contains-none x m)
   kept-says (y ∷ xs) x m = by_answer (decide y) m (λ n. kept-says xs x n)
@@ -53,6 +56,7 @@ module _ {X : Type 0} (P : X → Type 0) (decide : (x : X) → P x ⊎ (P x → 
       ]
       by_answer (inr q) n f = let r = f n in (Contains-more y xs x r.0, r.1)
 
+  -- what holds of all pairs of a list holds of all pairs of those that are kept
   pub AllPairs-kept : (R : X → X → Type 0) (xs : List X) → AllPairs R xs → AllPairs R (kept xs)
   AllPairs-kept R [] h = AllPairs-nil R
   AllPairs-kept R (y ∷ xs) h = by_answer (decide y) (AllPairs-kept R xs (AllPairs-rest R y xs h))
@@ -62,7 +66,7 @@ module _ {X : Type 0} (P : X → Type 0) (decide : (x : X) → P x ⊎ (P x → 
           (λ z m. All-contains (R y) xs z (AllPairs-first R y xs h) (kept-says xs z m).0)) r
       by_answer (inr q) r = r
 
--- two lists in one strict order with the same members are one
+-- lists in one strict order
 module _ {X : Type 0} (R : X → X → Type 0) (strict : (x : X) → R x x → ⊥) (trans : (x y z : X) → R x y → R y z → R x z) where
   abbrev HasSame : List X → List X → Type 0
   HasSame xs ys = (x : X) → Contains xs x → Contains ys x
@@ -83,6 +87,7 @@ module _ {X : Type 0} (R : X → X → Type 0) (strict : (x : X) → R x x → �
     | inl is ↦ absurd (strict z (subst (λ (w : X). R w z) (e ∙ is) (All-contains (R x) xs z (AllPairs-first R x xs h) m)))
   ]
 
+  -- two lists in one strict order with the same members are one
   pub same_lists : (xs ys : List X) → AllPairs R xs → AllPairs R ys → HasSame xs ys → HasSame ys xs → xs ≡ ys
   same_lists [] [] h k s t = refl
   same_lists [] (y ∷ ys) h k s t = absurd (Contains-none y (t y (Contains-first y ys)))

@@ -27,6 +27,7 @@ module _ (p : ℕ) (fm : IsFieldModulus p) (u v : List ℕ) where
   abbrev pub shifted : V → V
   shifted f w = entry_at w (round u v w) f
 
+  -- the vector of u * f * v is that of f, shifted by u and v
   pub vector_of-product : (f : List Term) → vectors.vector_of p fm (product u f v) ≡ shifted (vectors.vector_of p fm f)
   vector_of-product f = λ i w. at w (round u v w) i
     where
@@ -34,6 +35,7 @@ module _ (p : ℕ) (fm : IsFieldModulus p) (u v : List ℕ) where
       at w (inside x e) = same_residue p _ _ (ap (λ (y : List ℕ). total_at (product u f v) y % p) (sym e) ∙ ap (λ (n : ℕ). n % p) (total_at-inside u f v x))
       at w (outside h) = same_residue p _ _ (ap (λ (n : ℕ). n % p) (total_at-outside u f v w h))
 
+  -- a * f + g is shifted to a times f shifted and g shifted
   pub shifted-linear : (a : Residue p) (f g : V) (w : List ℕ) → shifted (λ x. K.add (K.mul a (f x)) (g x)) w ≡ K.add (K.mul a (shifted f w)) (shifted g w)
   shifted-linear a f g w = at (round u v w)
     where

@@ -57,6 +57,7 @@ module _ (ideal : Ideal) (st : IsSetting ideal) (d : ℕ) where
   abbrev Sp : V → Type 0
   Sp v = IsInSpan K (List ℕ) IsGenerator v
 
+  -- the leading word of a lower product of degree d is over the letters
   pub lower_over : (w : List ℕ) (v : V) → Lower w v → IsOver (length ideal.weights) w
   lower_over w v h = subst (IsOver (length ideal.weights)) (sym h.word)
       (All-append (λ n. n < length ideal.weights) (h.left ++ h.lead) h.right
@@ -216,6 +217,7 @@ module _ (ideal : Ideal) (st : IsSetting ideal) (d : ℕ) where
             (IsInSpan-scaled K (List ℕ) IsGenerator (K.neg K.one) (less ideal st r.vector v) gap))
       ]
 
+  -- a lower product of degree d is a sum of multiples of reducers, relations and rows of obstructions
   pub product_spanned : (w : List ℕ) (v : V) → Lower w v → Sp v
   product_spanned w v h = products_spanned columns [] refl w (in_columns w v h) v h
 
@@ -238,6 +240,7 @@ module _ (ideal : Ideal) (st : IsSetting ideal) (d : ℕ) where
       (All-cons (λ n. n < length ideal.weights) x [] lt (All-nil (λ n. n < length ideal.weights))) (omega (arith, le)) f i
   neighbour_spanned g (relation r among h) = IsInSpan-one K (List ℕ) IsGenerator (vec r) (of_relation r among h refl)
 
+  -- the vector of a member of degree d is a sum of multiples of reducers, relations and rows of obstructions
   pub ideal_spanned : (f : List Term) → IsInIdeal ideal d f → Sp (vec f)
   ideal_spanned f i =
       let s = spanned ideal st d f i in

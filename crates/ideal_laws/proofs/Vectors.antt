@@ -18,6 +18,7 @@ module _ (p : ℕ) (fm : IsFieldModulus p) where
   abbrev pub K : Field
   K = residues p fm.two_or_more fm.has_inverse
 
+  -- a field modulus is greater than 0
   pub positive : 0 < p
   positive = omega (arith, fm.two_or_more)
 
@@ -28,18 +29,22 @@ module _ (p : ℕ) (fm : IsFieldModulus p) where
   abbrev pub vector_of : List Term → List ℕ → Residue p
   vector_of f w = of (total_at f w)
 
+  -- the vector of a sum is the sum of the vectors
   pub vector_of-append : (f g : List Term) (w : List ℕ) → vector_of (f ++ g) w ≡ K.add (vector_of f w) (vector_of g w)
   vector_of-append f g w = same_residue p _ _ (ap (λ (n : ℕ). n % p) (total_at-append f g w) ∙ add-mod (total_at f w) (total_at g w) p)
 
+  -- the vector of a * f is a times the vector of f
   pub vector_of-scaled : (a : ℕ) (f : List Term) (w : List ℕ) → vector_of (scaled a f) w ≡ K.mul (of a) (vector_of f w)
   vector_of-scaled a f w = same_residue p _ _ (ap (λ (n : ℕ). n % p) (total_at-scaled a f w) ∙ mul-mod a (total_at f w) p)
 
+  -- sums of terms that are one element modulo p have one vector
   pub same_vectors : (f g : List Term) → IsSame p f g → (w : List ℕ) → vector_of f w ≡ vector_of g w
   same_vectors f g s w = same_residue p _ _ (s w)
 
   abbrev pub part : Multiple → Residue p × (List ℕ → Residue p)
   part m = (of m.factor, vector_of (product m.left m.relation m.right))
 
+  -- the vector of a sum of multiples a * u * r * v is the sum of the residues a times the vectors of u * r * v
   pub vector_of-multiples : (ms : List Multiple) (w : List ℕ) → vector_of (flat_map terms_of ms) w ≡ sum_of K (List ℕ) (map part ms) w
   vector_of-multiples [] w = same_residue p _ _ refl
   vector_of-multiples (m ∷ ms) w =
@@ -57,6 +62,7 @@ module _ (ideal : Ideal) (fm : IsFieldModulus ideal.modulus) (d : ℕ) where
   each_part ms each = All-map (λ c. IsProductVector c.1) (part ideal.modulus fm) ms
       (λ k m within. record { multiple = _; is_multiple = each k m within; is = refl })
 
+  -- the vector of a member is in the span of the products of its degree
   pub span_from_ideal : (f : List Term) → IsInIdeal ideal d f → IsInSpan (K ideal.modulus fm) (List ℕ) IsProductVector (vector_of ideal.modulus fm f)
   span_from_ideal f i = record {
     parts = map (part ideal.modulus fm) i.multiples;
@@ -93,6 +99,7 @@ module _ (ideal : Ideal) (fm : IsFieldModulus ideal.modulus) (d : ℕ) where
             (vector_of-scaled ideal.modulus fm c.0.0 (product m.left m.relation m.right) w));
       }
 
+  -- an element of a degree whose vector is in the span of the products of the degree is a member
   pub ideal_from_span : (f : List Term) → IsElement ideal.modulus ideal.weights d f
       → IsInSpan (K ideal.modulus fm) (List ℕ) IsProductVector (vector_of ideal.modulus fm f) → IsInIdeal ideal d f
   ideal_from_span f e s =
