@@ -12,6 +12,7 @@ use Rattle.words.proofs.Weights.{length-le-degree_of, weight_of-bounds}
 use Rattle.words.proofs.Members.{AllPairs-flat_map, AllPairs-map, AllPairs-nil, All-from_members, Contains-cases, Contains-first, Contains-flat_map}
 use Rattle.words.proofs.Members.{Contains-flat_map_cases, Contains-map, Contains-map_cases, Contains-more, Contains-none}
 
+-- the range of n numbers from a contains each number that is at least a and below a + n
 pub Contains-range : (a n k : ℕ) → a ≤ k → k < a + n → Contains (range_with_len a n) k
 Contains-range a zero k low high = absurd (omega (arith, low, high))
 Contains-range a (suc n) k low high = elim (cases_eq a k) [
@@ -19,6 +20,7 @@ Contains-range a (suc n) k low high = elim (cases_eq a k) [
   | inr other ↦ Contains-more a (range_with_len (a + 1) n) k (Contains-range (a + 1) n k (omega (arith, low, other)) (omega (arith, high)))
 ]
 
+-- what the range of n numbers from a contains is at least a and below a + n
 pub range-bounds : (a n k : ℕ) → Contains (range_with_len a n) k → (a ≤ k) × (k < a + n)
 range-bounds a zero k h = absurd (Contains-none k h)
 range-bounds a (suc n) k h = elim (Contains-cases a (range_with_len (a + 1) n) k h) [
@@ -26,6 +28,7 @@ range-bounds a (suc n) k h = elim (Contains-cases a (range_with_len (a + 1) n) k
   | inr m ↦ let r = range-bounds (a + 1) n k m in (omega (arith, r.0), omega (arith, r.1))
 ]
 
+-- a range rises
 pub range-rising : (a n : ℕ) → AllPairs (λ x y. x < y) (range_with_len a n)
 range-rising a zero = AllPairs-nil (λ x y. x < y)
 range-rising a (suc n) =
@@ -33,11 +36,12 @@ range-rising a (suc n) =
     (λ y m. omega (arith, (range-bounds (a + 1) n y m).0))) (range-rising (a + 1) n)
 
 module _ (weights : List ℕ) where
-  -- the words that begin with a letter
+  -- a letter of weight at most d before a word of the degree that is left is one of the words that begin with this letter
   pub in_letter : (W : ℕ → List (List ℕ)) (d x : ℕ) (w : List ℕ) → weight_of weights x ≤ d → Contains (W (d - weight_of weights x)) w →
       Contains (with_letter weights W d x) (x ∷ w)
   in_letter W d x w le m = rw (le-leb _ _ le) (Contains-map (λ v. x ∷ v) (W (d - weight_of weights x)) w m)
 
+  -- each word that begins with a letter is this letter, whose weight is at most d, before a word of the degree that is left
   pub letter_cases : (W : ℕ → List (List ℕ)) (d x : ℕ) (w : List ℕ) → Contains (with_letter weights W d x) w
       → (weight_of weights x ≤ d) × ((v : List ℕ) × Contains (W (d - weight_of weights x)) v × ((x ∷ v) ≡ w))
   letter_cases W d x w h = elim (cases_Bool (leb (weight_of weights x) d)) [
@@ -65,6 +69,7 @@ module _ (weights : List ℕ) where
         (in_letter (words_within weights n) (suc d) x w (omega (arith, e))
         (listed_within n (suc d - weight_of weights x) w (All-tail (λ y. y < length weights) x w over) (omega (arith, e)) (omega (arith, le))))
 
+    -- each word over the letters is in the list of its degree
     pub listed_word : (w : List ℕ) → IsOver (length weights) w → Contains (words_of_degree weights (degree_of weights w)) w
     listed_word w over = listed_within (degree_of weights w) (degree_of weights w) w over refl (length-le-degree_of weights aw w)
 
@@ -83,10 +88,11 @@ module _ (weights : List ℕ) where
           ap (degree_of weights) (sym m.1.2) ∙ omega (arith, m.0, tail.1),
         )
 
+    -- each word of the list of degree d is over the letters and has degree d
     pub words_of_degree-says : (d : ℕ) (w : List ℕ) → Contains (words_of_degree weights d) w → IsOver (length weights) w × (degree_of weights w ≡ d)
     words_of_degree-says d w h = within-says d d w h
 
-    -- the first difference stays behind one more letter
+    -- of two words the one that is greater letter by letter stays so behind one more letter
     pub letterwise_later : (x : ℕ) (a b : List ℕ) → IsLetterwiseGreater a b → IsLetterwiseGreater (x ∷ a) (x ∷ b)
     letterwise_later x a b g = rw (self_cmp x) g
 
@@ -148,6 +154,7 @@ module _ (weights : List ℕ) where
         greater_says weights aw _ _ (agrees_in_degree weights _ _ (degrees i x (omega (arith, below, within)) ∙ sym (degrees j x within))
         ∙ words_of_degree-falling d i j x below within)
 
+-- a word is in the list of degree d exactly where it is over the letters and has degree d
 pub lists_words : ListsWords
 lists_words weights aw d w = (
   words_of_degree-says weights aw d w,

@@ -92,6 +92,7 @@ fault_of_repeat NoMemory names first second h few r = absurd h
 
 -- the two sides of the clause on repeats
 module _ {T X : Type 0} (f : X → List ℕ) where
+  -- the fault of some names is a repeat of two places exactly where these are the first repeat, and there are at most 64 names
   pub repeated_says : (xs : List X) (fault : AlphabetFault) → IsFaultOf fault (map f xs) → (first second : ℕ)
       → IsErrOf {T = T} {E = AlphabetFault} (Err fault) (Repeated first second) ↔ ((length xs ≤ 64) × IsFirstRepeat (map f xs) first second)
   repeated_says xs fault h first second = (

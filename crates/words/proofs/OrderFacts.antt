@@ -12,6 +12,7 @@ use Rattle.words.specs.Order.{AgreesInDegree, ComparesLetters, HasNoPrefixes, Ha
 use Rattle.words.specs.Order.{letterwise_cmp, word_cmp}
 use Rattle.words.proofs.Weights.{degree_of-append, degree_of-positive}
 
+-- where a has the smaller letter number at its first difference from b, so has x * a at its first difference from x * b
 pub one_later : (x : ℕ) (a b : List ℕ) → HasSmallerFirst a b → HasSmallerFirst (x ∷ a) (x ∷ b)
 one_later x a b d = record {
   at = suc d.at;
@@ -21,6 +22,7 @@ one_later x a b d = record {
   smaller = d.smaller;
 }
 
+-- a number compares as equal to itself
 pub self_cmp : (n : ℕ) → nat_cmp n n ≡ Equal
 self_cmp n = by_ranked (n < n) (n ≡ n) (n < n) (nat_cmp n n) (ranked n n (nat_cmp n n) refl)
     (λ is below. absurd (omega (arith, below))) (λ is same. is) (λ is above. absurd (omega (arith, above)))
@@ -29,7 +31,7 @@ longer : (x : ℕ) (a b : List ℕ) → (HasSmallerFirst a b) ⊎ (IsProperPrefi
 longer x a b (inl d) = inl (one_later x a b d)
 longer x a b (inr q) = inr (record { rest = q.rest; more = q.more; joined = ap (λ (r : List ℕ). x ∷ r) q.joined })
 
--- what the comparison letter by letter says
+-- a word that is greater letter by letter has the smaller letter number at the first difference, or the other is a proper prefix of it
 pub first_difference : (a b : List ℕ) → IsLetterwiseGreater a b → (HasSmallerFirst a b) ⊎ (IsProperPrefix b a)
 first_difference [] [] e = cc e
 first_difference [] (y ∷ b) e = cc e
@@ -55,14 +57,18 @@ letters_greater (x ∷ a) (y ∷ b) (suc at) w l s d =
     let same : nat_cmp y x ≡ Equal = rw first (self_cmp y) in
     rw same (letters_greater a b at (omega (arith, w)) (omega (arith, l)) rest d)
 
+-- a word with the smaller letter number at the first difference is greater letter by letter
 pub letterwise_from_difference : (a b : List ℕ) → HasSmallerFirst a b → IsLetterwiseGreater a b
 letterwise_from_difference a b d = letters_greater a b d.at d.in_first d.in_second d.same_before d.smaller
 
+-- a word is greater letter by letter than its proper prefixes
 pub letterwise_extended : (b rest : List ℕ) → rest ≢ [] → IsLetterwiseGreater (b ++ rest) b
 letterwise_extended [] [] more = absurd (more refl)
 letterwise_extended [] (x ∷ rest) more = refl
 letterwise_extended (y ∷ b) rest more = rw (self_cmp y) (letterwise_extended b rest more)
 
+-- a word is greater letter by letter exactly where it has the smaller letter number at the first difference, or the other is a proper
+-- prefix of it
 pub compares_letters : ComparesLetters
 compares_letters a b = (first_difference a b, back)
   where
@@ -70,13 +76,16 @@ compares_letters a b = (first_difference a b, back)
     back (inl d) = letterwise_from_difference a b d
     back (inr q) = rw q.joined (letterwise_extended b q.rest q.more)
 
+-- of two words of one degree none is a proper prefix of the other
 pub has_no_prefixes : HasNoPrefixes
 has_no_prefixes weights aw a b same q =
     omega (arith, same, ap (degree_of weights) q.joined, degree_of-append weights a q.rest, degree_of-positive weights aw q.rest q.more)
 
+-- two words of one degree compare as words as they compare letter by letter
 pub agrees_in_degree : AgreesInDegree
 agrees_in_degree weights a b same = rw (same, self_cmp (degree_of weights b)) refl
 
+-- a word that compares as greater is greater in the order of words
 pub greater_says : (weights : List ℕ) → AreWeights weights → (a b : List ℕ) → word_cmp weights a b ≡ Greater → IsGreater weights a b
 greater_says weights aw a b e =
     let m = degree_of weights a in let n = degree_of weights b in
@@ -88,6 +97,7 @@ greater_says weights aw a b e =
     ])
     (λ is above. inl above)
 
+-- a word that is greater in the order of words compares as greater
 pub says_greater : (weights a b : List ℕ) → IsGreater weights a b → word_cmp weights a b ≡ Greater
 says_greater weights a b (inl more) =
     let m = degree_of weights a in let n = degree_of weights b in
@@ -123,6 +133,7 @@ difference_in_product u a b v d =
       ) d.smaller;
     }
 
+-- two words of one degree keep their order in products by the same words
 pub kept_by_products : IsKeptByProducts
 kept_by_products weights u a b v same (inl more) = absurd (omega (arith, more, same))
 kept_by_products weights u a b v same (inr (_, d)) = inr (

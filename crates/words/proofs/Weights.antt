@@ -6,6 +6,7 @@ use Rattle.std.proofs.lemmas.List.{take_more}
 use Rattle.std.proofs.lemmas.List.Elements.{All-get_or}
 use Rattle.words.specs.Words.{AreWeights, degree_of, weight_of}
 
+-- the degree of a product of two words is the sum of their degrees
 pub degree_of-append : (weights a b : List ℕ) → degree_of weights (a ++ b) ≡ degree_of weights a + degree_of weights b
 degree_of-append weights [] b = sym (zero-add (degree_of weights b))
 degree_of-append weights (x ∷ a) b = ap (λ (n : ℕ). weight_of weights x + n) (degree_of-append weights a b)
@@ -17,6 +18,7 @@ beyond [] x le = refl
 beyond (e ∷ weights) zero le = absurd (omega (arith, le))
 beyond (e ∷ weights) (suc x) le = beyond weights x (omega (arith, le))
 
+-- each letter has a weight from 1 to 8
 pub weight_of-bounds : (weights : List ℕ) → AreWeights weights → (x : ℕ) → (0 < weight_of weights x) × (weight_of weights x ≤ 8)
 weight_of-bounds weights aw x = elim (cases_lt x (length weights)) [
   | inl within ↦ All-get_or (λ e. (0 < e) × (e ≤ 8)) weights x 1 within aw
@@ -28,6 +30,7 @@ pub length-le-degree_of : (weights : List ℕ) → AreWeights weights → (w : L
 length-le-degree_of weights aw [] = omega arith
 length-le-degree_of weights aw (x ∷ w) = omega (arith, (weight_of-bounds weights aw x).0, length-le-degree_of weights aw w)
 
+-- a word that is not empty has a degree of 1 or more
 pub degree_of-positive : (weights : List ℕ) → AreWeights weights → (w : List ℕ) → w ≢ [] → 0 < degree_of weights w
 degree_of-positive weights aw [] ne = absurd (ne refl)
 degree_of-positive weights aw (x ∷ w) ne = omega (arith, (weight_of-bounds weights aw x).0)
