@@ -79,6 +79,7 @@ module _ (K : Field) (X : Type 0) where
     ]
   ]
 
+  -- more vectors than columns are dependent on these columns
   pub dependent : (xs : List X) (fs : List V) → length xs < length fs → IsDependent K X xs fs
   dependent [] [] more = absurd (omega (arith, more))
   dependent [] (f ∷ fs) more = record {

@@ -22,6 +22,7 @@ module _ (K : Field) (X : Type 0) where
     found : (g : V) → IsOneOf K X gs g → K.is_zero (g x) ≡ false → IsPivot x gs
     none : ((g : V) → IsOneOf K X gs g → g x ≡ K.zero) → IsPivot x gs
 
+  -- some vector of a list is other than 0 at x, or each of them is 0 there
   pub find_pivot : (x : X) (gs : List V) → IsPivot x gs
   find_pivot x [] = none (λ g h. absurd h)
   find_pivot x (g ∷ gs) = elim (cases_Bool (K.is_zero (g x))) [
@@ -43,6 +44,7 @@ module _ (K : Field) (X : Type 0) where
       ∙ ap (λ (n : K.F). K.add n (sum_of K X cs x)) (mul_zero K c.0) ∙ zero_add K (sum_of K X cs x)
       ∙ sum_of-zero P x h cs (All-tail (λ (d : K.F × V). P d.1) c cs each)
 
+  -- where each vector with P is 0 at x, so is each vector of their span
   pub IsInSpan-zero_at : (P : V → Type 0) (x : X) → ((g : V) → P g → g x ≡ K.zero) → (v : V) → IsInSpan K X P v → v x ≡ K.zero
   IsInSpan-zero_at P x h v s = s.sum x ∙ sum_of-zero P x h s.parts s.each
 
@@ -54,9 +56,11 @@ module _ (K : Field) (X : Type 0) where
       (IsInSpan-scaled K X Q c.0 c.1 (h c.1 (All-head (λ (d : K.F × V). P d.1) c cs each)))
       (collect_parts P Q h cs (All-tail (λ (d : K.F × V). P d.1) c cs each))
 
+  -- what is the same at each column as a vector of a span is in the span
   pub same_span : (P : V → Type 0) (v w : V) → ((x : X) → v x ≡ w x) → IsInSpan K X P v → IsInSpan K X P w
   same_span P v w e s = record { parts = s.parts; each = s.each; sum = λ x. sym (e x) ∙ s.sum x }
 
+  -- where each vector with P is in the span of those with Q, so is each vector of the span of those with P
   pub IsInSpan-trans : (P Q : V → Type 0) → ((g : V) → P g → IsInSpan K X Q g) → (v : V) → IsInSpan K X P v → IsInSpan K X Q v
   IsInSpan-trans P Q h v s = same_span Q (sum_of K X s.parts) v (λ x. sym (s.sum x)) (collect_parts P Q h s.parts s.each)
 
@@ -98,6 +102,7 @@ module _ (K : Field) (X : Type 0) where
     same_more v w a q es z.1 s.1,
   )
 
+  -- the sum of reduced rows, each times the entry of v at its leading column, has at the leading columns the entries of v
   pub own_entries : (xs : List X) (es : List (X × V)) (v : V) → IsReduced K X xs es → AreSameAtLeads es (sum_of K X (from_leads K X es v)) v
   own_entries [] es v done = tt
   own_entries xs es v (skip x ys es' z r) = own_entries ys es' v r
@@ -136,6 +141,7 @@ module _ (K : Field) (X : Type 0) where
   add_mul : (a b w : K.F) → K.mul (K.add a b) w ≡ K.add (K.mul a w) (K.mul b w)
   add_mul a b w = K.mul_comm (K.add a b) w ∙ K.mul_add w a b ∙ ap₂ K.add (K.mul_comm w a) (K.mul_comm w b)
 
+  -- a * (u - u' * w) + (s - s' * w) is a * u + s - (a * u' + s') * w
   pub cleared_sum : (a u s u' s' w : K.F) → K.add (K.mul a (K.add u (K.mul (K.neg u') w))) (K.add s (K.mul (K.neg s') w))
       ≡ K.add (K.add (K.mul a u) s) (K.mul (K.neg (K.add (K.mul a u') s')) w)
   cleared_sum a u s u' s' w =
@@ -159,6 +165,7 @@ module _ (K : Field) (X : Type 0) where
       (map_one_of (cleared x p) gs c.1 (All-head (λ (d : K.F × V). IsOneOf K X gs d.1) c cs each))))
       (cleared_parts x p gs cs (All-tail (λ (d : K.F × V). IsOneOf K X gs d.1) c cs each)))
 
+  -- where v is in the span of gs, v cleared at x by p is in the span of gs cleared so
   pub cleared_member : (x : X) (p : V) (gs : List V) (v : V) → Sp gs v → Sp (map (cleared x p) gs) (cleared x p v)
   cleared_member x p gs v s =
       same_span _ (cleared x p (sum_of K X s.parts)) (cleared x p v)

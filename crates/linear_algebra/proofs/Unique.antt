@@ -55,6 +55,7 @@ module _ (K : Field) (X : Type 0) where
   same_more x xs (e ∷ es) [] z w s = absurd s
   same_more x xs (e ∷ es) (f ∷ fs) z w s = (s.0, (z.0 ∙ sym w.0, s.1), same_more x xs es fs z.1 w.1 s.2)
 
+  -- two lists of reduced rows, each had from the other by entries at leading columns, have the same leading columns and the same rows
   pub one_basis : (xs : List X) (es fs : List (X × V)) → IsReduced K X xs es → IsReduced K X xs fs → AreHadFrom xs es fs →
       AreHadFrom xs fs es → AreSameRows K X xs es fs
   one_basis [] es fs done done h g = tt
