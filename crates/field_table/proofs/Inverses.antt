@@ -13,6 +13,7 @@ use Rattle.field_table.specs.Table.{IsTableUpto}
 step_product : (p a q r : ℕ) → 0 < a → a * q + r ≡ p → a * (p - q) ≡ p * (a - 1) + r
 step_product p a q r pos e = omega (arith, mul-sub a p q, mul-sub p a 1, mul-le 1 p a p pos (omega arith), mul_comm a p)
 
+-- where s is an inverse of p % a modulo p, (p - p / a) * s is one of a
 pub next_inverse : (p a s : ℕ) → 0 < a → (p % a * s) % p ≡ 1 → (a * (((p - p / a) * s) % p)) % p ≡ 1
 next_inverse p a s pos e =
     let split : a * (p / a) + p % a ≡ p = omega (arith, div-add-mod' p a, mul_comm a (p / a)) in
@@ -38,6 +39,7 @@ inverse_from p two apart (suc n) a le pos lt = elim (cases_lt a 2) [
 abbrev pub IsUndivided : ℕ → Type 0
 IsUndivided p = (a : ℕ) → 2 ≤ a → a < p → p % a ≢ 0
 
+-- a number of 2 or more that no smaller number from 2 on divides is a field modulus
 pub field_modulus_from_undivided : (p : ℕ) → 2 ≤ p → IsUndivided p → IsFieldModulus p
 field_modulus_from_undivided p two apart = record { two_or_more = two; has_inverse = λ a pos lt. inverse_from p two apart a a (omega arith) pos lt }
 
@@ -62,6 +64,7 @@ tested p (suc (suc n)) d t two le is = elim (cases_eq d (suc (suc n))) [
     second true b e = e
     second false b e = cc e
 
+-- where no number from 2 to k divides p, and p is below the square of k + 1, no smaller number from 2 on divides p
 pub undivided_from_test : (p k : ℕ) → no_divisor_upto p k ≡ true → p < (k + 1) * (k + 1) → IsUndivided p
 undivided_from_test p k t room a two lt is = elim (cases_lt k a) [
   | inr small ↦ tested p k a t two small is

@@ -5,6 +5,7 @@ use Rattle.std.proofs.lemmas.List.Elements.{All-from_recursion}
 use Rattle.field_table.specs.Residues.{IsFieldModulus, listed_moduli}
 use Rattle.field_table.proofs.Inverses.{field_modulus_from_test}
 
+-- each listed modulus is a field modulus
 pub listed_are_fields : All IsFieldModulus listed_moduli
 listed_are_fields = All-from_recursion IsFieldModulus listed_moduli (
   field_modulus_from_test 2 1 (lit≤ tt) refl (lit< tt),
