@@ -13,16 +13,19 @@ pub Appends-more : (a b c : Option (List ℕ)) (m n : ℕ) (xs : List ℕ) → A
     Appends a c (take (m + n) xs)
 Appends-more a b c m n xs p q = rw take-add (Appends-trans a b c (take m xs) (take n (drop m xs)) p q)
 
+-- a told room that falls by m and then by n falls by m + n
 pub RoomFalls-more : (a b c : Option ℕ) (m n : ℕ) → RoomFalls a b m → RoomFalls b c n → RoomFalls a c (m + n)
 RoomFalls-more None b c m n p q = tt
 RoomFalls-more (Some r) None c m n p q = absurd p
 RoomFalls-more (Some r) (Some s) None m n p q = absurd q
 RoomFalls-more (Some r) (Some s) (Some t) m n p q = omega (arith, p, q)
 
+-- a number of calls that stays the same is greater by at most 0
 pub CountsAtMost-none : (a : Option ℕ) → CountsAtMost a a 0
 CountsAtMost-none None = tt
 CountsAtMost-none (Some n) = (omega arith, omega arith)
 
+-- a told number of calls that grows by at most m and then by at most n grows by at most any number that is not below m + n
 pub CountsAtMost-more : (a b c : Option ℕ) (m n most : ℕ) → CountsAtMost a b m → CountsAtMost b c n → m + n ≤ most → CountsAtMost a c most
 CountsAtMost-more None b c m n most p q le = tt
 CountsAtMost-more (Some x) None c m n most p q le = absurd p
