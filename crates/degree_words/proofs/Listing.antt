@@ -20,9 +20,11 @@ range_more : (n : ℕ) → range_with_len 0 (n + 1) ≡ range_with_len 0 n ++ n 
 range_more n = ap (range_with_len 0) (add-one n) ∙ range_suc 0 n ∙ ap (λ (k : ℕ). range_with_len 0 n ++ k ∷ []) (zero-add n)
 
 module _ {X Y : Type 0} (f : X → List Y) where
+  -- with one member more behind a list its list stands behind all the lists joined
   pub flat_map-push : (xs : List X) (x : X) → flat_map f (xs ++ x ∷ []) ≡ flat_map f xs ++ f x
   flat_map-push xs x = flat_map-append f xs (x ∷ []) ∙ ap (λ (r : List Y). flat_map f xs ++ r) (append-nil (f x))
 
+  -- the lists of the first i + 1 members joined are those of the first i, and then that of the member at place i
   pub flat_map-take : (xs : List X) (i : ℕ) (x : X) → i < length xs → x ≡ get_or xs i x → flat_map f (take (i + 1) xs) ≡ flat_map f (take i xs) ++ f x
   flat_map-take xs i x within is = ap (flat_map f) (take_more xs i x within ∙ ap (λ (y : X). take i xs ++ y ∷ []) (sym is)) ∙ flat_map-push (take i xs) x
 
@@ -31,13 +33,16 @@ module _ {X Y : Type 0} (f : X → List Y) where
   flat_map-same g (x ∷ xs) h = let first : f x ≡ g x = h x (Contains-first x xs) in let rest =
       flat_map-same g xs (λ y m. h y (Contains-more x xs y m)) in λ i. first i ++ rest i
 
+-- the lists of the numbers up to n joined are those of the numbers below n, and then that of n
 pub flat_map-range : {Y : Type 0} (f : ℕ → List Y) (n : ℕ) → flat_map f (range_with_len 0 (n + 1)) ≡ flat_map f (range_with_len 0 n) ++ f n
 flat_map-range f n = ap (flat_map f) (range_more n) ∙ flat_map-push f (range_with_len 0 n) n
 
 module _ (weights : List ℕ) (W : ℕ → List (List ℕ)) (k x : ℕ) where
+  -- where the weight of x is at most k, the words of degree k that begin with x are x before each word of the degree that is left
   pub with_letter-in : weight_of weights x ≤ k → with_letter weights W k x ≡ map (λ w. x ∷ w) (W (k - weight_of weights x))
   with_letter-in le = ap (λ (b : Bool). cond b (map (λ w. x ∷ w) (W (k - weight_of weights x))) []) (le-leb (weight_of weights x) k le)
 
+  -- where the weight of x is above k, no words of degree k begin with x
   pub with_letter-out : k < weight_of weights x → with_letter weights W k x ≡ []
   with_letter-out lt = ap (λ (b : Bool). cond b (map (λ w. x ∷ w) (W (k - weight_of weights x))) []) (lt-leb (weight_of weights x) k lt)
 
@@ -54,16 +59,20 @@ module _ (weights : List ℕ) (W : ℕ → List (List ℕ)) (k x : ℕ) where
       ∙ ap (λ (n : ℕ). length (before_letter x) + n) (ap length (with_letter-in le) ∙ length-map (W (k - weight_of weights x)) (λ w. x ∷ w)) in
       omega (arith, sizes, c, e)
 
+  -- where the weight of x is above k, the letters up to x begin as many words as the letters below x, counted up to a most
   pub count_same : (most count : ℕ) → k < weight_of weights x → count ≡ min (length (before_letter x)) most → count ≡ min (length (before_letter (x + 1))) most
   count_same most count lt c =
       c ∙ ap (λ (ws : List (List ℕ)). min (length ws) most) (sym (flat_map-range (with_letter weights W k) x
       ∙ ap (λ (ws : List (List ℕ)). before_letter x ++ ws) (with_letter-out lt) ∙ append-nil (before_letter x)))
 
+  -- where the weight of x is at most k, the words that the letters below x begin, and x before each word of the degree that is left,
+  -- are those that the letters up to x begin
   pub list_more : (ws : List (List ℕ)) → weight_of weights x ≤ k → ws ≡ before_letter x →
       ws ++ map (λ w. x ∷ w) (W (k - weight_of weights x)) ≡ before_letter (x + 1)
   list_more ws le e = ap (λ (vs : List (List ℕ)). vs ++ map (λ w. x ∷ w) (W (k - weight_of weights x))) e
       ∙ sym (flat_map-range (with_letter weights W k) x ∙ ap (λ (vs : List (List ℕ)). before_letter x ++ vs) (with_letter-in le))
 
+  -- where the weight of x is above k, the words that the letters up to x begin are those that the letters below x begin
   pub list_same : (ws : List (List ℕ)) → k < weight_of weights x → ws ≡ before_letter x → ws ≡ before_letter (x + 1)
   list_same ws lt e = e ∙ sym (flat_map-range (with_letter weights W k) x
       ∙ ap (λ (vs : List (List ℕ)). before_letter x ++ vs) (with_letter-out lt) ∙ append-nil (before_letter x))
@@ -74,6 +83,7 @@ pub unfolds_at : (weights : List ℕ) → AreWeights weights → (k : ℕ) → 0
 unfolds_at weights aw zero some = absurd (omega (arith, some))
 unfolds_at weights aw (suc d) some = words_of_degree-unfolds weights aw d
 
+-- where the numbers of words of the degrees below k are right, and that of degree k is put at its place, those up to k are right
 pub counts_more : (weights counts : List ℕ) (k v : ℕ) → k < 65 → v ≡ min (length (words_of_degree weights k)) (2 ^ 64 - 1) →
     AreCounts weights counts k → AreCounts weights (set counts k v) (k + 1)
 counts_more weights counts k v lt e h = record {
@@ -85,6 +95,8 @@ counts_more weights counts k v lt e h = record {
   ];
 }
 
+-- where the lists of the degrees below k are right, and that of degree k is put behind them, or an empty one where it is not of use,
+-- those up to k are right
 pub lists_more : (weights : List ℕ) (d k : ℕ) (lists : List (List (List ℕ))) (new : List (List ℕ)) → AreLists weights d lists k
     → (words_of_degree weights (d - k) ≢ [] → new ≡ words_of_degree weights k) → (words_of_degree weights (d - k) ≡ [] → new ≡ []) →
     AreLists weights d (lists ++ new ∷ []) (k + 1)
