@@ -123,7 +123,7 @@ module _ (weights : List ℕ) where
         (λ x. with_letter-falling (words_within weights n) (suc d) x (within-falling n))
         (across (words_within weights n) (suc d)) (range_with_len 0 (length weights)) (range-rising 0 (length weights))
 
-    -- the list falls, letter by letter
+    -- the list of a degree falls letter by letter
     pub words_of_degree-falling : (d : ℕ) → AllPairs IsLetterwiseGreater (words_of_degree weights d)
     words_of_degree-falling d = within-falling d d
 
@@ -137,7 +137,7 @@ module _ (weights : List ℕ) where
         λ x. within-more n m (suc d - weight_of weights x) (omega (arith, le, positive x)) (omega (arith, le', positive x)) in
         λ i. flat_map (λ x. cond (leb (weight_of weights x) (suc d)) (map (λ w. x ∷ w) (less x i)) []) (range_with_len 0 (length weights))
 
-    -- W(d) by its letters, for d of 1 or more
+    -- above degree 0 the list of a degree is, for each letter in rising number, this letter before each word of the degree that is left
     pub words_of_degree-unfolds : (d : ℕ) → words_of_degree weights (suc d)
         ≡ flat_map (with_letter weights (words_of_degree weights) (suc d)) (range_with_len 0 (length weights))
     words_of_degree-unfolds d = λ i. flat_map (λ x. same x i) (range_with_len 0 (length weights))
@@ -146,7 +146,7 @@ module _ (weights : List ℕ) where
         same x = ap (λ (ws : List (List ℕ)). cond (leb (weight_of weights x) (suc d)) (map (λ w. x ∷ w) ws) [])
             (within-more d (suc d - weight_of weights x) (suc d - weight_of weights x) (omega (arith, positive x)) (omega arith))
 
-    -- the list falls in the order of words
+    -- the list of a degree falls in the order of words
     pub words_of_degree-order : (d : ℕ) → AllPairs (IsGreater weights) (words_of_degree weights d)
     words_of_degree-order d i j x below within =
         let degrees : All (λ w. degree_of weights w ≡ d) (words_of_degree weights d) =

@@ -4,7 +4,7 @@ use Rattle.std.proofs.Math.Seq.{drop-append_seam, take-append_seam}
 use Rattle.std.proofs.lemmas.List.{take-append-drop}
 use Rattle.words.specs.Words.{IsFactor, OccursAt}
 
--- a factor stands behind what is before it
+-- a factor of a word stands in it at the place behind the letters before it
 pub factor_occurs : (v w : List ℕ) (f : IsFactor v w) → OccursAt v w (length f.before)
 factor_occurs v w f =
     let split : w ≡ f.before ++ (v ++ f.after) = f.joined ∙ append_assoc f.before v f.after in
@@ -14,7 +14,7 @@ factor_occurs v w f =
           ∙ ap (take (length v)) (drop-append_seam f.before (v ++ f.after)) ∙ take-append_seam v f.after;
     }
 
--- what stands at a place is a factor
+-- what stands in a word at a place is a factor of it
 pub occurs_factor : (v w : List ℕ) (k : ℕ) → OccursAt v w k → IsFactor v w
 occurs_factor v w k o = record {
   before = take k w;

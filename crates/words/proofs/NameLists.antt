@@ -12,11 +12,11 @@ use Rattle.words.specs.declared.alphabet.AlphabetFault.TheVariants.{Empty, TooMa
 use Rattle.words.specs.Names.{AreApart, AreNames, IsFaultOf, IsFirstRepeat}
 
 module _ {X : Type 0} (f : X → List ℕ) where
-  -- the name at a place
+  -- the name of the member at place i stands at place i of the names
   pub name_here : (xs : List X) (i : ℕ) (x : X) (name : List ℕ) → i < length xs → x ≡ get_or xs i x → f x ≡ name → get_or (map f xs) i [] ≡ name
   name_here xs i x name lt is e = get_or-map f xs i x [] lt ∙ ap f (sym is) ∙ e
 
-  -- one more name, which is another
+  -- where the names before place i are other than a name, and the one at place i is too, so are all names up to it
   pub others_more : (xs : List X) (i : ℕ) (x : X) (name : List ℕ) → i < length xs → x ≡ get_or xs i x → f x ≢ name →
       All (λ n. n ≢ name) (map f (take i xs)) → All (λ n. n ≢ name) (map f (take (i + 1) xs))
   others_more xs i x name lt is other h =
@@ -24,14 +24,14 @@ module _ {X : Type 0} (f : X → List ℕ) where
       (All-append (λ n. n ≢ name) (map f (take i xs)) (f (get_or xs i x) ∷ []) h
       (All-cons (λ n. n ≢ name) (f (get_or xs i x)) [] (λ e. other (ap f is ∙ e)) (All-nil (λ n. n ≢ name))))
 
-  -- one more name, which is none of those before
+  -- where the names before place i are apart, and the one at place i is none of them, the names up to it are apart
   pub apart_more : (xs : List X) (i : ℕ) (x : X) → i < length xs → x ≡ get_or xs i x → All (λ n. n ≢ f x) (map f (take i xs)) →
       AreApart (map f (take i xs)) → AreApart (map f (take (i + 1) xs))
   apart_more xs i x lt is others apart =
       subst AreApart (sym (map_more f xs i x lt)) (all_pairs_push (λ a b. a ≢ b) (map f (take i xs)) (f (get_or xs i x)) apart
       (λ k d within e. others k d within (e ∙ ap f (sym is))))
 
-  -- one more name, which is one of those before
+  -- where the names before place i are apart, and the one at place i stands at a place before it, these two places are the first repeat
   pub repeat_here : (xs : List X) (first i : ℕ) (x : X) → i < length xs → x ≡ get_or xs i x → first < i →
       get_or (map f (take i xs)) first [] ≡ f x → AreApart (map f (take i xs)) → IsFirstRepeat (map f xs) first i
   repeat_here xs first i x lt is before e apart = record {
@@ -42,7 +42,7 @@ module _ {X : Type 0} (f : X → List ℕ) where
     apart = subst AreApart (sym (take-map f i xs)) apart;
   }
 
-  -- all names are apart
+  -- one to 64 names of which those before a place at the end or past it are apart are all different
   pub names_from : (xs : List X) (i : ℕ) → false ≡ (length xs == 0) → length xs ≤ 64 → length xs ≤ i → AreApart (map f (take i xs)) → AreNames (map f xs)
   names_from xs i some few past apart = record {
     some = omega (arith, length-map xs f, eqb-false (length xs) 0 (sym some));
@@ -79,7 +79,7 @@ one_first names f g s r q = elim (cases_lt f g) [
   ]
 ]
 
--- the fault of names with a first repeat is that one
+-- the fault of at most 64 names with a first repeat is this repeat
 pub fault_of_repeat : (fault : AlphabetFault) (names : List (List ℕ)) (first second : ℕ) → IsFaultOf fault names → length names ≤ 64 →
     IsFirstRepeat names first second → fault ≡ Repeated first second
 fault_of_repeat Empty names first second h few r = absurd (omega (arith, r.within, ap length h))

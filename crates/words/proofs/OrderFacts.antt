@@ -111,7 +111,7 @@ take-append-add : (u a : List ℕ) (n : ℕ) → take (length u + n) (u ++ a) �
 take-append-add [] a n = rw zero-add refl
 take-append-add (x ∷ u) a n = rw suc-add (ap (λ (r : List ℕ). x ∷ r) (take-append-add u a n))
 
--- the first difference stays in products
+-- where a has the smaller letter number at its first difference from b, so has u * a * v at its first difference from u * b * v
 pub difference_in_product : (u a b v : List ℕ) → HasSmallerFirst a b → HasSmallerFirst (u ++ a ++ v) (u ++ b ++ v)
 difference_in_product u a b v d =
     let left : take (length u + d.at) (u ++ a ++ v) ≡ u ++ take d.at a =
@@ -151,7 +151,8 @@ some_above : (n : ℕ) → nat_cmp (suc n) 0 ≡ Greater
 some_above n = by_ranked (suc n < 0) (suc n ≡ 0) (0 < suc n) (nat_cmp (suc n) 0) (ranked (suc n) 0 (nat_cmp (suc n) 0) refl)
     (λ is below. absurd (omega (arith, below))) (λ is same. absurd (omega (arith, same))) (λ is above. is)
 
--- by the letters that both have, and then by the lengths
+-- two words, one of n letters and the other of no fewer, compare letter by letter as the first n letters of the second with those of the
+-- first by number, and else as their lengths
 pub letterwise_by_front : (n : ℕ) (a b : List ℕ) → n ≤ length a → n ≤ length b → (length a ≡ n) ⊎ (length b ≡ n)
     → letterwise_cmp a b ≡ ordering_then (slice_cmp nat_cmp (take n b) (take n a)) (nat_cmp (length a) (length b))
 letterwise_by_front zero [] [] m k h = refl

@@ -35,18 +35,18 @@ pub degree_of-positive : (weights : List ℕ) → AreWeights weights → (w : Li
 degree_of-positive weights aw [] ne = absurd (ne refl)
 degree_of-positive weights aw (x ∷ w) ne = omega (arith, (weight_of-bounds weights aw x).0)
 
--- at most eight for each letter
+-- the degree of a word is at most eight times the number of its letters
 pub degree_of-bound : (weights : List ℕ) → AreWeights weights → (w : List ℕ) → degree_of weights w ≤ 8 * length w
 degree_of-bound weights aw [] = omega arith
 degree_of-bound weights aw (x ∷ w) = omega (arith, (weight_of-bounds weights aw x).1, degree_of-bound weights aw w)
 
--- one letter more
+-- the degree of the first i + 1 letters of a word is that of the first i and the weight of the letter at place i
 pub degree_of-more : (weights w : List ℕ) (i : ℕ) → i < length w →
     degree_of weights (take (i + 1) w) ≡ degree_of weights (take i w) + weight_of weights (get_or w i 0)
 degree_of-more weights w i within =
     ap (degree_of weights) (take_more w i 0 within) ∙ degree_of-append weights (take i w) (get_or w i 0 ∷ []) ∙ omega arith
 
--- the first letters have no greater degree
+-- the first letters of a word have no greater degree than the word
 pub degree_of-take : (weights w : List ℕ) (i : ℕ) → degree_of weights (take i w) ≤ degree_of weights w
 degree_of-take weights w zero = omega arith
 degree_of-take weights [] (suc i) = omega arith
