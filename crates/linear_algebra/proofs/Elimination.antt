@@ -67,7 +67,7 @@ module _ (K : Field) (X : Type 0) where
   neg_mul : (a b : K.F) → K.mul (K.neg a) b ≡ K.neg (K.mul a b)
   neg_mul a b = K.mul_comm (K.neg a) b ∙ mul_neg K b a ∙ ap K.neg (K.mul_comm b a)
 
-  -- a + (- a) * 1
+  -- where b is 1, a + (- a) * b is 0
   pub cleared_here : (a b : K.F) → b ≡ K.one → K.add a (K.mul (K.neg a) b) ≡ K.zero
   cleared_here a b e = ap (λ (n : K.F). K.add a (K.mul (K.neg a) n)) e ∙ ap (K.add a) (K.mul_one (K.neg a)) ∙ K.add_neg a
 
