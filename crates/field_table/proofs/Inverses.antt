@@ -21,7 +21,7 @@ next_inverse p a s pos e =
     mul-mod_second a ((p - p / a) * s) p ∙ ap (λ (n : ℕ). n % p) (sym (mul_assoc a (p - p / a) s) ∙ product)
     ∙ mul-add-mod_self_left p ((a - 1) * s) (p % a * s) ∙ e
 
--- by the remainder of p, which is smaller
+-- where no smaller number from 2 on divides p, each number above 0 that is at most n and below p has an inverse modulo p
 pub inverse_from : (p : ℕ) → 2 ≤ p → ((a : ℕ) → 2 ≤ a → a < p → p % a ≢ 0) → (n a : ℕ) → a ≤ n → 0 < a → a < p → (b : ℕ) × (b < p) × ((a * b) % p ≡ 1)
 inverse_from p two apart zero a le pos lt = absurd (omega arith)
 inverse_from p two apart (suc n) a le pos lt = elim (cases_lt a 2) [
@@ -81,11 +81,11 @@ undivided_from_test p k t room a two lt is = elim (cases_lt k a) [
       tested p k (p / a) t (omega arith) below divided
 ]
 
--- small numbers whose square root is at most k
+-- a number of 2 or more, below the square of k + 1, that no number from 2 to k divides is a field modulus
 pub field_modulus_from_test : (p k : ℕ) → 2 ≤ p → no_divisor_upto p k ≡ true → p < (k + 1) * (k + 1) → IsFieldModulus p
 field_modulus_from_test p k two t room = field_modulus_from_undivided p two (undivided_from_test p k t room)
 
--- in a field no smaller number from 2 on divides the modulus
+-- no smaller number from 2 on divides a field modulus
 pub undivided_from_field_modulus : (p : ℕ) → IsFieldModulus p → IsUndivided p
 undivided_from_field_modulus p f a two lt is =
     let inv = f.has_inverse a (omega arith) lt in
@@ -100,7 +100,7 @@ undivided_from_field_modulus p f a two lt is =
     let same : (1 * (p / a)) % p ≡ 1 * (p / a) = mod-eq_of_lt {n = 1 * (p / a)} {m = p} (omega (arith, two_parts, whole, positive)) in
     omega (arith, zero_mod, kept, same, positive)
 
--- one more inverse by the remainder
+-- a table of the inverses below a, with (p - p / a) times the inverse of p % a behind it, is one of the inverses up to a
 pub IsTableUpto-push : (p a : ℕ) (xs : List ℕ) (v : ℕ) → IsFieldModulus p → 2 ≤ a → a < p → IsTableUpto p xs a
     → v ≡ ((p - p / a) * get_or xs (p % a) 0) % p → IsTableUpto p (xs ++ v ∷ []) (a + 1)
 IsTableUpto-push p a xs v f two lt t is =

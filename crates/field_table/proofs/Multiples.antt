@@ -5,7 +5,7 @@ use Rattle.std.proofs.Math.Nat.{mod-lt}
 use Rattle.std.proofs.lemmas.List.Elements.{All-cons, All-nil}
 use Rattle.field_table.specs.Residues.{plus_multiple}
 
--- a list that has the sum at each place is the sum
+-- a list as long as y and x that has at each place the entry of y and a times that of x is y + a * x
 pub plus_multiple_by_places : (p a : ℕ) (y x z : List ℕ) → length z ≡ length y → length y ≡ length x
     → ((k : ℕ) → k < length y → get_or z k 0 ≡ (get_or y k 0 + a * get_or x k 0) % p) → z ≡ plus_multiple p a y x
 plus_multiple_by_places p a [] x [] e l h = refl
@@ -15,7 +15,7 @@ plus_multiple_by_places p a (r ∷ y) (s ∷ x) [] e l h = absurd (omega (arith,
 plus_multiple_by_places p a (r ∷ y) (s ∷ x) (t ∷ z) e l h =
     ap₂ ◌∷◌ (h zero (omega arith)) (plus_multiple_by_places p a y x z (omega (arith, e)) (omega (arith, l)) (λ k within. h (suc k) (omega (arith, within))))
 
--- its entries are residues
+-- the entries of y + a * x are residues
 pub plus_multiple-residues : (p a : ℕ) (y x : List ℕ) → 0 < p → length y ≡ length x → All (λ r. r < p) (plus_multiple p a y x)
 plus_multiple-residues p a [] x pos l = All-nil (λ r. r < p)
 plus_multiple-residues p a (r ∷ y) [] pos l = absurd (omega (arith, l))
