@@ -8,7 +8,7 @@ use Rattle.std.specs.Io.KnownBytes.{Appends, Consumes, Keeps}
 use Rattle.std.proofs.KnownBytes.{Appends-trans, Appends-kept, Consumes-trans}
 use Rattle.bg_io.specs.Ends.{CountsAtMost, CountsGained, CountsTaken, IsCutShort, Loses, LosesAtMost, RoomFalls}
 
--- what was taken of the front, and then of the rest, is a longer front
+-- where the first m bytes of a text were appended, and then the first n of the rest, the first m + n of it were
 pub Appends-more : (a b c : Option (List ℕ)) (m n : ℕ) (xs : List ℕ) → Appends a b (take m xs) → Appends b c (take n (drop m xs)) →
     Appends a c (take (m + n) xs)
 Appends-more a b c m n xs p q = rw take-add (Appends-trans a b c (take m xs) (take n (drop m xs)) p q)
@@ -32,7 +32,7 @@ CountsAtMost-more (Some x) None c m n most p q le = absurd p
 CountsAtMost-more (Some x) (Some y) None m n most p q le = absurd q
 CountsAtMost-more (Some x) (Some y) (Some z) m n most p q le = (omega (arith, p.0, q.0), omega (arith, p.1, q.1, le))
 
--- a text of which not all was taken is cut short
+-- where not all of a text was appended, and then nothing, what was gained is the text cut short
 pub cut_short : (a b c : Option (List ℕ)) (m : ℕ) (xs : List ℕ) → m < length xs → Appends a b (take m xs) → Keeps b c →
     (gained : List ℕ) × IsCutShort gained xs × Appends a c gained
 cut_short a b c m xs within p k = (
@@ -45,7 +45,8 @@ cut_short a b c m xs within p k = (
   Appends-kept a b c (take m xs) p k,
 )
 
--- a call that took nothing of the rest is the one call more
+-- where not all of a text was appended, by at most as many calls as bytes, and at most one call more appended nothing, there was at most one
+-- call more than bytes gained
 pub counts_failed : (a b c : Option (List ℕ)) (x y z : Option ℕ) (m : ℕ) (xs : List ℕ) → m < length xs → Appends a b (take m xs) → Keeps b c →
     CountsAtMost x y m → CountsAtMost y z 1 → CountsGained a c x z 1
 counts_failed a b c x y z m xs within p k q r = record {
@@ -54,11 +55,11 @@ counts_failed a b c x y z m xs within p k q r = record {
   counted = CountsAtMost-more x y z m 1 (length (take m xs) + 1) q r (omega (arith, within, length-take m xs));
 }
 
--- what is left of a piece is cut by no length
+-- the rest of a text behind place m, cut to as many bytes as are left, has the same first n bytes
 pub whole_rest : (n m : ℕ) (xs : List ℕ) → n ≤ length xs - m → take n (take (length xs - m) (drop m xs)) ≡ take n (drop m xs)
 whole_rest n m xs le = take-take n (length xs - m) (drop m xs) le
 
--- what a source gave into the front of a piece, and what it has left, are what it had
+-- what a source had left is what it gave into the front of a piece, and then what it has left now
 pub given_front : (given count : ℕ) (bytes front tail : List ℕ) → front ≡ take count (drop given bytes) → length front ≡ count →
     drop given bytes ≡ take count (front ++ tail) ++ drop (given + count) bytes
 given_front given count bytes front tail same long =
@@ -67,7 +68,8 @@ given_front given count bytes front tail same long =
     sym (take-append-drop count (drop given bytes)) ∙ ap (λ (l : List ℕ). take count (drop given bytes) ++ l) (drop-drop count given bytes)
     ∙ ap (λ (l : List ℕ). l ++ drop (given + count) bytes) (sym all)
 
--- one more piece was taken, and all of it is more than the limit by one
+-- where a text within the limit was taken, and then n bytes of a piece that goes past the limit by one at most, which pass it, one byte
+-- more than the limit is gone
 pub Loses-more : (a b c : Option (List ℕ)) (n limit : ℕ) (text piece : List ℕ) → Consumes a b text → Consumes b c (take n piece) →
     n ≤ length piece → length piece ≤ limit + 1 - length text → length text ≤ limit → limit < length text + n → Loses a c (limit + 1)
 Loses-more a b c n limit text piece p q fits short before above = record {
@@ -76,7 +78,7 @@ Loses-more a b c n limit text piece p q fits short before above = record {
   gone = Consumes-trans a b c text (take n piece) p q;
 }
 
--- one more piece was taken, and all of it is within the limit
+-- where a text was taken, and then n bytes of a piece, within the limit together, at most as many bytes as the limit are gone
 pub LosesAtMost-more : (a b c : Option (List ℕ)) (n limit : ℕ) (text piece : List ℕ) → Consumes a b text → Consumes b c (take n piece) →
     length text + n ≤ limit → LosesAtMost a c limit
 LosesAtMost-more a b c n limit text piece p q within = record {
@@ -85,7 +87,8 @@ LosesAtMost-more a b c n limit text piece p q within = record {
   gone = Consumes-trans a b c text (take n piece) p q;
 }
 
--- one more piece was taken by one more call
+-- where a text was taken by at most as many calls as it has bytes, and then n bytes of a piece by at most one call, there was at most one
+-- call more than bytes taken
 pub CountsTaken-more : (a b c : Option (List ℕ)) (x y z : Option ℕ) (n : ℕ) (text piece : List ℕ) → Consumes a b text →
     Consumes b c (take n piece) → CountsAtMost x y (length text) → CountsAtMost y z 1 → CountsTaken a c x z
 CountsTaken-more a b c x y z n text piece p q r s = record {
