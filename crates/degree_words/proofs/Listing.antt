@@ -49,7 +49,8 @@ module _ (weights : List ℕ) (W : ℕ → List (List ℕ)) (k x : ℕ) where
   abbrev pub before_letter : ℕ → List (List ℕ)
   before_letter n = flat_map (with_letter weights W k) (range_with_len 0 n)
 
-  -- one more letter, whose words are counted up to a most
+  -- where the weight of x is at most k, the number of words that the letters below x begin and that of the words of the degree that is left,
+  -- each counted up to a most, are together, up to the most, the number of words that the letters up to x begin
   pub count_more : (most count entry : ℕ) → weight_of weights x ≤ k → count ≡ min (length (before_letter x)) most →
       entry ≡ min (length (W (k - weight_of weights x))) most
       → min (count + entry) most ≡ min (length (before_letter (x + 1))) most
@@ -77,7 +78,7 @@ module _ (weights : List ℕ) (W : ℕ → List (List ℕ)) (k x : ℕ) where
   list_same ws lt e = e ∙ sym (flat_map-range (with_letter weights W k) x
       ∙ ap (λ (vs : List (List ℕ)). before_letter x ++ vs) (with_letter-out lt) ∙ append-nil (before_letter x))
 
--- W(d) by its letters
+-- above degree 0 the list of a degree is, for each letter in rising number, this letter before each word of the degree that is left
 pub unfolds_at : (weights : List ℕ) → AreWeights weights → (k : ℕ) → 0 < k →
     words_of_degree weights k ≡ flat_map (with_letter weights (words_of_degree weights) k) (range_with_len 0 (length weights))
 unfolds_at weights aw zero some = absurd (omega (arith, some))
@@ -119,7 +120,7 @@ lists_more weights d k lists new h listed unused = record {
     earlier : (j : ℕ) → j < k → list_at (lists ++ new ∷ []) j ≡ list_at lists j
     earlier j lt = get_or_append_left lists (new ∷ []) [] j (omega (arith, lt, h.size))
 
--- the list of a degree of use, from the lists below
+-- where some word has degree d - k, the list of degree k is had by its letters from the lists of the degrees below k
 pub list_unfolds : (weights : List ℕ) → AreWeights weights → (d k : ℕ) (lists : List (List (List ℕ))) → 0 < k → k ≤ d →
     AreLists weights d lists k → words_of_degree weights (d - k) ≢ []
     → flat_map (with_letter weights (list_at lists) k) (range_with_len 0 (length weights)) ≡ words_of_degree weights k
