@@ -121,7 +121,7 @@ module _ {X : Type 0} (key : X → ℕ) where
     ]
   ]
 
-  -- in a list that rises, those with a key stand together
+  -- in a list that rises by its keys the members with key d stand together, behind those with a key below d
   pub with_key : (d : ℕ) (xs : List X) → AllPairs (λ x y. key x ≤ key y) xs → slice_range xs (below d xs) (upto d xs) ≡ filter (λ x. key x == d) xs
   with_key d [] h = refl
   with_key d (x ∷ xs) h =

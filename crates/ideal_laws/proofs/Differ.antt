@@ -276,7 +276,7 @@ module _ (ideal : Ideal) (st : IsSetting ideal) where
       ∙ ap (λ (n : ℕ). degree_of ideal.weights h.left + n + degree_of ideal.weights h.right) (lower_degree d h.element h.lead h.lower h.is_lead)
       ∙ h.degree
 
-  -- a product of a lower product is one
+  -- a lower product of degree e with words put round it, of degree d together, is a lower product of degree d
   pub shift_lower : (d e : ℕ) (u v x : List ℕ) (f : Vd) → IsOver (length ideal.weights) u → IsOver (length ideal.weights) v →
       degree_of ideal.weights u + e + degree_of ideal.weights v ≡ d
       → IsLowerProduct ideal st d e x f → IsLowerProduct ideal st d d (u ++ x ++ v) (shifted ideal.modulus st.modulus u v f)

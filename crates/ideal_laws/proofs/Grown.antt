@@ -57,7 +57,7 @@ of_degree-all weights d ((t ∷ f) ∷ fs) m h =
     (eq-eqb (degree_of weights t.word) d (lead_degree-is weights d (t ∷ f) (All-head IsMonic (t ∷ f) fs m) (All-head (HasDegree weights d) (t ∷ f) fs h)))
     ∙ ap (λ (gs : List (List Term)). (t ∷ f) ∷ gs) (of_degree-all weights d fs (All-tail IsMonic (t ∷ f) fs m) (All-tail (HasDegree weights d) (t ∷ f) fs h))
 
--- the elements of a degree stand together
+-- the elements of degree d of a basis stand together, behind those of lower degrees
 pub degree_together : (basis : Elements) → IsKept basis → (d : ℕ)
     → slice_range basis.elements (count_below basis.weights d basis.elements) (count_upto basis.weights d basis.elements)
     ≡ of_degree basis.weights d basis.elements
@@ -71,7 +71,7 @@ degree_together basis h d =
     no_later f g (inl lower) = omega (arith, lower)
     no_later f g (inr equal) = omega (arith, equal.0)
 
--- what is stored at the last done degree holds of all later ones
+-- the end stored at degree d, or at the last degree that is done where that is less, is the number of elements of degrees up to d
 pub end_stored : (basis : Elements) (ends : List ℕ) → IsStored basis ends → (d m : ℕ) → m ≡ min d basis.done →
     get_or ends m 0 ≡ count_upto basis.weights d basis.elements
 end_stored basis ends h d m e = elim (cases_lt basis.done d) [
@@ -180,7 +180,7 @@ module _ (basis : Elements) (added : List (List Term)) (next : AreNext basis add
         subst (IsReducedBasis (ideal_over p basis.weights relations) d) (sym here) (old d from before)
   ]
 
--- the reduced basis of a degree may be the next one
+-- the reduced basis of the next degree, where it has at most 16,777,216 elements, may be the next degree of a basis
 pub next_from_reduced : (p : ℕ) (relations : List (List Term)) (basis : Elements) (added : List (List Term)) → length added ≤ 16777216
     → IsReducedBasis (ideal_over p basis.weights relations) (basis.done + 1) added → AreNext basis added
 next_from_reduced p relations basis added few h = record {
@@ -191,7 +191,7 @@ next_from_reduced p relations basis added few h = record {
   falling = h.falling;
 }
 
--- no degree is done
+-- the basis with no degree done, in one to 64 letters of weights from 1 to 8, is stored where the end of degree 0 is 0
 pub stored_none : (weights ends : List ℕ) → 0 < length weights → length weights ≤ 64 → AreWeights weights → length ends ≡ 65 →
     get_or ends 0 0 ≡ 0 → IsStored (record { weights = weights; done = 0; elements = [] }) ends
 stored_none weights ends one few are size none = record {
@@ -208,7 +208,7 @@ stored_none weights ends one few are size none = record {
   counted = λ d le. ap (λ (n : ℕ). get_or ends n 0) (let z : d ≡ 0 = omega (arith, le) in z) ∙ none;
 }
 
--- the same of a basis that has grown so
+-- a basis that has grown by the reduced basis of the next degree is reduced in each degree, where it was so before
 pub reduced_upto_grown : (p : ℕ) (relations : List (List Term)) (old new : Elements) (added : List (List Term)) → IsKept old →
     IsReducedUpto p relations old → length added ≤ 16777216
     → IsReducedBasis (ideal_over p old.weights relations) (old.done + 1) added → new.weights ≡ old.weights → new.done ≡ old.done + 1 →

@@ -81,7 +81,7 @@ module _ (ideal : Ideal) (st : IsSetting ideal) where
       let r = All-contains (IsRelation ideal.modulus ideal.weights) ideal.relations m.relation st.are_relations i.among in
       absurd (positive_product ideal.weights st.are_weights m.left m.relation m.right r.other r.degree i.degree)
 
-  -- no monic member has degree 0
+  -- degree 0 has no reduced element
   pub no_reduced_0 : (f : List Term) → IsReduced ideal 0 f → ⊥
   no_reduced_0 f h =
       let w = monic-led f h.monic in

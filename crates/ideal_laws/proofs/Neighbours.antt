@@ -43,7 +43,7 @@ module _ (ideal : Ideal) (st : IsSetting ideal) where
   abbrev K : Field
   K = vectors.K ideal.modulus fm
 
-  -- a product is in the ideal
+  -- the product of a relation by words over the letters, where it has degree d, is a member of degree d
   pub product_inside : (d : ℕ) (m : Multiple) → IsMultiple ideal d m → IsInIdeal ideal d (product m.left m.relation m.right)
   product_inside d m h =
       let r = All-contains (IsRelation ideal.modulus ideal.weights) ideal.relations m.relation st.are_relations h.among in
@@ -197,7 +197,7 @@ module _ (ideal : Ideal) (st : IsSetting ideal) where
       sum = λ w. i.sum w ∙ ap (λ (g : List Term). total_at g w % ideal.modulus) (same_parts i.multiples);
     }
 
-    -- neighbours are members
+    -- a neighbour of degree d is a member of degree d
     pub neighbour_inside : (g : List Term) → IsNeighbour ideal d g → IsInIdeal ideal d g
     neighbour_inside g (before x f lt le i) =
         subst (λ (n : ℕ). IsInIdeal ideal n (product (x ∷ []) f [])) (omega (arith, le))
@@ -236,7 +236,7 @@ module _ (ideal : Ideal) (st : IsSetting ideal) where
         vector_of-append ideal.modulus fm (part_terms c) (flat_map part_terms cs) w
         ∙ ap₂ K.add (vector_of-scaled ideal.modulus fm c.factor c.element w) (vector_of-parts cs w)
 
-    -- sums of multiples of members are members
+    -- an element that is a sum of multiples of members of its degree is a member
     pub inside_from_members : (f : List Term) → IsElement ideal.modulus ideal.weights d f → IsSpanned ideal.modulus (IsInIdeal ideal d) f → IsInIdeal ideal d f
     inside_from_members f e s =
         let members : IsInSpan K (List ℕ) IsMember (vectors.vector_of ideal.modulus fm f) = record {

@@ -14,7 +14,7 @@ use Rattle.ideal_laws.proofs.Factors.{factor_law}
 use Rattle.ideal_laws.proofs.OneBasis.{minimal_led}
 
 module _ (ideal : Ideal) (st : IsSetting ideal) (e : ℕ) (G : List (List Term)) (lower : AreLower ideal e G) (d : ℕ) (w : List ℕ) where
-  -- a word that leads nothing is normal
+  -- a word of degree d that is no leading word is normal
   pub normal_from : Contains (words_of_degree ideal.weights d) w → (IsLeadingWord ideal d w → ⊥) → IsNormal G w
   normal_from m not g v k among led o =
       let s = words_of_degree-says ideal.weights st.are_weights d w m in
@@ -22,7 +22,7 @@ module _ (ideal : Ideal) (st : IsSetting ideal) (e : ℕ) (G : List (List Term))
       not (subst (λ (n : ℕ). IsLeadingWord ideal n w) s.1
       ((factor_law ideal st w s.0).1 (v, occurs_factor v w k o, r.2.minimal v led)))
 
-  -- and a normal one leads nothing
+  -- a normal word of a degree below e is no leading word
   pub normal_no_lead : d < e → Contains (words_of_degree ideal.weights d) w → IsNormal G w → IsLeadingWord ideal d w → ⊥
   normal_no_lead below m normal l =
       let s = words_of_degree-says ideal.weights st.are_weights d w m in

@@ -39,7 +39,7 @@ use Rattle.ideal_laws.proofs.Vectors as vectors
 pub some_same : (a b : List ℕ) → Some a ≡ Some b → a ≡ b
 some_same a b e = cc e
 
--- the leads of two elements cannot stand in the order both ways
+-- no element has a greater leading word than itself
 pub greater_strict : (f : List Term) → HasGreaterLead f f → ⊥
 greater_strict f h = letterwise-apart h.of_f h.of_g h.greater (some_same h.of_f h.of_g (sym h.leads_f ∙ h.leads_g))
 
@@ -298,7 +298,7 @@ module _ (ideal : Ideal) (st : IsSetting ideal) (d : ℕ) where
           })))
           (falling_rows cs (λ e m. h e (Contains-more c cs e m)) (AllPairs-rest (λ (c e : List ℕ × RowVector). IsLetterwiseGreater c.0 e.0) c cs f))
 
--- each minimal word leads a reduced member of its degree
+-- each minimal word is the leading word of a reduced element of its degree
 pub minimal_led : (ideal : Ideal) (st : IsSetting ideal) (w : List ℕ) → IsMinimal ideal w
     → (f : List Term) × IsReducedElement ideal (degree_of ideal.weights w) f × (lead_of f ≡ Some w)
 minimal_led ideal st w h =

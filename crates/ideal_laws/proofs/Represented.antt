@@ -170,7 +170,8 @@ module _ (ideal : Ideal) (st : IsSetting ideal) where
     cleared_stays x y q v none nothing = ap₂ (λ (m n : Residue ideal.modulus). Kr.add m (Kr.mul (Kr.neg (v x)) n)) none nothing ∙ zero_add Kr _
         ∙ mul_zero Kr (Kr.neg (v x))
 
-    -- by the words from the greatest on
+    -- where the words of a degree below d are pre and then xs, a member that is 0 at those of pre is a sum of multiples of lower products
+    -- with leading words in xs
     pub represented_from : (xs pre : List (List ℕ)) → columns ≡ pre ++ xs → (v : Vr) → IsMemberVector ideal fmr st e v →
         ((y : List ℕ) → Contains pre y → v y ≡ Kr.zero)
         → IsInSpan Kr (List ℕ) (IsLowerAmong d e xs) v
@@ -222,7 +223,7 @@ module _ (ideal : Ideal) (st : IsSetting ideal) where
         in_middle [] = Contains-first x xs
         in_middle (b ∷ pre) = Contains-more b (pre ++ x ∷ xs) x (in_middle pre)
 
-    -- each member is a sum of multiples of such products
+    -- a member of a degree below d is a sum of multiples of lower products of its degree
     pub represented : (f : List Term) → IsInIdeal ideal e f → IsInSpan Kr (List ℕ) (IsLowerAmong d e columns) (vectors.vector_of ideal.modulus fmr f)
     represented f i = represented_from columns [] refl (vectors.vector_of ideal.modulus fmr f) (span_from_ideal ideal fmr e f i)
         (λ y m. absurd (Contains-none y m))

@@ -64,7 +64,7 @@ module _ (p : ℕ) (fm : IsFieldModulus p) (u v : List ℕ) where
   shifted-sum [] w = shifted-zero w
   shifted-sum (c ∷ cs) w = shifted-linear c.0 c.1 (sum_of K (List ℕ) cs) w ∙ ap (K.add (K.mul c.0 (shifted c.1 w))) (shifted-sum cs w)
 
-  -- a span goes to the span of the products
+  -- where each vector with P goes, shifted, to one with Q, each vector of the span of P goes to one of the span of Q
   pub span_shifted : (P Q : V → Type 0) → ((f : V) → P f → Q (shifted f)) → (f : V) → IsInSpan K (List ℕ) P f → IsInSpan K (List ℕ) Q (shifted f)
   span_shifted P Q h f s = record {
     parts = map shifted_part s.parts;
