@@ -45,8 +45,7 @@ cut_short a b c m xs within p k = (
   Appends-kept a b c (take m xs) p k,
 )
 
--- where not all of a text was appended, by at most as many calls as bytes, and at most one call more appended nothing, there was at most one
--- call more than bytes gained
+-- where some of a text was appended by at most a call a byte, and one call more appended nothing, it is at most one call more than bytes
 pub counts_failed : (a b c : Option (List ℕ)) (x y z : Option ℕ) (m : ℕ) (xs : List ℕ) → m < length xs → Appends a b (take m xs) → Keeps b c →
     CountsAtMost x y m → CountsAtMost y z 1 → CountsGained a c x z 1
 counts_failed a b c x y z m xs within p k q r = record {
@@ -68,8 +67,7 @@ given_front given count bytes front tail same long =
     sym (take-append-drop count (drop given bytes)) ∙ ap (λ (l : List ℕ). take count (drop given bytes) ++ l) (drop-drop count given bytes)
     ∙ ap (λ (l : List ℕ). l ++ drop (given + count) bytes) (sym all)
 
--- where a text within the limit was taken, and then n bytes of a piece that goes past the limit by one at most, which pass it, one byte
--- more than the limit is gone
+-- where n bytes of a piece that can pass the limit by one alone pass it, with the text that was taken, one byte more than the limit is gone
 pub Loses-more : (a b c : Option (List ℕ)) (n limit : ℕ) (text piece : List ℕ) → Consumes a b text → Consumes b c (take n piece) →
     n ≤ length piece → length piece ≤ limit + 1 - length text → length text ≤ limit → limit < length text + n → Loses a c (limit + 1)
 Loses-more a b c n limit text piece p q fits short before above = record {
@@ -87,8 +85,7 @@ LosesAtMost-more a b c n limit text piece p q within = record {
   gone = Consumes-trans a b c text (take n piece) p q;
 }
 
--- where a text was taken by at most as many calls as it has bytes, and then n bytes of a piece by at most one call, there was at most one
--- call more than bytes taken
+-- where a text was taken by at most a call a byte, and n bytes of a piece by at most one call, it is at most one call more than bytes
 pub CountsTaken-more : (a b c : Option (List ℕ)) (x y z : Option ℕ) (n : ℕ) (text piece : List ℕ) → Consumes a b text →
     Consumes b c (take n piece) → CountsAtMost x y (length text) → CountsAtMost y z 1 → CountsTaken a c x z
 CountsTaken-more a b c x y z n text piece p q r s = record {

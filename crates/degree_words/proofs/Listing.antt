@@ -49,8 +49,7 @@ module _ (weights : List ℕ) (W : ℕ → List (List ℕ)) (k x : ℕ) where
   abbrev pub before_letter : ℕ → List (List ℕ)
   before_letter n = flat_map (with_letter weights W k) (range_with_len 0 n)
 
-  -- where the weight of x is at most k, the number of words that the letters below x begin and that of the words of the degree that is left,
-  -- each counted up to a most, are together, up to the most, the number of words that the letters up to x begin
+  -- the words that the letters below x begin and those of the degree left, counted up to a most, are those that the letters up to x begin
   pub count_more : (most count entry : ℕ) → weight_of weights x ≤ k → count ≡ min (length (before_letter x)) most →
       entry ≡ min (length (W (k - weight_of weights x))) most
       → min (count + entry) most ≡ min (length (before_letter (x + 1))) most
@@ -66,8 +65,7 @@ module _ (weights : List ℕ) (W : ℕ → List (List ℕ)) (k x : ℕ) where
       c ∙ ap (λ (ws : List (List ℕ)). min (length ws) most) (sym (flat_map-range (with_letter weights W k) x
       ∙ ap (λ (ws : List (List ℕ)). before_letter x ++ ws) (with_letter-out lt) ∙ append-nil (before_letter x)))
 
-  -- where the weight of x is at most k, the words that the letters below x begin, and x before each word of the degree that is left,
-  -- are those that the letters up to x begin
+  -- the words that the letters below x begin, and x before each word of the degree left, are those that the letters up to x begin
   pub list_more : (ws : List (List ℕ)) → weight_of weights x ≤ k → ws ≡ before_letter x →
       ws ++ map (λ w. x ∷ w) (W (k - weight_of weights x)) ≡ before_letter (x + 1)
   list_more ws le e = ap (λ (vs : List (List ℕ)). vs ++ map (λ w. x ∷ w) (W (k - weight_of weights x))) e
@@ -96,8 +94,7 @@ counts_more weights counts k v lt e h = record {
   ];
 }
 
--- where the lists of the degrees below k are right, and that of degree k is put behind them, or an empty one where it is not of use,
--- those up to k are right
+-- with the list of degree k behind right lists of the degrees below k, or an empty one where it is not of use, those up to k are right
 pub lists_more : (weights : List ℕ) (d k : ℕ) (lists : List (List (List ℕ))) (new : List (List ℕ)) → AreLists weights d lists k
     → (words_of_degree weights (d - k) ≢ [] → new ≡ words_of_degree weights k) → (words_of_degree weights (d - k) ≡ [] → new ≡ []) →
     AreLists weights d (lists ++ new ∷ []) (k + 1)

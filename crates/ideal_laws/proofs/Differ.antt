@@ -33,7 +33,7 @@ use Rattle.ideal_laws.proofs.Meeting.{IsMet, apart, inside, starts, overlap, bot
 use Rattle.ideal_laws.proofs.OneBasis.{has_one_basis}
 use Rattle.ideal_laws.proofs.Represented.{IsLower, IsLowerAmong, IsLowerProduct, before_it, lower_above, lower_inside, lower_one, represented_from}
 use Rattle.ideal_laws.proofs.Shifted.{shifted, shifted-linear, span_shifted, vector_of-product}
-use Rattle.ideal_laws.proofs.Vectors.{same_vectors, span_from_ideal, vector_of-append, vector_of-scaled}
+use Rattle.ideal_laws.proofs.Vectors.{span_from_ideal, vector_of-append, vector_of-scaled}
 use Rattle.ideal_laws.proofs.Vectors as vectors
 
 -- two members of a list in an order are one, or stand in it one way or the other
@@ -392,8 +392,7 @@ module _ (ideal : Ideal) (st : IsSetting ideal) where
         (span_from_ideal ideal st.modulus (degree_of ideal.weights whole) (product [] g b)
         (lower_inside ideal st d (degree_of ideal.weights whole) whole (vec (product [] g b)) first_product))
 
-    -- where lower elements g and h have the leading words a * c and c * b, none of the three empty, g * b - a * h is in the span of the
-    -- products of the degree of a * c * b
+    -- where lower elements g and h have the leading words a * c and c * b, g * b - a * h is in the span of the products of its degree
     pub obstruction_member : IsMemberVector ideal st.modulus st (degree_of ideal.weights whole) (vec (obstruction_row ideal.modulus g b a h))
     obstruction_member = same_span Kd (List ℕ) _ difference _ (λ y. Kd.add_comm (Kd.mul (Kd.neg Kd.one) (vec (product a h []) y))
         (vec (product [] g b) y) ∙ sym (row_difference y)) member_difference
@@ -457,8 +456,7 @@ module _ (ideal : Ideal) (st : IsSetting ideal) where
           (λ y. row_difference y ∙ ap₂ (λ (f k : List Term). less (vec f) (vec k) y) first second)
           (IsInSpan-one Kd (List ℕ) _ (vec (obstruction_row ideal.modulus g b a h)) (row (row_of e)))
 
-      -- so where u * (a * c * b) * v has degree d, the product of g at this word less that of h is a sum of multiples of products with
-      -- smaller leading words and of rows of obstructions
+      -- so the products of g and h at one word u * a * c * b * v of degree d differ by a sum of multiples of smaller products and rows
       pub overlapping : IsInSpan Kd (List ℕ) (IsBelow d w) (less (vec (product u g (b ++ v))) (vec (product (u ++ a) h v)))
       overlapping = elim (cases_lt (degree_of ideal.weights whole) d) [
         | inl lt ↦ inner_overlap lt
@@ -482,8 +480,7 @@ module _ (ideal : Ideal) (st : IsSetting ideal) where
       (λ y. ap₂ (λ (x z : List ℕ). less (vec (product u (s ∷ g) (c ++ z ++ v))) (vec (product (u ++ x ++ c) (t ∷ h) v)) y) ms ns)
       (apart_terms d w u c v s t g h lg lh hu hc hv (is ∙ ap₂ (λ (x z : List ℕ). u ++ x ++ (c ++ z ++ v)) (sym ms) (sym ns)) deg)
 
-  -- of two products with one leading word, the one whose lead stands no later, less the other, is a sum of smaller
-  -- ones and rows
+  -- of two products with one leading word, the one whose lead stands no later, less the other, is a sum of smaller ones and rows
   pub differ : (d : ℕ) (w : List ℕ) (a b : Vd) (h : IsLowerProduct ideal st d d w a) (k : IsLowerProduct ideal st d d w b) → length h.left ≤ length k.left
       → IsInSpan Kd (List ℕ) (IsBelow d w) (less a b)
   differ d w a b h k le =

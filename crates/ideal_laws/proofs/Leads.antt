@@ -27,7 +27,7 @@ use Rattle.linear_algebra.proofs.ModField.{same_residue}
 use Rattle.ideal_laws.specs.Ideal.{Ideal, IsElement, IsInIdeal, IsLeadingWord}
 use Rattle.ideal_laws.specs.Laws.{IsRelation, IsSetting}
 use Rattle.ideal_laws.proofs.Products.{listed_product, product_listed, products}
-use Rattle.ideal_laws.proofs.Vectors.{IsProductVector, ideal_from_span, same_vectors, span_from_ideal}
+use Rattle.ideal_laws.proofs.Vectors.{IsProductVector, ideal_from_span, span_from_ideal}
 use Rattle.ideal_laws.proofs.Vectors as vectors
 
 module _ (p : ℕ) (fm : IsFieldModulus p) where

@@ -35,8 +35,7 @@ pub data IsMet (u m v u' n v' : List ℕ) : Type 0 where
   starts : (b : List ℕ) → b ≢ [] → u' ≡ u → n ≡ m ++ b → v ≡ b ++ v' → IsMet u m v u' n v'
   overlap : (a c b : List ℕ) → a ≢ [] → c ≢ [] → b ≢ [] → u' ≡ u ++ a → m ≡ a ++ c → n ≡ c ++ b → v ≡ b ++ v' → IsMet u m v u' n v'
 
--- of two factors m and n of one word, m beginning no later, n stands behind m or inside it, or is longer and begins where m does,
--- or overlaps m on the right
+-- of two factors m and n of one word, m beginning no later, n stands behind m, inside it, or longer at its beginning, or overlaps it
 pub meet : (u m v u' n v' : List ℕ) → u ++ (m ++ v) ≡ u' ++ (n ++ v') → length u ≤ length u' → IsMet u m v u' n v'
 meet u m v u' n v' e le =
     let s = split u (m ++ v) u' (n ++ v') e le in

@@ -213,7 +213,6 @@ module _ (ideal : Ideal) (st : IsSetting ideal) (d : ℕ) (G : List (List Term))
         sum = λ w. same_vectors ideal.modulus st.modulus f _ s.sum w ∙ vector_of-parts ideal st d s.parts w;
       }))
 
--- over the reduced elements of degrees below d an element of degree d is in the ideal exactly where it is a sum of multiples of
--- reducers, relations and rows of obstructions
+-- an element of degree d is in the ideal exactly where reducers, relations and rows of obstructions of degree d span it
 pub overlaps_suffice : OverlapsSuffice
 overlaps_suffice ideal st d G lower f e = (spanned_by ideal st d G lower f, from_spanned ideal st d G lower f e)

@@ -170,8 +170,7 @@ module _ (ideal : Ideal) (st : IsSetting ideal) where
     cleared_stays x y q v none nothing = ap₂ (λ (m n : Residue ideal.modulus). Kr.add m (Kr.mul (Kr.neg (v x)) n)) none nothing ∙ zero_add Kr _
         ∙ mul_zero Kr (Kr.neg (v x))
 
-    -- where the words of a degree below d are pre and then xs, a member that is 0 at those of pre is a sum of multiples of lower products
-    -- with leading words in xs
+    -- a member of a degree below d that is 0 at all of its words but xs is a sum of multiples of lower products with leading words in xs
     pub represented_from : (xs pre : List (List ℕ)) → columns ≡ pre ++ xs → (v : Vr) → IsMemberVector ideal fmr st e v →
         ((y : List ℕ) → Contains pre y → v y ≡ Kr.zero)
         → IsInSpan Kr (List ℕ) (IsLowerAmong d e xs) v

@@ -92,8 +92,7 @@ module _ {X Y : Type 0} (f : X → List Y) where
     | inr m ↦ let r = Contains-flat_map_cases xs y m in (r.0, Contains-more z xs r.0 r.1, r.2)
   ]
 
-  -- where S holds of all pairs of each member's list, and across the lists of any two with R, it holds of all pairs of the lists joined of
-  -- members that stand in R pair by pair
+  -- where S holds in the list of each member, and across those of any two with R, it holds of all pairs of the lists of members in R joined
   pub AllPairs-flat_map : (R : X → X → Type 0) (S : Y → Y → Type 0) → ((x : X) → AllPairs S (f x)) →
       ((a b : X) (u v : Y) → R a b → Contains (f a) u → Contains (f b) v → S u v)
       → (xs : List X) → AllPairs R xs → AllPairs S (flat_map f xs)

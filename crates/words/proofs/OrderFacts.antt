@@ -67,8 +67,7 @@ letterwise_extended [] [] more = absurd (more refl)
 letterwise_extended [] (x ∷ rest) more = refl
 letterwise_extended (y ∷ b) rest more = rw (self_cmp y) (letterwise_extended b rest more)
 
--- a word is greater letter by letter exactly where it has the smaller letter number at the first difference, or the other is a proper
--- prefix of it
+-- a word is greater letter by letter exactly where its letter number at the first difference is smaller, or the other is a proper prefix
 pub compares_letters : ComparesLetters
 compares_letters a b = (first_difference a b, back)
   where
@@ -151,8 +150,7 @@ some_above : (n : ℕ) → nat_cmp (suc n) 0 ≡ Greater
 some_above n = by_ranked (suc n < 0) (suc n ≡ 0) (0 < suc n) (nat_cmp (suc n) 0) (ranked (suc n) 0 (nat_cmp (suc n) 0) refl)
     (λ is below. absurd (omega (arith, below))) (λ is same. absurd (omega (arith, same))) (λ is above. is)
 
--- two words, one of n letters and the other of no fewer, compare letter by letter as the first n letters of the second with those of the
--- first by number, and else as their lengths
+-- two words compare letter by letter as their first n letters do, and else by length, where one has n letters and the other no fewer
 pub letterwise_by_front : (n : ℕ) (a b : List ℕ) → n ≤ length a → n ≤ length b → (length a ≡ n) ⊎ (length b ≡ n)
     → letterwise_cmp a b ≡ ordering_then (slice_cmp nat_cmp (take n b) (take n a)) (nat_cmp (length a) (length b))
 letterwise_by_front zero [] [] m k h = refl
