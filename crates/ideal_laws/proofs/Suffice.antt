@@ -1,5 +1,5 @@
 -- A degree is spanned by the reducers of its words, its relations and the rows of its obstructions.
-use Rattle.std.proofs.Common.{◌≡◌, ◌⊎◌, ◌↔◌, ◌+◌, ◌-◌, ◌<◌, ◌≤◌, ℕ, zero, suc, List, [], ◌∷◌, ◌++◌, map, length, take, drop, refl, sym, ap, ◌∙◌, inl}
+use Rattle.std.proofs.Common.{◌≡◌, ◌⊎◌, ◌+◌, ◌-◌, ◌<◌, ◌≤◌, ℕ, zero, suc, List, [], ◌∷◌, ◌++◌, map, length, take, drop, refl, sym, ap, ◌∙◌, inl}
 use Rattle.std.proofs.Common.{inr, arith, AllPairs, subst, length-append}
 use Rattle.std.specs.List.{Contains, flat_map, range_with_len}
 use Rattle.std.proofs.Math.Seq.{drop-append_seam, take-append_seam}
@@ -21,18 +21,16 @@ use Rattle.linear_algebra.specs.Spans.{IsInSpan}
 use Rattle.linear_algebra.specs.Mod.{Residue}
 use Rattle.linear_algebra.proofs.Algebra.{mul_neg, IsInSpan-add, IsInSpan-scaled, IsInSpan-one}
 use Rattle.linear_algebra.proofs.Elimination.{IsInSpan-trans, same_span}
-use Rattle.ideal_laws.specs.Ideal.{Ideal, IsElement, IsInIdeal, IsMinimal}
-use Rattle.ideal_laws.specs.Closure.{obstruction_row}
+use Rattle.ideal_laws.specs.Ideal.{Ideal, IsInIdeal, IsMinimal}
 use Rattle.ideal_laws.specs.Laws.{IsNeighbour, before, behind, relation, IsSetting}
-use Rattle.ideal_laws.proofs.Differ.{IsBelow, smaller, row, IsRow, differ, lead_over, less, lower_degree, lower_word, obstruction_member, shift_lower}
+use Rattle.ideal_laws.proofs.Differ.{IsBelow, smaller, row, IsRow, differ, lead_over, less, lower_degree, lower_word, shift_lower}
 use Rattle.ideal_laws.proofs.Factors.{is_minimal}
-use Rattle.ideal_laws.proofs.Leads.{IsMemberVector}
-use Rattle.ideal_laws.proofs.Neighbours.{neighbour_inside, spanned, vector_of-parts, vector_part}
+use Rattle.ideal_laws.proofs.Neighbours.{spanned, vector_of-parts, vector_part}
 use Rattle.ideal_laws.proofs.OneBasis.{minimal_led}
-use Rattle.ideal_laws.proofs.Represented.{IsLowerAmong, IsLowerProduct, before_it, lower_inside, represented}
+use Rattle.ideal_laws.proofs.Represented.{IsLowerAmong, IsLowerProduct, before_it, represented}
 use Rattle.ideal_laws.proofs.Search.{found, none, search_list}
 use Rattle.ideal_laws.proofs.Shifted.{shifted, span_shifted, vector_of-product}
-use Rattle.ideal_laws.proofs.Vectors.{IsProductVector, ideal_from_span, same_vectors, span_from_ideal}
+use Rattle.ideal_laws.proofs.Vectors.{same_vectors}
 use Rattle.ideal_laws.proofs.Vectors as vectors
 
 module _ (ideal : Ideal) (st : IsSetting ideal) (d : ℕ) where
@@ -252,22 +250,3 @@ module _ (ideal : Ideal) (st : IsSetting ideal) (d : ℕ) where
             s.parts (λ k c within. (_, (s.each k c within).1, refl));
         sum = λ w. same_vectors ideal.modulus st.modulus f _ s.sum w ∙ vector_of-parts ideal st d s.parts w;
       })
-
-  generator_member : (v : V) → IsGenerator v → IsMemberVector ideal st.modulus st d v
-  generator_member v (reducer w h least) = subst (IsMemberVector ideal st.modulus st d) (sym h.is)
-      (span_from_ideal ideal st.modulus d _ (lower_inside ideal st d d w v h))
-  generator_member v (of_relation r among h e) = subst (IsMemberVector ideal st.modulus st d) (sym e)
-      (span_from_ideal ideal st.modulus d r (neighbour_inside ideal st d r (relation r among h)))
-  generator_member v (obstruction q) =
-      subst (IsMemberVector ideal st.modulus st d) (sym q.is)
-      (subst (λ (n : ℕ). IsMemberVector ideal st.modulus st n (vec (obstruction_row ideal.modulus q.first q.behind q.before q.second))) q.degree
-      (obstruction_member ideal st d q.first q.second q.first_lower q.second_lower q.before q.shared q.behind q.first_lead
-      q.second_lead q.some_before q.some_shared q.some_behind))
-
-  -- the ideal in a degree is the span of reducers, relations and obstruction rows
-  pub suffices : (f : List Term) → IsElement ideal.modulus ideal.weights d f → IsInIdeal ideal d f ↔ Sp (vec f)
-  suffices f e = (
-    ideal_spanned f,
-    λ s. ideal_from_span ideal st.modulus d f e (IsInSpan-trans K (List ℕ) IsGenerator
-        (IsProductVector ideal st.modulus d) generator_member (vec f) s),
-  )

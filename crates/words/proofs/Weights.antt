@@ -51,9 +51,3 @@ pub degree_of-take : (weights w : List ℕ) (i : ℕ) → degree_of weights (tak
 degree_of-take weights w zero = omega arith
 degree_of-take weights [] (suc i) = omega arith
 degree_of-take weights (x ∷ w) (suc i) = omega (arith, degree_of-take weights w i)
-
--- each letter that was read added at most eight
-pub degree_of-read : (weights : List ℕ) → AreWeights weights → (w : List ℕ) (i : ℕ) → i ≤ length w → degree_of weights (take i w) ≤ 8 * i
-degree_of-read weights aw w zero le = omega arith
-degree_of-read weights aw [] (suc i) le = omega arith
-degree_of-read weights aw (x ∷ w) (suc i) le = omega (arith, (weight_of-bounds weights aw x).1, degree_of-read weights aw w i (omega (arith, le)))
