@@ -1,7 +1,7 @@
 -- The order by comparison is the order by degree and first difference, and products keep it.
 use Rattle.std.proofs.Common.{◌≡◌, ◌≢◌, ◌⊎◌, ◌+◌, ◌<◌, ◌≤◌, ℕ, suc, zero, List, [], ◌∷◌, ◌++◌, length, take, get_or, refl, sym, ap, ◌∙◌, inl, inr}
-use Rattle.std.proofs.Common.{arith, length-append, zero-add}
-use Rattle.std.proofs.Math.Nat.{suc-add}
+use Rattle.std.proofs.Common.{arith, length-append}
+use Rattle.std.proofs.Math.Seq.{take-append-add}
 use Rattle.std.proofs.lemmas.Cmp.{by_ranked, ranked}
 use Rattle.std.proofs.lemmas.List.{append_assoc, get_or-append-add, get_or_append_left, take-append-le}
 use Rattle.std.specs.Ordering.{nat_cmp, ordering_then}
@@ -105,10 +105,6 @@ says_greater weights a b (inl more) =
     (λ is same. absurd (omega (arith, more, same)))
     (λ is above. rw is refl)
 says_greater weights a b (inr (same, d)) = agrees_in_degree weights a b same ∙ letterwise_from_difference a b d
-
-take-append-add : (u a : List ℕ) (n : ℕ) → take (length u + n) (u ++ a) ≡ u ++ take n a
-take-append-add [] a n = rw zero-add refl
-take-append-add (x ∷ u) a n = rw suc-add (ap (λ (r : List ℕ). x ∷ r) (take-append-add u a n))
 
 -- where a has the smaller letter number at its first difference from b, so has u * a * v at its first difference from u * b * v
 pub difference_in_product : (u a b v : List ℕ) → HasSmallerFirst a b → HasSmallerFirst (u ++ a ++ v) (u ++ b ++ v)
