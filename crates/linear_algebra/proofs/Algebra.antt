@@ -13,6 +13,10 @@ module _ (K : Field) where
   pub add_left_comm : (a b c : K.F) → K.add a (K.add b c) ≡ K.add b (K.add a c)
   add_left_comm a b c = sym (K.add_assoc a b c) ∙ ap (λ (s : K.F). K.add s c) (K.add_comm a b) ∙ K.add_assoc b a c
 
+  -- (a + b) + (c + d) is (a + c) + (b + d)
+  pub add_swap : (a b c d : K.F) → K.add (K.add a b) (K.add c d) ≡ K.add (K.add a c) (K.add b d)
+  add_swap a b c d = K.add_assoc a b (K.add c d) ∙ ap (K.add a) (add_left_comm b c d) ∙ sym (K.add_assoc a c (K.add b d))
+
   -- where a + b is a + c, b is c
   pub add_cancel : (a b c : K.F) → K.add a b ≡ K.add a c → b ≡ c
   add_cancel a b c e =

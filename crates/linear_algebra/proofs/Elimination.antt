@@ -5,7 +5,8 @@ use Rattle.std.proofs.lemmas.List.Elements.{All-head, All-tail}
 use Rattle.linear_algebra.specs.Fields.{Field}
 use Rattle.linear_algebra.specs.Spans.{Vector, sum_of, IsInSpan}
 use Rattle.linear_algebra.specs.Echelon.{IsOneOf, AreZeroAt, IsZeroAtLeads, IsReduced, done, skip, lead, from_leads, AreSameAt, AreInSpan, IsBasis}
-use Rattle.linear_algebra.proofs.Algebra.{zero_add, add_cancel, add_left_comm, mul_zero, mul_neg, IsInSpan-zero, IsInSpan-add, IsInSpan-scaled, IsInSpan-one}
+use Rattle.linear_algebra.proofs.Algebra.{zero_add, add_cancel, add_left_comm, add_swap, mul_zero, mul_neg}
+use Rattle.linear_algebra.proofs.Algebra.{IsInSpan-zero, IsInSpan-add, IsInSpan-scaled, IsInSpan-one}
 
 module _ (K : Field) (X : Type 0) where
   abbrev V : Type 0
@@ -122,17 +123,11 @@ module _ (K : Field) (X : Type 0) where
       let head : K.mul (K.add (v e.0) (K.mul a (p e.0))) (e.1 y) ≡ K.add (K.mul (v e.0) (e.1 y)) (K.mul a (K.mul (p e.0) (e.1 y))) =
       K.mul_comm (K.add (v e.0) (K.mul a (p e.0))) (e.1 y) ∙ K.mul_add (e.1 y) (v e.0) (K.mul a (p e.0))
       ∙ ap₂ K.add (K.mul_comm (e.1 y) (v e.0)) (K.mul_comm (e.1 y) (K.mul a (p e.0)) ∙ K.mul_assoc a (p e.0) (e.1 y)) in
-      ap₂ K.add head (leads-linear es v p a y) ∙ swap_middle _ _ _ _ ∙ ap (K.add _) (sym (K.mul_add a _ _))
-    where
-      swap_middle : (a b c d : K.F) → K.add (K.add a b) (K.add c d) ≡ K.add (K.add a c) (K.add b d)
-      swap_middle a b c d = K.add_assoc a b (K.add c d) ∙ ap (K.add a) (add_left_comm K b c d) ∙ sym (K.add_assoc a c (K.add b d))
-
-  swapped : (a b c d : K.F) → K.add (K.add a b) (K.add c d) ≡ K.add (K.add a c) (K.add b d)
-  swapped a b c d = K.add_assoc a b (K.add c d) ∙ ap (K.add a) (add_left_comm K b c d) ∙ sym (K.add_assoc a c (K.add b d))
+      ap₂ K.add head (leads-linear es v p a y) ∙ add_swap K _ _ _ _ ∙ ap (K.add _) (sym (K.mul_add a _ _))
 
   neg_add : (a b : K.F) → K.neg (K.add a b) ≡ K.add (K.neg a) (K.neg b)
   neg_add a b = add_cancel K (K.add a b) (K.neg (K.add a b)) (K.add (K.neg a) (K.neg b))
-      (K.add_neg (K.add a b) ∙ sym (swapped a b (K.neg a) (K.neg b) ∙ ap₂ K.add (K.add_neg a) (K.add_neg b) ∙ K.add_zero K.zero))
+      (K.add_neg (K.add a b) ∙ sym (add_swap K a b (K.neg a) (K.neg b) ∙ ap₂ K.add (K.add_neg a) (K.add_neg b) ∙ K.add_zero K.zero))
 
   -- a * (- u * w) is - (a * u) * w
   pub mul_neg_mul : (a u w : K.F) → K.mul a (K.mul (K.neg u) w) ≡ K.mul (K.neg (K.mul a u)) w
@@ -146,7 +141,7 @@ module _ (K : Field) (X : Type 0) where
       ≡ K.add (K.add (K.mul a u) s) (K.mul (K.neg (K.add (K.mul a u') s')) w)
   cleared_sum a u s u' s' w =
       ap (λ (n : K.F). K.add n (K.add s (K.mul (K.neg s') w))) (K.mul_add a u (K.mul (K.neg u') w) ∙ ap (K.add (K.mul a u)) (mul_neg_mul a u' w))
-      ∙ swapped (K.mul a u) (K.mul (K.neg (K.mul a u')) w) s (K.mul (K.neg s') w)
+      ∙ add_swap K (K.mul a u) (K.mul (K.neg (K.mul a u')) w) s (K.mul (K.neg s') w)
       ∙ ap (K.add (K.add (K.mul a u) s)) (sym (add_mul (K.neg (K.mul a u')) (K.neg s') w) ∙ ap (λ (n : K.F). K.mul n w) (sym (neg_add (K.mul a u') s')))
 
   -- clearing is linear, so a member of the span of gs is cleared to one of the span of the cleared gs
@@ -171,8 +166,8 @@ module _ (K : Field) (X : Type 0) where
       same_span _ (cleared x p (sum_of K X s.parts)) (cleared x p v)
       (λ y. ap₂ (λ (m n : K.F). K.add m (K.mul (K.neg n) (p y))) (sym (s.sum y)) (sym (s.sum x))) (cleared_parts x p gs s.parts s.each)
 
-  -- a vector is the cleared one and its entry at x times p
-  uncleared : (x : X) (p v : V) (y : X) → K.add (K.mul (v x) (p y)) (cleared x p v y) ≡ v y
+  -- the entry of v at x times p, and v cleared at x by p, are v together
+  pub uncleared : (x : X) (p v : V) (y : X) → K.add (K.mul (v x) (p y)) (cleared x p v y) ≡ v y
   uncleared x p v y = add_left_comm K (K.mul (v x) (p y)) (v y) (K.mul (K.neg (v x)) (p y))
       ∙ ap (K.add (v y)) (ap (K.add (K.mul (v x) (p y))) (neg_mul (v x) (p y)) ∙ K.add_neg (K.mul (v x) (p y))) ∙ K.add_zero (v y)
 

@@ -22,7 +22,8 @@ module _ (K : Field) (X : Type 0) where
   had_tail x xs es [] h = tt
   had_tail x xs es (f ∷ fs) h = (h.0.1, had_tail x xs es fs h.1)
 
-  AreSameAt-trans : (xs : List X) (u v w : V) → AreSameAt K X xs u v → ((y : X) → v y ≡ w y) → AreSameAt K X xs u w
+  -- where u is the same as v at the columns, and v and w are the same everywhere, u is the same as w at the columns
+  pub AreSameAt-trans : (xs : List X) (u v w : V) → AreSameAt K X xs u v → ((y : X) → v y ≡ w y) → AreSameAt K X xs u w
   AreSameAt-trans [] u v w s e = tt
   AreSameAt-trans (x ∷ xs) u v w s e = (s.0 ∙ e x, AreSameAt-trans xs u v w s.1 e)
 
