@@ -3,7 +3,7 @@ use Rattle.std.proofs.Common.{ap₂, ◌≡◌, ◌+◌, ◌-◌, ◌<◌, ◌�
 use Rattle.std.proofs.Common.{ap, ◌∙◌, inl, inr, arith, eq-eqb, All, AllPairs}
 use Rattle.std.specs.List.{count_by, filter, slice_range}
 use Rattle.std.specs.Prelude.{leb, ltb}
-use Rattle.std.proofs.lemmas.Bool.{cases_Bool, cases_lt, eqb-true, le-leb, leb-true, lt-ltb, ltb-true}
+use Rattle.std.proofs.lemmas.Bool.{cases_Bool, cases_lt, le-leb, le-ltb, lt-leb, lt-ltb, ne_eqb}
 use Rattle.std.proofs.lemmas.List.Elements.{All-head, All-tail}
 use Rattle.std.proofs.lemmas.List.Recursion.{is_count_by}
 use Rattle.words.proofs.Members.{AllPairs-first, AllPairs-rest}
@@ -43,24 +43,9 @@ module _ {X : Type 0} (p : X → Bool) where
     | inr fails ↦ omega (arith, count_by-later x (xs ++ ys) fails, count_by-later x xs fails, count_by-append xs ys)
   ]
 
-not_leb : (a b : ℕ) → b < a → leb a b ≡ false
-not_leb a b lt = elim (cases_Bool (leb a b)) [
-  | inl holds ↦ absurd (omega (arith, leb-true a b holds))
-  | inr fails ↦ fails
-]
-
-not_ltb : (a b : ℕ) → b ≤ a → ltb a b ≡ false
-not_ltb a b le = elim (cases_Bool (ltb a b)) [
-  | inl holds ↦ absurd (omega (arith, ltb-true a b holds))
-  | inr fails ↦ fails
-]
-
 -- the test of equality is false of two numbers that differ
 pub not_eqb : (a b : ℕ) → (a ≡ b → ⊥) → (a == b) ≡ false
-not_eqb a b ne = elim (cases_Bool (a == b)) [
-  | inl holds ↦ absurd (ne (eqb-true a b holds))
-  | inr fails ↦ fails
-]
+not_eqb a b ne = ne_eqb a b ne
 
 module _ {X : Type 0} (key : X → ℕ) where
   abbrev below : ℕ → List X → ℕ
@@ -75,11 +60,11 @@ module _ {X : Type 0} (key : X → ℕ) where
 
   -- where each key is above d, no member has a key up to d
   pub upto-none : (d : ℕ) (xs : List X) → All (λ x. d < key x) xs → upto d xs ≡ 0
-  upto-none d xs h = count_by-none (λ x. leb (key x) d) xs (λ k e within. not_leb _ d (h k e within))
+  upto-none d xs h = count_by-none (λ x. leb (key x) d) xs (λ k e within. lt-leb _ d (h k e within))
 
   -- where each key is d or more, no member has a key below d
   pub below-none : (d : ℕ) (xs : List X) → All (λ x. d ≤ key x) xs → below d xs ≡ 0
-  below-none d xs h = count_by-none (λ x. ltb (key x) d) xs (λ k e within. not_ltb _ d (h k e within))
+  below-none d xs h = count_by-none (λ x. ltb (key x) d) xs (λ k e within. le-ltb _ d (h k e within))
 
   -- two lists joined have as many members with a key up to d as the one and the other together
   pub upto-append : (d : ℕ) (xs ys : List X) → upto d (xs ++ ys) ≡ upto d xs + upto d ys
@@ -89,8 +74,8 @@ module _ {X : Type 0} (key : X → ℕ) where
   pub below-suc : (d : ℕ) (xs : List X) → below (suc d) xs ≡ upto d xs
   below-suc d [] = refl
   below-suc d (x ∷ xs) = elim (cases_lt d (key x)) [
-    | inl lt ↦ count_by-later (λ x. ltb (key x) (suc d)) x xs (not_ltb (key x) (suc d) (omega (arith, lt))) ∙ below-suc d xs
-        ∙ sym (count_by-later (λ x. leb (key x) d) x xs (not_leb (key x) d lt))
+    | inl lt ↦ count_by-later (λ x. ltb (key x) (suc d)) x xs (le-ltb (key x) (suc d) (omega (arith, lt))) ∙ below-suc d xs
+        ∙ sym (count_by-later (λ x. leb (key x) d) x xs (lt-leb (key x) d lt))
     | inr le ↦ count_by-first (λ x. ltb (key x) (suc d)) x xs (lt-ltb (key x) (suc d) (omega (arith, le))) ∙ ap suc (below-suc d xs)
         ∙ sym (count_by-first (λ x. leb (key x) d) x xs (le-leb (key x) d le))
   ]
@@ -101,8 +86,8 @@ module _ {X : Type 0} (key : X → ℕ) where
   below-le-upto d (x ∷ xs) = elim (cases_lt d (key x)) [
     | inl lt ↦ omega (
       arith,
-      count_by-later (λ x. ltb (key x) d) x xs (not_ltb (key x) d (omega (arith, lt))),
-      count_by-later (λ x. leb (key x) d) x xs (not_leb (key x) d lt),
+      count_by-later (λ x. ltb (key x) d) x xs (le-ltb (key x) d (omega (arith, lt))),
+      count_by-later (λ x. leb (key x) d) x xs (lt-leb (key x) d lt),
       below-le-upto d xs,
     )
     | inr le ↦ elim (cases_lt (key x) d) [
@@ -114,7 +99,7 @@ module _ {X : Type 0} (key : X → ℕ) where
       )
       | inr not ↦ omega (
         arith,
-        count_by-later (λ x. ltb (key x) d) x xs (not_ltb (key x) d not),
+        count_by-later (λ x. ltb (key x) d) x xs (le-ltb (key x) d not),
         count_by-first (λ x. leb (key x) d) x xs (le-leb (key x) d le),
         below-le-upto d xs,
       )
@@ -129,25 +114,25 @@ module _ {X : Type 0} (key : X → ℕ) where
       let later = AllPairs-first (λ x y. key x ≤ key y) x xs h in
       elim (cases_lt (key x) d) [
         | inl under ↦
-            let other : (key x == d) ≡ false = not_eqb (key x) d (λ e. omega (arith, e, under)) in
+            let other : (key x == d) ≡ false = ne_eqb (key x) d (λ e. omega (arith, e, under)) in
             ap₂ (slice_range (x ∷ xs)) (count_by-first (λ x. ltb (key x) d) x xs (lt-ltb (key x) d under))
             (count_by-first (λ x. leb (key x) d) x xs (le-leb (key x) d (omega (arith, under))))
             ∙ ap (λ (n : ℕ). take n (drop (below d xs) xs)) (omega arith) ∙ rest
             ∙ sym (ap (λ (b : Bool). cond b (x ∷ filter (λ x. key x == d) xs) (filter (λ x. key x == d) xs)) other)
         | inr from ↦ elim (cases_lt d (key x)) [
           | inl over ↦
-              let other : (key x == d) ≡ false = not_eqb (key x) d (λ e. omega (arith, e, over)) in
+              let other : (key x == d) ≡ false = ne_eqb (key x) d (λ e. omega (arith, e, over)) in
               let above : All (λ y. d < key y) xs = λ k e within. omega (arith, over, later k e within) in
               let none : below d xs ≡ 0 = below-none d xs (λ k e within. omega (arith, above k e within)) in
               let nothing : upto d xs ≡ 0 = upto-none d xs above in
-              ap₂ (slice_range (x ∷ xs)) (count_by-later (λ x. ltb (key x) d) x xs (not_ltb (key x) d from) ∙ none)
-              (count_by-later (λ x. leb (key x) d) x xs (not_leb (key x) d over) ∙ nothing)
+              ap₂ (slice_range (x ∷ xs)) (count_by-later (λ x. ltb (key x) d) x xs (le-ltb (key x) d from) ∙ none)
+              (count_by-later (λ x. leb (key x) d) x xs (lt-leb (key x) d over) ∙ nothing)
               ∙ sym (ap₂ (slice_range xs) none nothing) ∙ rest ∙ sym (ap
               (λ (b : Bool). cond b (x ∷ filter (λ x. key x == d) xs) (filter (λ x. key x == d) xs)) other)
           | inr le ↦
               let equal : (key x == d) ≡ true = eq-eqb (key x) d (omega (arith, from, le)) in
               let none : below d xs ≡ 0 = below-none d xs (λ k e within. omega (arith, from, later k e within)) in
-              ap₂ (slice_range (x ∷ xs)) (count_by-later (λ x. ltb (key x) d) x xs (not_ltb (key x) d from) ∙ none)
+              ap₂ (slice_range (x ∷ xs)) (count_by-later (λ x. ltb (key x) d) x xs (le-ltb (key x) d from) ∙ none)
               (count_by-first (λ x. leb (key x) d) x xs (le-leb (key x) d le))
               ∙ ap (λ (n : ℕ). take n (x ∷ xs)) (let whole : suc (upto d xs) - 0 ≡ suc (upto d xs) = omega arith in whole)
               ∙ ap (λ (ys : List X). x ∷ ys) (ap (λ (n : ℕ). take n xs) (let whole : upto d xs ≡ upto d xs - 0 = omega arith in whole)

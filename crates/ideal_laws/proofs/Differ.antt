@@ -6,6 +6,7 @@ use Rattle.std.proofs.Math.Nat.{mod-eq_of_lt}
 use Rattle.std.proofs.lemmas.Bool.{cases_Bool, cases_lt}
 use Rattle.std.proofs.lemmas.List.{append_assoc, nil_from_length}
 use Rattle.std.proofs.lemmas.List.Elements.{All-append, All-contains, All-head, All-nil, All-tail, Contains-append_cases}
+use Rattle.std.proofs.lemmas.Option.{same_Some}
 use Rattle.std.proofs.lemmas.Slice.Eq.{bytes_eq-Decides}
 use Rattle.words.specs.Words.{IsFactor, IsOver, degree_of, words_of_degree}
 use Rattle.words.specs.Order.{IsLetterwiseGreater}
@@ -29,7 +30,7 @@ use Rattle.ideal_laws.specs.Ideal.{Ideal}
 use Rattle.ideal_laws.specs.Laws.{IsSetting}
 use Rattle.ideal_laws.proofs.Factors.{All-back, All-front}
 use Rattle.ideal_laws.proofs.Leads.{IsMemberVector}
-use Rattle.ideal_laws.proofs.Meeting.{IsMet, apart, inside, starts, overlap, both_ways, by_first, by_second, meet}
+use Rattle.ideal_laws.proofs.Meeting.{IsMet, apart, inside, starts, overlap, both_ways, by_first, by_second, meet, round_words}
 use Rattle.ideal_laws.proofs.OneBasis.{has_one_basis}
 use Rattle.ideal_laws.proofs.Represented.{IsLower, IsLowerAmong, IsLowerProduct, before_it, lower_above, lower_inside, lower_one, represented_from}
 use Rattle.ideal_laws.proofs.Shifted.{shifted, shifted-linear, span_shifted, vector_of-product}
@@ -62,9 +63,6 @@ about (w ∷ ws) x m = elim (Contains-cases w ws x m) [
   | inl e ↦ record { pre = []; post = ws; is = ap (λ (y : List ℕ). y ∷ ws) e }
   | inr n ↦ let a = about ws x n in record { pre = w ∷ a.pre; post = a.post; is = ap (λ (r : List (List ℕ)). w ∷ r) a.is }
 ]
-
-some_same : (a b : List ℕ) → Some a ≡ Some b → a ≡ b
-some_same a b e = cc e
 
 -- behind a member of a falling list all are smaller
 behind_it : (pre : List (List ℕ)) (x : List ℕ) (xs : List (List ℕ)) → AllPairs IsLetterwiseGreater (pre ++ x ∷ xs) → (y : List ℕ) →
@@ -117,8 +115,8 @@ module _ (ideal : Ideal) (st : IsSetting ideal) where
       let b = has_one_basis ideal st e in
       elim (pair_cases HasGreaterLead b.value b.holds.falling f g ((b.holds.exactly f).1 hf) ((b.holds.exactly g).1 hg)) [
         | inl is ↦ is
-        | inr (inl h) ↦ absurd (letterwise-apart h.of_f h.of_g h.greater (some_same h.of_f h.of_g (sym h.leads_f ∙ lf ∙ sym lg ∙ h.leads_g)))
-        | inr (inr h) ↦ absurd (letterwise-apart h.of_f h.of_g h.greater (some_same h.of_f h.of_g (sym h.leads_f ∙ lg ∙ sym lf ∙ h.leads_g)))
+        | inr (inl h) ↦ absurd (letterwise-apart h.of_f h.of_g h.greater (same_Some h.of_f h.of_g (sym h.leads_f ∙ lf ∙ sym lg ∙ h.leads_g)))
+        | inr (inr h) ↦ absurd (letterwise-apart h.of_f h.of_g h.greater (same_Some h.of_f h.of_g (sym h.leads_f ∙ lg ∙ sym lf ∙ h.leads_g)))
       ]
 
   -- the leading word of a lower element has the degree of the element
@@ -185,9 +183,6 @@ module _ (ideal : Ideal) (st : IsSetting ideal) where
   one_times : (c : ℕ) (a : Residue ideal.modulus) → c ≡ 1 → Kd.mul (vectors.of ideal.modulus st.modulus c) a ≡ a
   one_times c a e = ap (λ (n : ℕ). Kd.mul (vectors.of ideal.modulus st.modulus n) a) e ∙ Kd.mul_comm Kd.one a ∙ Kd.mul_one a
 
-  round_words : (u s c t v : List ℕ) → u ++ s ++ (c ++ t ++ v) ≡ (u ++ s ++ c) ++ t ++ v
-  round_words u s c t v = simp append_assoc refl
-
   -- two factors apart
   apart_terms : (d : ℕ) (w u c v : List ℕ) (s t : Term) (g h : List Term) → (lg : IsLower ideal st d (s ∷ g)) → (lh : IsLower ideal st d (t ∷ h))
       → IsOver (length ideal.weights) u → IsOver (length ideal.weights) c → IsOver (length ideal.weights) v → w ≡ u ++ s.word ++ (c ++ t.word ++ v)
@@ -215,8 +210,8 @@ module _ (ideal : Ideal) (st : IsSetting ideal) where
       (AllPairs-first (λ (q r : Term). IsLetterwiseGreater q.word r.word) t h eh.form.falling) m in
       let greater = letterwise-product ideal.weights st.are_weights (u ++ s.word ++ c) t.word r.word v (dt ∙ sym dr) gr in
       smaller (u ++ s.word ++ (c ++ r.word ++ v))
-      (subst (λ (z : List ℕ). IsLetterwiseGreater w z) (sym (round_words u s.word c r.word v))
-      (subst (λ (z : List ℕ). IsLetterwiseGreater z ((u ++ s.word ++ c) ++ r.word ++ v)) (sym (is ∙ round_words u s.word c t.word v))
+      (subst (λ (z : List ℕ). IsLetterwiseGreater w z) (sym (round_words u c v s.word r.word))
+      (subst (λ (z : List ℕ). IsLetterwiseGreater z ((u ++ s.word ++ c) ++ r.word ++ v)) (sym (is ∙ round_words u c v s.word t.word))
       greater))
       (record {
         element = s ∷ g;
@@ -240,7 +235,7 @@ module _ (ideal : Ideal) (st : IsSetting ideal) where
       (AllPairs-first (λ (q r : Term). IsLetterwiseGreater q.word r.word) s g eg.form.falling) m in
       let greater = letterwise-product ideal.weights st.are_weights u s.word r.word (c ++ t.word ++ v) (ds ∙ sym dr) gr in
       smaller ((u ++ r.word ++ c) ++ t.word ++ v)
-      (subst (λ (z : List ℕ). IsLetterwiseGreater w z) (round_words u r.word c t.word v)
+      (subst (λ (z : List ℕ). IsLetterwiseGreater w z) (round_words u c v r.word t.word)
       (subst (λ (z : List ℕ). IsLetterwiseGreater z (u ++ r.word ++ (c ++ t.word ++ v))) (sym is) greater))
       (record {
         element = t ∷ h;
@@ -474,8 +469,8 @@ module _ (ideal : Ideal) (st : IsSetting ideal) where
   apart_any d w u c v m n [] h lg lh eg eh hu hc hv is deg = cc eg
   apart_any d w u c v m n (s ∷ g) [] lg lh eg eh hu hc hv is deg = cc eh
   apart_any d w u c v m n (s ∷ g) (t ∷ h) lg lh eg eh hu hc hv is deg =
-      let ms = some_same s.word m eg in
-      let ns = some_same t.word n eh in
+      let ms = same_Some s.word m eg in
+      let ns = same_Some t.word n eh in
       same_span Kd (List ℕ) _ (less (vec (product u (s ∷ g) (c ++ t.word ++ v))) (vec (product (u ++ s.word ++ c) (t ∷ h) v))) _
       (λ y. ap₂ (λ (x z : List ℕ). less (vec (product u (s ∷ g) (c ++ z ++ v))) (vec (product (u ++ x ++ c) (t ∷ h) v)) y) ms ns)
       (apart_terms d w u c v s t g h lg lh hu hc hv (is ∙ ap₂ (λ (x z : List ℕ). u ++ x ++ (c ++ z ++ v)) (sym ms) (sym ns)) deg)

@@ -18,16 +18,16 @@ use Rattle.free_poly.proofs.NormalForms.{letterwise-trans}
 use Rattle.free_poly.proofs.Totals.{letterwise-apart}
 use Rattle.linear_algebra.specs.Fields.{Field}
 use Rattle.linear_algebra.specs.Spans.{sum_of}
-use Rattle.linear_algebra.specs.Echelon.{AreSameAt, AreZeroAt, IsReduced, IsZeroAtLeads, done, skip, lead, from_leads}
+use Rattle.linear_algebra.specs.Echelon.{AreSameAt, IsReduced, IsZeroAtLeads, done, skip, lead, from_leads}
 use Rattle.linear_algebra.specs.Mod.{Residue}
-use Rattle.linear_algebra.proofs.Algebra.{zero_add, add_left_comm, mul_zero, IsInSpan-add, IsInSpan-scaled, IsInSpan-zero}
+use Rattle.linear_algebra.proofs.Algebra.{zero_add, add_swap, mul_zero, IsInSpan-add, IsInSpan-scaled, IsInSpan-zero}
 use Rattle.linear_algebra.proofs.Dependent.{HasNonzero, IsZeroOn, dependent, sum_zip}
 use Rattle.linear_algebra.proofs.ModField.{same_residue}
 use Rattle.ideal_laws.specs.Ideal.{Ideal, IsInIdeal, IsLeadingWord}
 use Rattle.ideal_laws.specs.Dimension.{AreFactors, IsDimension, IsIndependent, combination}
 use Rattle.ideal_laws.specs.Laws.{HasDimension, HasOneDimension, IsSetting}
 use Rattle.ideal_laws.proofs.Leads.{element_from, element_inside, found, had_from_rows, is_leading, leading_listed, leading_words, listed_leading}
-use Rattle.ideal_laws.proofs.Leads.{IsMemberVector, member_off, row_member, rows, vector_of_element}
+use Rattle.ideal_laws.proofs.Leads.{IsMemberVector, member_off, row_member, rows, vector_of_element, zero_at_member}
 use Rattle.ideal_laws.proofs.OneBasis.{lead_in_columns, leads_falling}
 use Rattle.ideal_laws.proofs.Search.{AllPairs-kept, in_kept, kept, kept_if, kept-says, same_lists}
 use Rattle.ideal_laws.proofs.Vectors.{same_vectors, span_from_ideal, vector_of-append, vector_of-scaled}
@@ -62,16 +62,6 @@ module _ (p : ℕ) (fm : IsFieldModulus p) where
       ap (λ (n : Residue p). K.add (K.mul (of c) n) (mix cs es y)) (h e (Contains-first e es)) ∙ times_nothing (of c) _
       ∙ mix-zero cs es y (λ d m. h d (Contains-more e es d m))
 
-  all_zero_at : (x : List ℕ) (es : List (List ℕ × V)) → AreZeroAt K (List ℕ) x es → (e : List ℕ × V) → Contains es e → e.1 x ≡ K.zero
-  all_zero_at x es z e m = at es z m
-    where
-      at : (es : List (List ℕ × V)) → AreZeroAt K (List ℕ) x es → Contains es e → e.1 x ≡ K.zero
-      at [] z m = absurd (Contains-none e m)
-      at (d ∷ es) z m = elim (Contains-cases d es e m) [
-        | inl is ↦ ap (λ (r : List ℕ × V). r.1 x) (sym is) ∙ z.0
-        | inr n ↦ at es z.1 n
-      ]
-
   zero_number : (c : ℕ) → c < p → of c ≡ K.zero → c ≡ 0
   zero_number c lt e = sym (mod-eq_of_lt lt) ∙ ap (λ (n : Residue p). n.0) e ∙ zero-mod p
 
@@ -84,7 +74,7 @@ module _ (p : ℕ) (fm : IsFieldModulus p) where
   rows_independent xs es (lead x ys v es' one z zl r) [] n small h = absurd (omega (arith, n))
   rows_independent xs es (lead x ys v es' one z zl r) (c ∷ cs) n small h =
       let here : of c ≡ K.zero =
-      sym (ap₂ K.add (ap (K.mul (of c)) one ∙ K.mul_one (of c)) (mix-zero cs es' x (all_zero_at x es' z)) ∙ K.add_zero (of c))
+      sym (ap₂ K.add (ap (K.mul (of c)) one ∙ K.mul_one (of c)) (mix-zero cs es' x (λ e m. zero_at_member p fm x es' e z m)) ∙ K.add_zero (of c))
       ∙ h (x, v) (Contains-first (x, v) es') in
       All-cons (λ c. c ≡ 0) c cs (zero_number c (All-head (λ c. c < p) c cs small) here)
       (rows_independent ys es' r cs (omega (arith, n)) (All-tail (λ c. c < p) c cs small) (λ e m.
@@ -125,9 +115,6 @@ module _ (p : ℕ) (fm : IsFieldModulus p) where
   readings-same (a ∷ bs) [] u v h = refl
   readings-same (a ∷ bs) (e ∷ es) u v h = λ i. K.add (K.mul a (h e.0 i)) (readings-same bs es u v h i)
 
-  swapped : (a b c d : Residue p) → K.add (K.add a b) (K.add c d) ≡ K.add (K.add a c) (K.add b d)
-  swapped a b c d = K.add_assoc a b (K.add c d) ∙ ap (K.add a) (add_left_comm K b c d) ∙ sym (K.add_assoc a c (K.add b d))
-
   readings-linear : (bs : List (Residue p)) (es : List (List ℕ × V)) (c : Residue p) (u v : V)
       → sum_zip K V bs (map reading es) (λ y. K.add (K.mul c (u y)) (v y))
       ≡ K.add (K.mul c (sum_zip K V bs (map reading es) u)) (sum_zip K V bs (map reading es) v)
@@ -139,7 +126,7 @@ module _ (p : ℕ) (fm : IsFieldModulus p) where
       (sym (K.mul_assoc a c (u e.0)) ∙ ap (λ (n : Residue p). K.mul n (u e.0)) (K.mul_comm a c) ∙ K.mul_assoc c a (u e.0)) in
       let su = sum_zip K V bs (map reading es) u in
       let sv = sum_zip K V bs (map reading es) v in
-      ap₂ K.add first (readings-linear bs es c u v) ∙ swapped (K.mul c (K.mul a (u e.0))) (K.mul a (v e.0)) (K.mul c su) sv
+      ap₂ K.add first (readings-linear bs es c u v) ∙ add_swap K (K.mul c (K.mul a (u e.0))) (K.mul a (v e.0)) (K.mul c su) sv
       ∙ ap (λ (n : Residue p). K.add n (K.add (K.mul a (v e.0)) sv)) (sym (K.mul_add c (K.mul a (u e.0)) su))
 
   -- the vector of a combination

@@ -2,7 +2,7 @@
 use Rattle.std.proofs.Common.{ap₂, ◌≡◌, ◌≢◌, ◌+◌, ◌<◌, ◌≤◌, ◌==◌, ℕ, Bool, true, false, cond, List, [], ◌∷◌, ◌++◌, length, length-append, append-nil}
 use Rattle.std.proofs.Common.{min, get_or, set, refl, sym, ap, ◌∙◌, inl, inr, arith, eq-eqb, All, AllPairs, subst}
 use Rattle.std.specs.List.{filter, slice_range}
-use Rattle.std.proofs.lemmas.Bool.{cases_lt}
+use Rattle.std.proofs.lemmas.Bool.{cases_lt, ne_eqb}
 use Rattle.std.proofs.lemmas.List.{get_or-set_other, get_or-set_same, length-set}
 use Rattle.std.proofs.lemmas.List.Elements.{All-append, All-contains, All-head, All-nil, All-tail, All-weaker}
 use Rattle.words.proofs.Members.{All-from_members, AllPairs-append, AllPairs-nil}
@@ -14,7 +14,7 @@ use Rattle.ideal_laws.specs.Basis.{HasGreaterLead, IsReducedBasis}
 use Rattle.ideal_laws.specs.Engine.{Elements, IsReducedUpto, of_degree}
 use Rattle.ideal_laws.specs.Ideal.{ideal_over}
 use Rattle.ideal_laws.specs.Kept.{IsKept, IsKeptElement, IsStored, StandsBefore, count_below, count_upto, lead_degree}
-use Rattle.ideal_laws.proofs.Counts.{not_eqb, upto-all, upto-append, upto-none, with_key}
+use Rattle.ideal_laws.proofs.Counts.{upto-all, upto-append, upto-none, with_key}
 
 -- the leading word of a monic polynomial whose words all have degree d has degree d
 pub lead_degree-is : (weights : List ℕ) (d : ℕ) (f : List Term) → IsMonic f → HasDegree weights d f → lead_degree weights f ≡ d
@@ -45,7 +45,7 @@ of_degree-none weights d [] h = refl
 of_degree-none weights d ([] ∷ fs) h = of_degree-none weights d fs (All-tail (λ f. lead_degree weights f ≢ d) [] fs h)
 of_degree-none weights d ((t ∷ f) ∷ fs) h =
     ap (λ (b : Bool). cond b ((t ∷ f) ∷ of_degree weights d fs) (of_degree weights d fs))
-    (not_eqb (degree_of weights t.word) d (All-head (λ f. lead_degree weights f ≢ d) (t ∷ f) fs h))
+    (ne_eqb (degree_of weights t.word) d (All-head (λ f. lead_degree weights f ≢ d) (t ∷ f) fs h))
     ∙ of_degree-none weights d fs (All-tail (λ f. lead_degree weights f ≢ d) (t ∷ f) fs h)
 
 -- where each element is monic and all its words have degree d, the elements of degree d are the whole list

@@ -6,6 +6,7 @@ use Rattle.std.specs.List.{Contains}
 use Rattle.std.proofs.Math.Nat.{mod-eq_of_lt, mod-mod, zero-mod}
 use Rattle.std.proofs.lemmas.Bool.{cases_Bool, eqb-true}
 use Rattle.std.proofs.lemmas.List.Elements.{All-weaker, All-contains}
+use Rattle.std.proofs.lemmas.Option.{same_Some}
 use Rattle.words.specs.Words.{IsOver, degree_of, words_of_degree}
 use Rattle.words.proofs.Degrees.{listed_word, words_of_degree-falling, words_of_degree-says}
 use Rattle.words.proofs.Members.{Contains-cases, Contains-first, Contains-map_cases, Contains-more, Contains-none}
@@ -24,6 +25,7 @@ use Rattle.linear_algebra.specs.Mod.{Residue}
 use Rattle.linear_algebra.proofs.Algebra.{zero_add, mul_zero}
 use Rattle.linear_algebra.proofs.Elimination.{IsInSpan-zero_at, eliminated, leads-zero}
 use Rattle.linear_algebra.proofs.ModField.{same_residue}
+use Rattle.linear_algebra.proofs.Unique.{AreSameAt-trans}
 use Rattle.ideal_laws.specs.Ideal.{Ideal, IsElement, IsInIdeal, IsLeadingWord}
 use Rattle.ideal_laws.specs.Laws.{IsRelation, IsSetting}
 use Rattle.ideal_laws.proofs.Products.{listed_product, product_listed, products}
@@ -60,7 +62,8 @@ module _ (p : ℕ) (fm : IsFieldModulus p) where
   skipped x xs v e = ap (λ (b : Bool). cond b (from_words xs (entries v))
       (record { word = x; coefficient = (v x).0 } ∷ from_words xs (entries v))) (zero_entry v x e)
 
-  zero_at_member : (x : List ℕ) (es : List (List ℕ × V)) (e : List ℕ × V) → AreZeroAt K (List ℕ) x es → Contains es e → e.1 x ≡ K.zero
+  -- rows that are all 0 at a column are each 0 there
+  pub zero_at_member : (x : List ℕ) (es : List (List ℕ × V)) (e : List ℕ × V) → AreZeroAt K (List ℕ) x es → Contains es e → e.1 x ≡ K.zero
   zero_at_member x [] e z m = absurd (Contains-none e m)
   zero_at_member x (d ∷ es) e z m = elim (Contains-cases d es e m) [
     | inl is ↦ ap (λ (r : List ℕ × V). r.1 x) (sym is) ∙ z.0
@@ -79,13 +82,6 @@ module _ (p : ℕ) (fm : IsFieldModulus p) where
     | inr n ↦ ap lead_of (skipped x ys e.1 (zero_at_member x es' e z n)) ∙ lead_of_row ys es' r e n
   ]
 
-  same_after : (xs : List (List ℕ)) (u v w : V) → AreSameAt K (List ℕ) xs u v → ((y : List ℕ) → v y ≡ w y) → AreSameAt K (List ℕ) xs u w
-  same_after [] u v w s e = tt
-  same_after (x ∷ xs) u v w s e = (s.0 ∙ e x, same_after xs u v w s.1 e)
-
-  some_same : (a b : List ℕ) → Some a ≡ Some b → a ≡ b
-  some_same a b e = cc e
-
   -- a vector that is had from the rows has its leading word among their leading columns
   pub lead_among : (xs : List (List ℕ)) (es : List (List ℕ × V)) → IsReduced K (List ℕ) xs es → (v : V) →
       AreSameAt K (List ℕ) xs v (sum_of K (List ℕ) (from_leads K (List ℕ) es v))
@@ -100,11 +96,11 @@ module _ (p : ℕ) (fm : IsFieldModulus p) where
         λ y. ap (λ (n : Residue p). K.add (K.mul n (g y)) (sum_of K (List ℕ) (from_leads K (List ℕ) es' v) y)) zero
         ∙ ap (λ (n : Residue p). K.add n (sum_of K (List ℕ) (from_leads K (List ℕ) es' v) y)) (K.mul_comm K.zero (g y) ∙ mul_zero K (g y)) ∙ zero_add K _ in
         Contains-more x (map (λ (d : List ℕ × V). d.0) es') w
-        (lead_among ys es' r v (same_after ys v _ _ s.1 without) w (sym (ap lead_of (skipped x ys v zero)) ∙ e))
+        (lead_among ys es' r v (AreSameAt-trans K (List ℕ) ys v _ _ s.1 without) w (sym (ap lead_of (skipped x ys v zero)) ∙ e))
     | inr some ↦
         let is : lead_of (from_words (x ∷ ys) (entries v)) ≡ Some x =
         ap (λ (b : Bool). lead_of (cond b (from_words ys (entries v)) (record { word = x; coefficient = (v x).0 } ∷ from_words ys (entries v)))) some in
-        subst (Contains (x ∷ map (λ (d : List ℕ × V). d.0) es')) (some_same x w (sym is ∙ e)) (Contains-first x (map (λ (d : List ℕ × V). d.0) es'))
+        subst (Contains (x ∷ map (λ (d : List ℕ × V). d.0) es')) (same_Some x w (sym is ∙ e)) (Contains-first x (map (λ (d : List ℕ × V). d.0) es'))
   ]
 
   one_of_listed : (fs : List (List Term)) (f : List Term) → Contains fs f → IsOneOf K (List ℕ) (map (vectors.vector_of p fm) fs) (vectors.vector_of p fm f)

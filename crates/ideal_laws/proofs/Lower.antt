@@ -6,7 +6,7 @@ use Rattle.std.specs.List.{Contains, flat_map, slice_get}
 use Rattle.std.proofs.Math.Nat.{mod-eq_of_lt, zero-mod}
 use Rattle.std.proofs.lemmas.Bool.{cases_Bool, cases_lt, eqb-true}
 use Rattle.std.proofs.lemmas.List.Elements.{All-contains, All-head}
-use Rattle.std.proofs.lemmas.Option.{get_or_from_slice_get, slice_get_within}
+use Rattle.std.proofs.lemmas.Option.{get_or_from_slice_get, same_Some, slice_get_within}
 use Rattle.std.proofs.lemmas.Slice.Eq.{bytes_eq-Decides}
 use Rattle.words.specs.Words.{AreWeights, degree_of}
 use Rattle.words.proofs.Members.{All-from_members, Contains-cases, Contains-first, Contains-more, Contains-none}
@@ -23,7 +23,7 @@ use Rattle.ideal_laws.specs.Engine.{Elements, IsReducedUpto, of_degree}
 use Rattle.ideal_laws.specs.Kept.{IsKept, IsKeptElement, StandsBefore, lead_degree}
 use Rattle.ideal_laws.specs.Laws.{IsRelation, IsSetting}
 use Rattle.ideal_laws.specs.Overlaps.{AreLower, ListsFactorFree, ListsLower}
-use Rattle.ideal_laws.proofs.OneBasis.{monic-led, monic_total, some_same}
+use Rattle.ideal_laws.proofs.OneBasis.{monic-led, monic_total}
 
 -- a polynomial other than 0 of a list is listed in the degree of its leading word
 pub of_degree-has : (weights : List ℕ) (d : ℕ) (fs : List (List Term)) (g : List Term) → Contains fs g → g ≢ [] → lead_degree weights g ≡ d →
@@ -105,7 +105,7 @@ lead_degree-led weights (t ∷ f) w e = let is : t.word ≡ w = cc e in ap (degr
 strict : (weights : List ℕ) (g h : List Term) (w : List ℕ) → lead_of g ≡ Some w → lead_of h ≡ Some w → StandsBefore weights g h → ⊥
 strict weights g h w lg lh (inl lower) = omega (arith, lower, lead_degree-led weights g w lg, lead_degree-led weights h w lh)
 strict weights g h w lg lh (inr equal) =
-    letterwise-apart equal.1.of_f equal.1.of_g equal.1.greater (some_same equal.1.of_f equal.1.of_g (sym equal.1.leads_f ∙ lg ∙ sym lh ∙ equal.1.leads_g))
+    letterwise-apart equal.1.of_f equal.1.of_g equal.1.greater (same_Some equal.1.of_f equal.1.of_g (sym equal.1.leads_f ∙ lg ∙ sym lh ∙ equal.1.leads_g))
 
 module _ (p : ℕ) (relations : List (List Term)) (below : Elements) (st : IsSetting (ideal_over p below.weights relations)) (kept : IsKept below)
     (upto : IsReducedUpto p relations below) where

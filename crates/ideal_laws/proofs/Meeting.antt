@@ -80,7 +80,8 @@ module _ (u c v : List ℕ) where
   hit-swap true m n = mul_comm m n
   hit-swap false m n = refl
 
-  round_words : (s t : List ℕ) → u ++ s ++ (c ++ t ++ v) ≡ (u ++ s ++ c) ++ t ++ v
+  -- the words u * s * (c * t * v) and (u * s * c) * t * v are one
+  pub round_words : (s t : List ℕ) → u ++ s ++ (c ++ t ++ v) ≡ (u ++ s ++ c) ++ t ++ v
   round_words s t = simp append_assoc refl
 
   one_first : (s : Term) (g h : List Term) (w : List ℕ) → total_at (by_second (s ∷ g) h) w

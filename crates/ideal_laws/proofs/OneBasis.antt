@@ -7,6 +7,7 @@ use Rattle.std.proofs.Math.Nat.{mod-eq_of_lt, zero-mod}
 use Rattle.std.proofs.lemmas.Bool.{cases_Bool}
 use Rattle.std.proofs.lemmas.List.Elements.{All-contains, All-head}
 use Rattle.std.proofs.lemmas.List.Kept.{AllPairs-cons}
+use Rattle.std.proofs.lemmas.Option.{same_Some}
 use Rattle.std.proofs.lemmas.Slice.Eq.{bytes_eq-Decides}
 use Rattle.words.specs.Words.{degree_of, words_of_degree}
 use Rattle.words.specs.Order.{IsLetterwiseGreater}
@@ -22,26 +23,27 @@ use Rattle.free_poly.proofs.NormalForms.{letterwise-trans}
 use Rattle.free_poly.proofs.Totals.{here, letterwise-apart, total_at-absent}
 use Rattle.linear_algebra.specs.Fields.{Field}
 use Rattle.linear_algebra.specs.Spans.{sum_of}
-use Rattle.linear_algebra.specs.Echelon.{AreSameAt, AreZeroAt, IsReduced, IsZeroAtLeads, done, skip, lead, from_leads}
+use Rattle.linear_algebra.specs.Echelon.{AreSameAt, IsReduced, IsZeroAtLeads, done, skip, lead, from_leads}
 use Rattle.linear_algebra.specs.Mod.{Residue}
 use Rattle.linear_algebra.proofs.ModField.{same_residue}
+use Rattle.linear_algebra.proofs.Unique.{AreSameAt-trans}
 use Rattle.ideal_laws.specs.Ideal.{Ideal, IsLeadingWord, IsMinimal}
 use Rattle.ideal_laws.specs.Basis.{HasGreaterLead, IsReduced as IsReducedElement, IsReducedBasis, below_lead}
 use Rattle.ideal_laws.specs.Laws.{HasOneBasis, IsSetting}
 use Rattle.ideal_laws.proofs.Factors.{is_minimal}
 use Rattle.ideal_laws.proofs.Leads.{element_form, element_from, element_inside, entries, found, had_from_rows, leading_listed, listed_leading}
-use Rattle.ideal_laws.proofs.Leads.{member_is, row_leads, row_member, rows}
+use Rattle.ideal_laws.proofs.Leads.{member_is, row_leads, row_member, rows, zero_at_member}
 use Rattle.ideal_laws.proofs.Search.{AllPairs-kept, in_kept, kept, kept-says, same_lists}
 use Rattle.ideal_laws.proofs.Vectors.{span_from_ideal}
 use Rattle.ideal_laws.proofs.Vectors as vectors
 
 -- two words of which the options are one are one
 pub some_same : (a b : List ℕ) → Some a ≡ Some b → a ≡ b
-some_same a b e = cc e
+some_same a b e = same_Some a b e
 
 -- no element has a greater leading word than itself
 pub greater_strict : (f : List Term) → HasGreaterLead f f → ⊥
-greater_strict f h = letterwise-apart h.of_f h.of_g h.greater (some_same h.of_f h.of_g (sym h.leads_f ∙ h.leads_g))
+greater_strict f h = letterwise-apart h.of_f h.of_g h.greater (same_Some h.of_f h.of_g (sym h.leads_f ∙ h.leads_g))
 
 -- the order of elements by their leading words is transitive
 pub greater_trans : (f g h : List Term) → HasGreaterLead f g → HasGreaterLead g h → HasGreaterLead f h
@@ -51,7 +53,7 @@ greater_trans f g h a b = record {
   leads_f = a.leads_f;
   leads_g = b.leads_g;
   greater = letterwise-trans a.of_f a.of_g b.of_g a.greater (subst (λ (w : List ℕ). IsLetterwiseGreater w b.of_g)
-      (some_same b.of_f a.of_g (sym b.leads_f ∙ a.leads_g)) b.greater);
+      (same_Some b.of_f a.of_g (sym b.leads_f ∙ a.leads_g)) b.greater);
 }
 
 -- a polynomial other than 0 begins with its leading word
@@ -107,13 +109,6 @@ module _ (p : ℕ) (fm : IsFieldModulus p) where
   abbrev V : Type 0
   V = List ℕ → Residue p
 
-  zero_at_member : (x : List ℕ) (es : List (List ℕ × V)) (e : List ℕ × V) → AreZeroAt K (List ℕ) x es → Contains es e → e.1 x ≡ K.zero
-  zero_at_member x [] e z m = absurd (Contains-none e m)
-  zero_at_member x (d ∷ es) e z m = elim (Contains-cases d es e m) [
-    | inl is ↦ ap (λ (r : List ℕ × V). r.1 x) (sym is) ∙ z.0
-    | inr n ↦ zero_at_member x es e z.1 n
-  ]
-
   -- a vector that is 0 at the leading columns of a list of rows is 0 at that of each of them
   pub zero_at_lead : (v : V) (es : List (List ℕ × V)) (e : List ℕ × V) → IsZeroAtLeads K (List ℕ) v es → Contains es e → v e.0 ≡ K.zero
   zero_at_lead v [] e z m = absurd (Contains-none e m)
@@ -142,7 +137,7 @@ module _ (p : ℕ) (fm : IsFieldModulus p) where
       | inr k ↦ ap (λ (c : List ℕ × V). c.1 d.0) (sym is) ∙ zero_at_lead v es' d zl k
     ]
     | inr j ↦ elim (Contains-cases (x, v) es' d n) [
-      | inl same ↦ ap (λ (c : List ℕ × V). e.1 c.0) (sym same) ∙ zero_at_member x es' e z j
+      | inl same ↦ ap (λ (c : List ℕ × V). e.1 c.0) (sym same) ∙ zero_at_member p fm x es' e z j
       | inr k ↦ row_zero ys es' r e d j k ne
     ]
   ]
@@ -179,11 +174,6 @@ module _ (p : ℕ) (fm : IsFieldModulus p) where
   from_words-same (x ∷ xs) u v s a b =
       λ i. cond (((a.0 ∙ sym b.0) i).0 == 0) (from_words-same xs u v s a.1 b.1 i)
       (record { word = x; coefficient = ((a.0 ∙ sym b.0) i).0 } ∷ from_words-same xs u v s a.1 b.1 i)
-
-  -- where u is the same as v at the columns, and v and w are the same everywhere, u is the same as w at the columns
-  pub same_after : (xs : List (List ℕ)) (u v w : V) → AreSameAt K (List ℕ) xs u v → ((y : List ℕ) → v y ≡ w y) → AreSameAt K (List ℕ) xs u w
-  same_after [] u v w s e = tt
-  same_after (x ∷ xs) u v w s e = (s.0 ∙ e x, same_after xs u v w s.1 e)
 
   from_words-monic : (xs : List (List ℕ)) (v : V) (w : List ℕ) → lead_of (from_words xs (entries p fm v)) ≡ Some w → v w ≡ K.one →
       IsMonic (from_words xs (entries p fm v))
@@ -226,7 +216,7 @@ module _ (ideal : Ideal) (st : IsSetting ideal) (d : ℕ) where
       record {
         inside = element_inside ideal fm st d e.1 (row_member ideal fm st d e m);
         monic = from_words-monic ideal.modulus fm (words_of_degree ideal.weights d) e.1 e.0 leads (row_one ideal.modulus fm _ _ r e m);
-        minimal = λ w is. subst (IsMinimal ideal) (some_same e.0 w (sym leads ∙ is)) minimal;
+        minimal = λ w is. subst (IsMinimal ideal) (same_Some e.0 w (sym leads ∙ is)) minimal;
         others = below-all (λ t. IsLeadingWord ideal d t.word → ⊥) (element_of e) e.0 leads form.form (λ t n greater l.
             let there = Contains-map_cases (λ (c : List ℕ × RowVector). c.0) es t.word (leading_listed ideal fm st d t.word l) in
             let zero = row_zero ideal.modulus fm _ _ r e there.0 m there.1 (λ same. letterwise-apart e.0 t.word greater (sym same ∙ there.2)) in
@@ -261,7 +251,8 @@ module _ (ideal : Ideal) (st : IsSetting ideal) (d : ℕ) where
       let had_f = had_from_rows ideal fm st d v (span_from_ideal ideal fm d f h.inside) in
       let had_e = had_from_rows ideal fm st d e.1 (row_member ideal fm st d e there.1) in
       let is : f ≡ element_of e = member_is ideal fm st d f h.inside
-      ∙ from_words-same ideal.modulus fm (words_of_degree ideal.weights d) v e.1 _ (same_after ideal.modulus fm (words_of_degree ideal.weights d) v _ _ had_f
+      ∙ from_words-same ideal.modulus fm (words_of_degree ideal.weights d) v e.1 _
+      (AreSameAt-trans (vectors.K ideal.modulus fm) (List ℕ) (words_of_degree ideal.weights d) v _ _ had_f
       (from_leads-same ideal.modulus fm es v e.1 same)) had_e in
       subst (Contains basis) (sym is) (Contains-map element_of (kept IsMinimalRow minimal_row es) e
       (in_kept IsMinimalRow minimal_row es e there.1 (subst (IsMinimal ideal) (sym there.2) (h.minimal w.0 w.1))))

@@ -1,10 +1,10 @@
 -- The span of reducers, relations and obstruction rows, over the list of the reduced elements of lower degrees.
-use Rattle.std.proofs.Common.{ap₂, ◌≡◌, ◌+◌, ◌<◌, ℕ, zero, suc, List, [], ◌∷◌, ◌++◌, map, length, take, drop, refl, sym, ap, ◌∙◌, arith, All, subst}
+use Rattle.std.proofs.Common.{ap₂, ◌≡◌, ◌+◌, ◌<◌, ℕ, List, [], ◌∷◌, ◌++◌, map, length, take, drop, refl, sym, ap, ◌∙◌, arith, All, subst}
 use Rattle.std.proofs.Common.{Some, length-append}
 use Rattle.std.specs.List.{Contains, flat_map, slice_get}
-use Rattle.std.proofs.Math.Nat.{mod-eq_of_lt, suc-add}
+use Rattle.std.proofs.Math.Nat.{mod-eq_of_lt}
 use Rattle.std.proofs.Math.Seq.{drop-append_seam, take-append_seam}
-use Rattle.std.proofs.lemmas.List.{append_assoc, length-take-le, take-append-drop}
+use Rattle.std.proofs.lemmas.List.{append_assoc, drop-drop, length-take-le, take-append-drop}
 use Rattle.std.proofs.lemmas.List.Elements.{All-cons, All-drop, All-head, All-map, All-nil, All-tail, All-take}
 use Rattle.std.proofs.lemmas.Option.{get_or_from_slice_get, slice_get-get_or, slice_get_within}
 use Rattle.words.specs.Words.{IsOver, OccursAt, degree_of}
@@ -29,15 +29,6 @@ use Rattle.ideal_laws.proofs.Suffice.{ideal_spanned, lower_over}
 use Rattle.ideal_laws.proofs.Suffice as vectors_of
 use Rattle.ideal_laws.proofs.Vectors.{IsProductVector, ideal_from_span, same_vectors, span_from_ideal, vector_of-append, vector_of-scaled}
 use Rattle.ideal_laws.proofs.Vectors as vectors
-
-drop-none : (i : ℕ) → drop {A = ℕ} i [] ≡ []
-drop-none zero = refl
-drop-none (suc i) = refl
-
-drop_twice : (k n : ℕ) (w : List ℕ) → drop n (drop k w) ≡ drop (k + n) w
-drop_twice zero n w = ap (λ (i : ℕ). drop i w) (omega arith)
-drop_twice (suc k) n [] = drop-none n ∙ sym (drop-none (suc k + n))
-drop_twice (suc k) n (x ∷ w) = drop_twice k n w ∙ ap (λ (i : ℕ). drop i (x ∷ w)) (sym (suc-add k n))
 
 module _ (ideal : Ideal) (st : IsSetting ideal) (d : ℕ) (G : List (List Term)) (lower : AreLower ideal d G) where
   abbrev K : Field
@@ -75,7 +66,7 @@ module _ (ideal : Ideal) (st : IsSetting ideal) (d : ℕ) (G : List (List Term))
       let v = drop (k + length m) w in
       let l = lower_of g among in
       let joined : w ≡ u ++ m ++ v =
-      sym (append_assoc u m v ∙ ap (λ (r : List ℕ). u ++ r) (ap₂ (λ (x z : List ℕ). x ++ z) (sym o.same) (sym (drop_twice k (length m) w))
+      sym (append_assoc u m v ∙ ap (λ (r : List ℕ). u ++ r) (ap₂ (λ (x z : List ℕ). x ++ z) (sym o.same) (sym (drop-drop (length m) k w))
       ∙ take-append-drop (length m) (drop k w)) ∙ take-append-drop k w) in
       let h : Lower w (vec (product u g v)) = record {
         element = g;

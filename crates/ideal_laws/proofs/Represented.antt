@@ -20,8 +20,8 @@ use Rattle.free_poly.proofs.Products.{degree_of-round}
 use Rattle.linear_algebra.specs.Fields.{Field}
 use Rattle.linear_algebra.specs.Spans.{IsInSpan}
 use Rattle.linear_algebra.specs.Mod.{Residue}
-use Rattle.linear_algebra.proofs.Algebra.{zero_add, add_left_comm, mul_zero, mul_neg, IsInSpan-add, IsInSpan-scaled, IsInSpan-one, IsInSpan-zero}
-use Rattle.linear_algebra.proofs.Elimination.{cleared, cleared_here, same_span}
+use Rattle.linear_algebra.proofs.Algebra.{zero_add, mul_zero, IsInSpan-add, IsInSpan-scaled, IsInSpan-one, IsInSpan-zero}
+use Rattle.linear_algebra.proofs.Elimination.{cleared, cleared_here, same_span, uncleared}
 use Rattle.linear_algebra.proofs.ModField.{same_residue}
 use Rattle.ideal_laws.specs.Ideal.{Ideal, IsInIdeal, IsLeadingWord}
 use Rattle.ideal_laws.specs.Basis.{IsReduced}
@@ -158,14 +158,6 @@ module _ (ideal : Ideal) (st : IsSetting ideal) where
       sum = s.sum;
     }
 
-    -- v is what is left of it and its entry at x times q
-    regained : (x : List ℕ) (q v : Vr) (y : List ℕ) → Kr.add (Kr.mul (v x) (q y)) (cleared Kr (List ℕ) x q v y) ≡ v y
-    regained x q v y =
-        let neg_mul : Kr.mul (Kr.neg (v x)) (q y) ≡ Kr.neg (Kr.mul (v x) (q y)) = Kr.mul_comm (Kr.neg (v x)) (q y) ∙ mul_neg Kr (q y) (v x)
-        ∙ ap Kr.neg (Kr.mul_comm (q y) (v x)) in
-        add_left_comm Kr (Kr.mul (v x) (q y)) (v y) (Kr.mul (Kr.neg (v x)) (q y))
-        ∙ ap (Kr.add (v y)) (ap (Kr.add (Kr.mul (v x) (q y))) neg_mul ∙ Kr.add_neg (Kr.mul (v x) (q y))) ∙ Kr.add_zero (v y)
-
     cleared_stays : (x y : List ℕ) (q v : Vr) → v y ≡ Kr.zero → q y ≡ Kr.zero → cleared Kr (List ℕ) x q v y ≡ Kr.zero
     cleared_stays x y q v none nothing = ap₂ (λ (m n : Residue ideal.modulus). Kr.add m (Kr.mul (Kr.neg (v x)) n)) none nothing ∙ zero_add Kr _
         ∙ mul_zero Kr (Kr.neg (v x))
@@ -213,7 +205,7 @@ module _ (ideal : Ideal) (st : IsSetting ideal) where
                   | inr k ↦ absurd (Contains-none y k)
                 ]
               ]) in
-              same_span Kr (List ℕ) _ (λ y. Kr.add (Kr.mul (v x) (q.0 y)) (left y)) v (regained x q.0 v)
+              same_span Kr (List ℕ) _ (λ y. Kr.add (Kr.mul (v x) (q.0 y)) (left y)) v (uncleared Kr (List ℕ) x q.0 v)
               (IsInSpan-add Kr (List ℕ) _ _ left (IsInSpan-scaled Kr (List ℕ) _ (v x) q.0
               (IsInSpan-one Kr (List ℕ) _ q.0 (x, Contains-first x xs, q.1))) (fewer x xs left rest))
         ]

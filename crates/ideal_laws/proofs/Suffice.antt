@@ -4,7 +4,7 @@ use Rattle.std.proofs.Common.{inr, arith, AllPairs, subst, length-append}
 use Rattle.std.specs.List.{Contains, flat_map, range_with_len}
 use Rattle.std.proofs.Math.Seq.{drop-append_seam, take-append_seam}
 use Rattle.std.proofs.lemmas.Bool.{cases_lt}
-use Rattle.std.proofs.lemmas.List.{append_assoc, take-append-drop}
+use Rattle.std.proofs.lemmas.List.{append_assoc, length-take, take-append-drop}
 use Rattle.std.proofs.lemmas.List.Elements.{All-append, All-cons, All-drop, All-map, All-nil, All-take, Contains-append_cases}
 use Rattle.words.specs.Words.{IsOver, degree_of, weight_of, words_of_degree}
 use Rattle.words.specs.Order.{IsLetterwiseGreater}
@@ -107,11 +107,6 @@ module _ (ideal : Ideal) (st : IsSetting ideal) (d : ℕ) where
         small = omega (arith, ap (degree_of ideal.weights) here, lower_degree ideal st d k.element k.lead k.lower k.is_lead, k.lower.below);
       }
 
-  take-short : (i : ℕ) (w : List ℕ) → length (take i w) ≤ i
-  take-short zero w = omega arith
-  take-short (suc i) [] = omega arith
-  take-short (suc i) (x ∷ w) = omega (arith, take-short i w)
-
   -- the product of the lower element whose lead stands there
   record HasProductAt (w : List ℕ) (i : ℕ) : Type 0 where
     pub vector : V
@@ -142,7 +137,7 @@ module _ (ideal : Ideal) (st : IsSetting ideal) (d : ℕ) where
           degree = sym (degree_of-round ideal.weights u m v) ∙ ap (degree_of ideal.weights) (sym joined) ∙ deg;
           is = refl;
         };
-        early = take-short at.0 w;
+        early = omega (arith, length-take at.0 w);
       }
 
   -- each word that has a product has one whose lead stands at the least place
