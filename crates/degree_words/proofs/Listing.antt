@@ -1,16 +1,16 @@
 -- Steps of the numbers and lists of the words of all degrees.
-use Rattle.std.proofs.Common.{◌≡◌, ◌≢◌, ◌+◌, ◌-◌, ◌^◌, ◌<◌, ◌≤◌, ℕ, zero, suc, Bool, cond, leb, List, [], ◌∷◌, ◌++◌, map, length, take, get_or, set}
+use Rattle.std.proofs.Common.{◌≡◌, ◌≢◌, ◌+◌, ◌-◌, ◌<◌, ◌≤◌, ℕ, zero, suc, Bool, cond, leb, List, [], ◌∷◌, ◌++◌, map, length, take, get_or}
 use Rattle.std.proofs.Common.{min, refl, sym, ap, ◌∙◌, inl, inr, arith, subst, length-append, append-nil, add-one, add-zero, zero-add}
 use Rattle.std.specs.List.{Contains, flat_map, range_with_len}
 use Rattle.std.proofs.lemmas.Bool.{cases_Bool, cases_eq, le-leb, leb-true, lt-leb}
-use Rattle.std.proofs.lemmas.List.{get_or_append_left, get_or_push, get_or-set_other, get_or-set_same, length-map, length-set, length_push, take_more}
+use Rattle.std.proofs.lemmas.List.{get_or_append_left, get_or_push, length-map, length_push, take_more}
 use Rattle.std.proofs.lemmas.List.Concat.{flat_map-append}
 use Rattle.words.specs.Words.{AreWeights, degree_of, weight_of, with_letter, words_of_degree}
 use Rattle.words.proofs.Degrees.{listed_word, range-bounds, words_of_degree-says, words_of_degree-unfolds}
 use Rattle.words.proofs.Members.{Contains-first, Contains-more, Contains-none}
 use Rattle.words.proofs.Weights.{weight_of-bounds}
 use Rattle.std.proofs.lemmas.List.Elements.{All-cons}
-use Rattle.degree_words.specs.Lists.{AreCounts, AreLists, list_at}
+use Rattle.degree_words.specs.Lists.{AreLists, list_at}
 
 range_suc : (a n : ℕ) → range_with_len a (suc n) ≡ range_with_len a n ++ (a + n) ∷ []
 range_suc a zero = ap (λ (k : ℕ). k ∷ []) (sym (add-zero a))
@@ -81,18 +81,6 @@ pub unfolds_at : (weights : List ℕ) → AreWeights weights → (k : ℕ) → 0
     words_of_degree weights k ≡ flat_map (with_letter weights (words_of_degree weights) k) (range_with_len 0 (length weights))
 unfolds_at weights aw zero some = absurd (omega (arith, some))
 unfolds_at weights aw (suc d) some = words_of_degree-unfolds weights aw d
-
--- where the numbers of words of the degrees below k are right, and that of degree k is put at its place, those up to k are right
-pub counts_more : (weights counts : List ℕ) (k v : ℕ) → k < 65 → v ≡ min (length (words_of_degree weights k)) (2 ^ 64 - 1) →
-    AreCounts weights counts k → AreCounts weights (set counts k v) (k + 1)
-counts_more weights counts k v lt e h = record {
-  size = length-set counts k v ∙ h.size;
-  counted = λ j below. elim (cases_eq j k) [
-    | inl is ↦ subst (λ (n : ℕ). get_or (set counts k v) n 0 ≡ min (length (words_of_degree weights n)) (2 ^ 64 - 1)) (sym is)
-        (get_or-set_same counts k v 0 (omega (arith, lt, h.size)) ∙ e)
-    | inr other ↦ get_or-set_other counts k j v 0 other ∙ h.counted j (omega (arith, below, other))
-  ];
-}
 
 -- with the list of degree k behind right lists of the degrees below k, or an empty one where it is not of use, those up to k are right
 pub lists_more : (weights : List ℕ) (d k : ℕ) (lists : List (List (List ℕ))) (new : List (List ℕ)) → AreLists weights d lists k
