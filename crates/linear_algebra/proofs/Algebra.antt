@@ -31,6 +31,14 @@ module _ (K : Field) where
   mul_zero a = add_cancel (K.mul a K.zero) (K.mul a K.zero) K.zero
       (sym (K.mul_add a K.zero K.zero) ∙ ap (K.mul a) (K.add_zero K.zero) ∙ sym (K.add_zero (K.mul a K.zero)))
 
+  -- a * 0 + b is b
+  pub mul_zero_add : (a b : K.F) → K.add (K.mul a K.zero) b ≡ b
+  mul_zero_add a b = ap (λ (s : K.F). K.add s b) (mul_zero a) ∙ zero_add b
+
+  -- 0 * a + b is b
+  pub zero_mul_add : (a b : K.F) → K.add (K.mul K.zero a) b ≡ b
+  zero_mul_add a b = ap (λ (s : K.F). K.add s b) (K.mul_comm K.zero a) ∙ mul_zero_add a b
+
   -- a * - b is - (a * b)
   pub mul_neg : (a b : K.F) → K.mul a (K.neg b) ≡ K.neg (K.mul a b)
   mul_neg a b = add_cancel (K.mul a b) (K.mul a (K.neg b)) (K.neg (K.mul a b))

@@ -5,8 +5,8 @@ use Rattle.std.proofs.lemmas.Bool.{cases_Bool}
 use Rattle.linear_algebra.specs.Fields.{Field}
 use Rattle.linear_algebra.specs.Spans.{Vector}
 pub use Rattle.linear_algebra.specs.Dependence.{HasNonzero, IsDependent, IsZeroOn, sum_zip}
-use Rattle.linear_algebra.proofs.Algebra.{zero_add, add_left_comm, mul_zero}
-use Rattle.linear_algebra.proofs.Elimination.{cleared, cleared_here, cleared_sum}
+use Rattle.linear_algebra.proofs.Algebra.{add_left_comm, mul_zero_add, zero_mul_add}
+use Rattle.linear_algebra.proofs.Elimination.{cleared, cleared_here, cleared_sum, cleared_zero}
 
 module _ (K : Field) (X : Type 0) where
   abbrev V : Type 0
@@ -26,8 +26,7 @@ module _ (K : Field) (X : Type 0) where
       sum_zip K X (insert_factor front c cs) (front ++ p ∷ bs) y ≡ K.add (K.mul c (p y)) (sum_zip K X cs (front ++ bs) y)
   sum_zip-inserted [] bs p c cs y = refl
   sum_zip-inserted (a ∷ front) bs p c [] y =
-      ap (λ (n : K.F). K.add n (sum_zip K X (insert_factor front c []) (front ++ p ∷ bs) y)) (K.mul_comm K.zero (a y) ∙ mul_zero K (a y))
-      ∙ zero_add K _ ∙ sum_zip-inserted front bs p c [] y
+      zero_mul_add K (a y) _ ∙ sum_zip-inserted front bs p c [] y
   sum_zip-inserted (a ∷ front) bs p c (d ∷ cs) y =
       ap (K.add (K.mul d (a y))) (sum_zip-inserted front bs p c cs y) ∙ add_left_comm K (K.mul d (a y)) (K.mul c (p y)) (sum_zip K X cs (front ++ bs) y)
 
@@ -43,11 +42,6 @@ module _ (K : Field) (X : Type 0) where
   nonzero-inserted (a ∷ front) c (d ∷ cs) (inl h) = inl h
   nonzero-inserted (a ∷ front) c (d ∷ cs) (inr h) = inr (nonzero-inserted front c cs h)
 
-  nothing_cleared : (p : V) (y : X) → K.zero ≡ K.add K.zero (K.mul (K.neg K.zero) (p y))
-  nothing_cleared p y =
-      let neg_zero : K.neg K.zero ≡ K.zero = sym (zero_add K (K.neg K.zero)) ∙ K.add_neg K.zero in
-      sym (zero_add K _ ∙ ap (λ (n : K.F). K.mul n (p y)) neg_zero ∙ K.mul_comm K.zero (p y) ∙ mul_zero K (p y))
-
   sum_zip-nil : (cs : List K.F) (x : X) → sum_zip K X cs [] x ≡ K.zero
   sum_zip-nil [] x = refl
   sum_zip-nil (c ∷ cs) x = refl
@@ -56,12 +50,12 @@ module _ (K : Field) (X : Type 0) where
       sum_zip K X cs (f ∷ fs) x ≡ K.zero
   sum_zip-zero_first f fs x z all [] = refl
   sum_zip-zero_first f fs x z all (c ∷ ds) =
-      ap (λ (n : K.F). K.add (K.mul c n) (sum_zip K X ds fs x)) z ∙ ap (λ (n : K.F). K.add n (sum_zip K X ds fs x)) (mul_zero K c) ∙ zero_add K _ ∙ all ds
+      ap (λ (n : K.F). K.add (K.mul c n) (sum_zip K X ds fs x)) z ∙ mul_zero_add K c _ ∙ all ds
 
   -- sums of cleared vectors are cleared sums
   sum_zip-cleared : (x : X) (p : V) (cs : List K.F) (fs : List V) (y : X) → sum_zip K X cs (map (cleared K X x p) fs) y ≡ cleared K X x p (sum_zip K X cs fs) y
-  sum_zip-cleared x p [] fs y = nothing_cleared p y
-  sum_zip-cleared x p (c ∷ cs) [] y = nothing_cleared p y
+  sum_zip-cleared x p [] fs y = sym (cleared_zero K X (p y))
+  sum_zip-cleared x p (c ∷ cs) [] y = sym (cleared_zero K X (p y))
   sum_zip-cleared x p (c ∷ cs) (f ∷ fs) y =
       ap (K.add (K.mul c (cleared K X x p f y))) (sum_zip-cleared x p cs fs y) ∙ cleared_sum K X c (f y) (sum_zip K X cs fs y) (f x) (sum_zip K X cs fs x) (p y)
 

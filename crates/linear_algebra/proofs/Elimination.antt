@@ -5,7 +5,7 @@ use Rattle.std.proofs.lemmas.List.Elements.{All-head, All-tail}
 use Rattle.linear_algebra.specs.Fields.{Field}
 use Rattle.linear_algebra.specs.Spans.{Vector, sum_of, IsInSpan}
 use Rattle.linear_algebra.specs.Echelon.{IsOneOf, AreZeroAt, IsZeroAtLeads, IsReduced, done, skip, lead, from_leads, AreSameAt, AreInSpan, IsBasis}
-use Rattle.linear_algebra.proofs.Algebra.{zero_add, add_cancel, add_left_comm, add_swap, mul_zero, mul_neg}
+use Rattle.linear_algebra.proofs.Algebra.{zero_add, add_cancel, add_left_comm, add_swap, mul_zero, mul_zero_add, mul_neg}
 use Rattle.linear_algebra.proofs.Algebra.{IsInSpan-zero, IsInSpan-add, IsInSpan-scaled, IsInSpan-one}
 
 module _ (K : Field) (X : Type 0) where
@@ -42,7 +42,7 @@ module _ (K : Field) (X : Type 0) where
   sum_of-zero P x h [] each = refl
   sum_of-zero P x h (c ∷ cs) each =
       ap (λ (n : K.F). K.add (K.mul c.0 n) (sum_of K X cs x)) (h c.1 (All-head (λ (d : K.F × V). P d.1) c cs each))
-      ∙ ap (λ (n : K.F). K.add n (sum_of K X cs x)) (mul_zero K c.0) ∙ zero_add K (sum_of K X cs x)
+      ∙ mul_zero_add K c.0 (sum_of K X cs x)
       ∙ sum_of-zero P x h cs (All-tail (λ (d : K.F × V). P d.1) c cs each)
 
   -- where each vector with P is 0 at x, so is each vector of their span
@@ -72,6 +72,14 @@ module _ (K : Field) (X : Type 0) where
   pub cleared_here : (a b : K.F) → b ≡ K.one → K.add a (K.mul (K.neg a) b) ≡ K.zero
   cleared_here a b e = ap (λ (n : K.F). K.add a (K.mul (K.neg a) n)) e ∙ ap (K.add a) (K.mul_one (K.neg a)) ∙ K.add_neg a
 
+  -- 0 + (- 0) * b is 0
+  pub cleared_zero : (b : K.F) → K.add K.zero (K.mul (K.neg K.zero) b) ≡ K.zero
+  cleared_zero b = zero_add K _ ∙ neg_mul K.zero b ∙ sym (zero_add K _) ∙ ap (λ (n : K.F). K.add n (K.neg (K.mul K.zero b))) (sym nothing)
+      ∙ K.add_neg (K.mul K.zero b)
+    where
+      nothing : K.mul K.zero b ≡ K.zero
+      nothing = K.mul_comm K.zero b ∙ mul_zero K b
+
   one_of_map : (f : V → V) (gs : List V) (h : V) → IsOneOf K X (map f gs) h → (g : V) × IsOneOf K X gs g × (h ≡ f g)
   one_of_map f [] h is = absurd is
   one_of_map f (g ∷ gs) h (inl e) = (g, inl refl, e)
@@ -87,7 +95,7 @@ module _ (K : Field) (X : Type 0) where
   leads-zero x [] v z = refl
   leads-zero x (e ∷ es) v z =
       ap (λ (n : K.F). K.add (K.mul (v e.0) n) (sum_of K X (from_leads K X es v) x)) z.0
-      ∙ ap (λ (n : K.F). K.add n (sum_of K X (from_leads K X es v) x)) (mul_zero K (v e.0)) ∙ zero_add K (sum_of K X (from_leads K X es v) x)
+      ∙ mul_zero_add K (v e.0) (sum_of K X (from_leads K X es v) x)
       ∙ leads-zero x es v z.1
 
   -- what is had from the entries at the leading columns has these entries
@@ -99,7 +107,7 @@ module _ (K : Field) (X : Type 0) where
       AreSameAtLeads es (λ y. K.add (K.mul a (q y)) (w y)) v
   same_more v w a q [] z s = tt
   same_more v w a q (e ∷ es) z s = (
-    ap (λ (n : K.F). K.add (K.mul a n) (w e.0)) z.0 ∙ ap (λ (n : K.F). K.add n (w e.0)) (mul_zero K a) ∙ zero_add K (w e.0) ∙ s.0,
+    ap (λ (n : K.F). K.add (K.mul a n) (w e.0)) z.0 ∙ mul_zero_add K a (w e.0) ∙ s.0,
     same_more v w a q es z.1 s.1,
   )
 
@@ -147,11 +155,7 @@ module _ (K : Field) (X : Type 0) where
   -- clearing is linear, so a member of the span of gs is cleared to one of the span of the cleared gs
   cleared_parts : (x : X) (p : V) (gs : List V) (cs : List (K.F × V)) → All (λ c. IsOneOf K X gs c.1) cs
       → IsInSpan K X (IsOneOf K X (map (cleared x p) gs)) (cleared x p (sum_of K X cs))
-  cleared_parts x p gs [] each = same_span _ (λ y. K.zero) _ (λ y. sym
-      (zero_add K _ ∙ ap (λ (n : K.F). K.mul n (p y)) (neg_zero) ∙ K.mul_comm K.zero (p y) ∙ mul_zero K (p y))) (IsInSpan-zero K X _)
-    where
-      neg_zero : K.neg K.zero ≡ K.zero
-      neg_zero = sym (zero_add K (K.neg K.zero)) ∙ K.add_neg K.zero
+  cleared_parts x p gs [] each = same_span _ (λ y. K.zero) _ (λ y. sym (cleared_zero (p y))) (IsInSpan-zero K X _)
   cleared_parts x p gs (c ∷ cs) each =
       same_span _ (λ y. K.add (K.mul c.0 (cleared x p c.1 y)) (cleared x p (sum_of K X cs) y)) _
       (λ y. cleared_sum c.0 (c.1 y) (sum_of K X cs y) (c.1 x) (sum_of K X cs x) (p y))

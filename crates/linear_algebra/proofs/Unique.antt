@@ -3,7 +3,7 @@ use Rattle.std.proofs.Common.{ap₂, ◌≡◌, ◌↔◌, List, [], ◌∷◌, 
 use Rattle.linear_algebra.specs.Fields.{Field}
 use Rattle.linear_algebra.specs.Spans.{Vector, sum_of, IsInSpan}
 use Rattle.linear_algebra.specs.Echelon.{AreZeroAt, IsZeroAtLeads, IsReduced, done, skip, lead, from_leads, AreSameAt, AreSameRows, AreInSpan, IsBasis, IsOneOf}
-use Rattle.linear_algebra.proofs.Algebra.{zero_add, mul_zero}
+use Rattle.linear_algebra.proofs.Algebra.{zero_mul_add}
 use Rattle.linear_algebra.proofs.Elimination.{leads-zero}
 
 module _ (K : Field) (X : Type 0) where
@@ -32,7 +32,7 @@ module _ (K : Field) (X : Type 0) where
   had_below x xs e es [] is z h = tt
   had_below x xs e es (f ∷ fs) is z h = (
     AreSameAt-trans xs f.1 _ _ h.0.1 (λ y. ap (λ (n : K.F). K.add (K.mul n (e.1 y)) (sum_of K X (from_leads K X es f.1) y)) (ap f.1 is ∙ z.0)
-        ∙ ap (λ (n : K.F). K.add n (sum_of K X (from_leads K X es f.1) y)) (K.mul_comm K.zero (e.1 y) ∙ mul_zero K (e.1 y)) ∙ zero_add K _),
+        ∙ zero_mul_add K (e.1 y) _),
     had_below x xs e es fs is z.1 h.1,
   )
 
@@ -47,7 +47,7 @@ module _ (K : Field) (X : Type 0) where
   nothing_from_zeros [] v y z = refl
   nothing_from_zeros (f ∷ fs) v y z =
       ap (λ (n : K.F). K.add (K.mul n (f.1 y)) (sum_of K X (from_leads K X fs v) y)) z.0
-      ∙ ap (λ (n : K.F). K.add n (sum_of K X (from_leads K X fs v) y)) (K.mul_comm K.zero (f.1 y) ∙ mul_zero K (f.1 y)) ∙ zero_add K _
+      ∙ zero_mul_add K (f.1 y) _
       ∙ nothing_from_zeros fs v y z.1
 
   same_more : (x : X) (xs : List X) (es fs : List (X × V)) → AreZeroAt K X x es → AreZeroAt K X x fs → AreSameRows K X xs es fs → AreSameRows K X (x ∷ xs) es fs
