@@ -20,7 +20,7 @@ use Rattle.linear_algebra.specs.Fields.{Field}
 use Rattle.linear_algebra.specs.Spans.{sum_of}
 use Rattle.linear_algebra.specs.Echelon.{AreSameAt, IsReduced, IsZeroAtLeads, done, skip, lead, from_leads}
 use Rattle.linear_algebra.specs.Mod.{Residue}
-use Rattle.linear_algebra.proofs.Algebra.{zero_add, add_swap, mul_zero, IsInSpan-add, IsInSpan-scaled, IsInSpan-zero}
+use Rattle.linear_algebra.proofs.Algebra.{add_swap, mul_zero_add, zero_mul_add, IsInSpan-add, IsInSpan-scaled, IsInSpan-zero}
 use Rattle.linear_algebra.proofs.Dependent.{HasNonzero, IsZeroOn, dependent, sum_zip}
 use Rattle.linear_algebra.proofs.ModField.{same_residue}
 use Rattle.ideal_laws.specs.Ideal.{Ideal, IsInIdeal, IsLeadingWord}
@@ -49,17 +49,11 @@ module _ (p : ℕ) (fm : IsFieldModulus p) where
   mix (c ∷ cs) [] y = K.zero
   mix (c ∷ cs) (e ∷ es) y = K.add (K.mul (of c) (e.1 y)) (mix cs es y)
 
-  nothing_times : (a : Residue p) (r : Residue p) → K.add (K.mul K.zero a) r ≡ r
-  nothing_times a r = ap (λ (n : Residue p). K.add n r) (K.mul_comm K.zero a ∙ mul_zero K a) ∙ zero_add K r
-
-  times_nothing : (a : Residue p) (r : Residue p) → K.add (K.mul a K.zero) r ≡ r
-  times_nothing a r = ap (λ (n : Residue p). K.add n r) (mul_zero K a) ∙ zero_add K r
-
   mix-zero : (cs : List ℕ) (es : List (List ℕ × V)) (y : List ℕ) → ((e : List ℕ × V) → Contains es e → e.1 y ≡ K.zero) → mix cs es y ≡ K.zero
   mix-zero [] es y h = refl
   mix-zero (c ∷ cs) [] y h = refl
   mix-zero (c ∷ cs) (e ∷ es) y h =
-      ap (λ (n : Residue p). K.add (K.mul (of c) n) (mix cs es y)) (h e (Contains-first e es)) ∙ times_nothing (of c) _
+      ap (λ (n : Residue p). K.add (K.mul (of c) n) (mix cs es y)) (h e (Contains-first e es)) ∙ mul_zero_add K (of c) _
       ∙ mix-zero cs es y (λ d m. h d (Contains-more e es d m))
 
   zero_number : (c : ℕ) → c < p → of c ≡ K.zero → c ≡ 0
@@ -78,7 +72,7 @@ module _ (p : ℕ) (fm : IsFieldModulus p) where
       ∙ h (x, v) (Contains-first (x, v) es') in
       All-cons (λ c. c ≡ 0) c cs (zero_number c (All-head (λ c. c < p) c cs small) here)
       (rows_independent ys es' r cs (omega (arith, n)) (All-tail (λ c. c < p) c cs small) (λ e m.
-      sym (ap (λ (n : Residue p). K.add (K.mul n (v e.0)) (mix cs es' e.0)) here ∙ nothing_times (v e.0) _) ∙ h e (Contains-more (x, v) es' e m)))
+      sym (ap (λ (n : Residue p). K.add (K.mul n (v e.0)) (mix cs es' e.0)) here ∙ zero_mul_add K (v e.0) _) ∙ h e (Contains-more (x, v) es' e m)))
 
   abbrev reading : List ℕ × V → V → Residue p
   reading e v = v e.0
@@ -87,7 +81,7 @@ module _ (p : ℕ) (fm : IsFieldModulus p) where
   readings-zero [] es v z = refl
   readings-zero (a ∷ bs) [] v z = refl
   readings-zero (a ∷ bs) (e ∷ es) v z = ap (λ (n : Residue p). K.add (K.mul a n) (sum_zip K V bs (map reading es) v)) z.0
-      ∙ times_nothing a _ ∙ readings-zero bs es v z.1
+      ∙ mul_zero_add K a _ ∙ readings-zero bs es v z.1
 
   zero_is_zero : (a : Residue p) → K.is_zero a ≡ false → a ≡ K.zero → ⊥
   zero_is_zero a f e = let t : K.is_zero a ≡ true = ap K.is_zero e ∙ K.zero_test in cc
@@ -105,7 +99,7 @@ module _ (p : ℕ) (fm : IsFieldModulus p) where
       elim some [
         | inl f ↦ zero_is_zero a f here
         | inr later ↦ readings_independent ys es' r bs (omega (arith, n)) (λ e m.
-            sym (ap (λ (n : Residue p). K.add (K.mul n (e.1 x)) (sum_zip K V bs (map reading es') e.1)) here ∙ nothing_times (e.1 x) _)
+            sym (ap (λ (n : Residue p). K.add (K.mul n (e.1 x)) (sum_zip K V bs (map reading es') e.1)) here ∙ zero_mul_add K (e.1 x) _)
             ∙ h e (Contains-more (x, v) es' e m)) later
       ]
 
@@ -118,8 +112,8 @@ module _ (p : ℕ) (fm : IsFieldModulus p) where
   readings-linear : (bs : List (Residue p)) (es : List (List ℕ × V)) (c : Residue p) (u v : V)
       → sum_zip K V bs (map reading es) (λ y. K.add (K.mul c (u y)) (v y))
       ≡ K.add (K.mul c (sum_zip K V bs (map reading es) u)) (sum_zip K V bs (map reading es) v)
-  readings-linear [] es c u v = sym (times_nothing c K.zero)
-  readings-linear (a ∷ bs) [] c u v = sym (times_nothing c K.zero)
+  readings-linear [] es c u v = sym (mul_zero_add K c K.zero)
+  readings-linear (a ∷ bs) [] c u v = sym (mul_zero_add K c K.zero)
   readings-linear (a ∷ bs) (e ∷ es) c u v =
       let first : K.mul a (K.add (K.mul c (u e.0)) (v e.0)) ≡ K.add (K.mul c (K.mul a (u e.0))) (K.mul a (v e.0)) =
       K.mul_add a (K.mul c (u e.0)) (v e.0) ∙ ap (λ (n : Residue p). K.add n (K.mul a (v e.0)))
@@ -152,7 +146,7 @@ module _ (p : ℕ) (fm : IsFieldModulus p) where
   readings-combination bs es (c ∷ cs) (f ∷ fs) z =
       readings-same bs es _ _ (combination-first c cs f fs) ∙ readings-linear bs es (of c) (vectors.vector_of p fm f)
       (vectors.vector_of p fm (combination cs fs))
-      ∙ ap₂ (λ (m n : Residue p). K.add (K.mul (of c) m) n) z.0 (readings-combination bs es cs fs z.1) ∙ times_nothing (of c) K.zero
+      ∙ ap₂ (λ (m n : Residue p). K.add (K.mul (of c) m) n) z.0 (readings-combination bs es cs fs z.1) ∙ mul_zero_add K (of c) K.zero
 
 module _ (ideal : Ideal) (st : IsSetting ideal) (d : ℕ) where
   abbrev fmd : IsFieldModulus ideal.modulus
@@ -274,7 +268,7 @@ module _ (ideal : Ideal) (st : IsSetting ideal) (d : ℕ) where
       sum_of Kd (List ℕ) (from_leads Kd (List ℕ) fs v) y ≡ Kd.zero
   zero_leads v [] z y = refl
   zero_leads v (e ∷ fs) z y = ap (λ (n : Residue ideal.modulus). Kd.add (Kd.mul n (e.1 y)) (sum_of Kd (List ℕ) (from_leads Kd (List ℕ) fs v) y)) z.0
-      ∙ nothing_times ideal.modulus fmd (e.1 y) _ ∙ zero_leads v fs z.1 y
+      ∙ zero_mul_add Kd (e.1 y) _ ∙ zero_leads v fs z.1 y
 
   -- no more independent members than leading words
   at_most : (fs : List (List Term)) → All (IsInIdeal ideal d) fs → IsIndependent ideal.modulus fs →

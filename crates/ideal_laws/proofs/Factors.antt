@@ -2,13 +2,13 @@
 use Rattle.std.proofs.Common.{ap₂, ◌≡◌, ◌≢◌, ◌⊎◌, ◌<◌, ◌≤◌, ℕ, zero, suc, true, false, List, [], ◌∷◌, ◌++◌, map, length, take, drop, refl, sym, ap}
 use Rattle.std.proofs.Common.{◌∙◌, inl, inr, arith, All, subst, bytes_eq, length-append, append-nil, Some}
 use Rattle.std.specs.List.{Contains, flat_map, range_with_len}
-use Rattle.std.proofs.Math.Seq.{drop-append_seam, take-append_seam}
 use Rattle.std.proofs.lemmas.Bool.{cases_Bool, cases_lt}
 use Rattle.std.proofs.lemmas.List.{append_assoc, nil_from_length, take-append-drop}
 use Rattle.std.proofs.lemmas.List.Elements.{All-cons, All-head, All-nil, All-tail}
 use Rattle.std.proofs.lemmas.Slice.Eq.{bytes_eq-Decides}
 use Rattle.words.specs.Words.{IsFactor, IsOver, IsProperFactor, degree_of}
 use Rattle.words.proofs.Degrees.{Contains-range}
+use Rattle.words.proofs.Factors.{factor_occurs}
 use Rattle.words.proofs.Members.{Contains-flat_map, Contains-flat_map_cases, Contains-map, Contains-map_cases}
 use Rattle.free_poly.specs.Terms.{product}
 use Rattle.free_poly.proofs.Products.{degree_of-round}
@@ -41,15 +41,12 @@ factors w = flat_map (factors_from w) (range_with_len 0 (suc (length w)))
 -- each factor of a word is in the list of its factors
 pub factor_listed : (v w : List ℕ) → IsFactor v w → Contains (factors w) v
 factor_listed v w i =
-    let sizes = ap length i.joined ∙ length-append (i.before ++ v) i.after in
-    let is : take (length v) (drop (length i.before) w) ≡ v =
-    ap (λ (r : List ℕ). take (length v) (drop (length i.before) r)) (i.joined ∙ append_assoc i.before v i.after)
-    ∙ ap (take (length v)) (drop-append_seam i.before (v ++ i.after)) ∙ take-append_seam v i.after in
+    let o = factor_occurs v w i in
     Contains-flat_map (factors_from w) (range_with_len 0 (suc (length w))) (length i.before) v
-    (Contains-range 0 (suc (length w)) (length i.before) (omega arith) (omega (arith, sizes, length-append i.before v)))
-    (subst (Contains (factors_from w (length i.before))) is
+    (Contains-range 0 (suc (length w)) (length i.before) (omega arith) (omega (arith, o.within)))
+    (subst (Contains (factors_from w (length i.before))) o.same
     (Contains-map (λ n. take n (drop (length i.before) w)) (range_with_len 0 (suc (length w))) (length v)
-    (Contains-range 0 (suc (length w)) (length v) (omega arith) (omega (arith, sizes, length-append i.before v)))))
+    (Contains-range 0 (suc (length w)) (length v) (omega arith) (omega (arith, o.within)))))
 
 -- the list of the factors of a word has factors of it alone
 pub listed_factor : (v w : List ℕ) → Contains (factors w) v → IsFactor v w

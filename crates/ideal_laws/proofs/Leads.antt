@@ -22,7 +22,7 @@ use Rattle.linear_algebra.specs.Fields.{Field}
 use Rattle.linear_algebra.specs.Spans.{sum_of, IsInSpan}
 use Rattle.linear_algebra.specs.Echelon.{AreInSpan, AreSameAt, AreZeroAt, IsBasis, IsOneOf, IsReduced, done, skip, lead, from_leads}
 use Rattle.linear_algebra.specs.Mod.{Residue}
-use Rattle.linear_algebra.proofs.Algebra.{zero_add, mul_zero}
+use Rattle.linear_algebra.proofs.Algebra.{zero_mul_add}
 use Rattle.linear_algebra.proofs.Elimination.{IsInSpan-zero_at, eliminated, leads-zero}
 use Rattle.linear_algebra.proofs.ModField.{same_residue}
 use Rattle.linear_algebra.proofs.Unique.{AreSameAt-trans}
@@ -94,7 +94,7 @@ module _ (p : ℕ) (fm : IsFieldModulus p) where
         let zero : v x ≡ K.zero = zero_from v x none in
         let without : (y : List ℕ) → sum_of K (List ℕ) (from_leads K (List ℕ) ((x, g) ∷ es') v) y ≡ sum_of K (List ℕ) (from_leads K (List ℕ) es' v) y =
         λ y. ap (λ (n : Residue p). K.add (K.mul n (g y)) (sum_of K (List ℕ) (from_leads K (List ℕ) es' v) y)) zero
-        ∙ ap (λ (n : Residue p). K.add n (sum_of K (List ℕ) (from_leads K (List ℕ) es' v) y)) (K.mul_comm K.zero (g y) ∙ mul_zero K (g y)) ∙ zero_add K _ in
+        ∙ zero_mul_add K (g y) _ in
         Contains-more x (map (λ (d : List ℕ × V). d.0) es') w
         (lead_among ys es' r v (AreSameAt-trans K (List ℕ) ys v _ _ s.1 without) w (sym (ap lead_of (skipped x ys v zero)) ∙ e))
     | inr some ↦

@@ -8,6 +8,7 @@ use Rattle.std.proofs.lemmas.List.{append_assoc, drop-drop, length-take-le, take
 use Rattle.std.proofs.lemmas.List.Elements.{All-cons, All-drop, All-head, All-map, All-nil, All-tail, All-take}
 use Rattle.std.proofs.lemmas.Option.{get_or_from_slice_get, slice_get-get_or, slice_get_within}
 use Rattle.words.specs.Words.{IsOver, OccursAt, degree_of}
+use Rattle.words.proofs.Factors.{factor_occurs}
 use Rattle.free_poly.specs.declared.term.Term.{Term}
 use Rattle.free_poly.specs.Terms.{product}
 use Rattle.free_poly.specs.Poly.{lead_of}
@@ -98,13 +99,9 @@ module _ (ideal : Ideal) (st : IsSetting ideal) (d : ℕ) (G : List (List Term))
   generator_listed : (v : V) → vectors_of.IsGenerator ideal st d v → IsVectorOf v
   generator_listed v (vectors_of.reducer w h least) =
       let whole : w ≡ h.left ++ (h.lead ++ h.right) = h.word ∙ append_assoc h.left h.lead h.right in
-      let sizes = ap length h.word ∙ length-append (h.left ++ h.lead) h.right in
       let front : take (length h.left) w ≡ h.left = ap (take (length h.left)) whole ∙ take-append_seam h.left (h.lead ++ h.right) in
       let back : drop (length h.left + length h.lead) w ≡ h.right =
       ap₂ (λ (n : ℕ) (r : List ℕ). drop n r) (sym (length-append h.left h.lead)) h.word ∙ drop-append_seam (h.left ++ h.lead) h.right in
-      let here : take (length h.lead) (drop (length h.left) w) ≡ h.lead =
-      ap (λ (r : List ℕ). take (length h.lead) (drop (length h.left) r)) whole
-      ∙ ap (take (length h.lead)) (drop-append_seam h.left (h.lead ++ h.right)) ∙ take-append_seam h.lead h.right in
       let over = lower_over ideal st d w v h in
       let deg = lower_word ideal st d d w v h in
       record {
@@ -115,7 +112,7 @@ module _ (ideal : Ideal) (st : IsSetting ideal) (d : ℕ) (G : List (List Term))
           at = length h.left;
           among = listed_lower h.element h.lower;
           is_lead = h.is_lead;
-          here = record { within = omega (arith, sizes, length-append h.left h.lead); same = here };
+          here = factor_occurs h.lead w (record { before = h.left; after = h.right; joined = h.word });
           least = λ g m k among e o. let q = occurring w over deg g m k among e o in omega (arith, least q.vector q.product_of, q.place);
           is = ap₂ (λ (x z : List ℕ). product x h.element z) (sym front) (sym back);
         });

@@ -5,7 +5,7 @@ use Rattle.std.proofs.Common.{AllPairs, subst, Some, append-nil}
 use Rattle.std.specs.List.{Contains}
 use Rattle.std.proofs.lemmas.Bool.{cases_Bool}
 use Rattle.std.proofs.lemmas.List.{append_assoc}
-use Rattle.std.proofs.lemmas.List.Elements.{All-contains, All-weaker, Contains-append_cases}
+use Rattle.std.proofs.lemmas.List.Elements.{All-contains, All-weaker, Contains-append_cases, Contains-append_right}
 use Rattle.words.specs.Words.{IsOver, degree_of, words_of_degree}
 use Rattle.words.specs.Order.{IsLetterwiseGreater}
 use Rattle.words.proofs.Degrees.{words_of_degree-falling, words_of_degree-says}
@@ -38,13 +38,9 @@ pub before_it : (R : List ℕ → List ℕ → Type 0) (pre : List (List ℕ)) (
     (y : List ℕ) → Contains pre y → R y x
 before_it R [] x xs h y m = absurd (Contains-none y m)
 before_it R (a ∷ pre) x xs h y m = elim (Contains-cases a pre y m) [
-  | inl is ↦ subst (λ (b : List ℕ). R b x) is (All-contains (R a) (pre ++ x ∷ xs) x (AllPairs-first R a (pre ++ x ∷ xs) h) (in_middle pre))
+  | inl is ↦ subst (λ (b : List ℕ). R b x) is (All-contains (R a) (pre ++ x ∷ xs) x (AllPairs-first R a (pre ++ x ∷ xs) h) (Contains-append_right pre (x ∷ xs) x (Contains-first x xs)))
   | inr n ↦ before_it R pre x xs (AllPairs-rest R a (pre ++ x ∷ xs) h) y n
 ]
-  where
-    in_middle : (pre : List (List ℕ)) → Contains (pre ++ x ∷ xs) x
-    in_middle [] = Contains-first x xs
-    in_middle (b ∷ pre) = Contains-more b (pre ++ x ∷ xs) x (in_middle pre)
 
 product-monic : (u : List ℕ) (g : List Term) (v : List ℕ) → IsMonic g → IsMonic (product u g v)
 product-monic u [] v m = m
@@ -174,7 +170,7 @@ module _ (ideal : Ideal) (st : IsSetting ideal) where
         same_span Kr (List ℕ) _ (λ y. Kr.zero) v (λ y. sym (all y)) (IsInSpan-zero Kr (List ℕ) _)
     represented_from (x ∷ xs) pre is v s none =
         let next : columns ≡ (pre ++ x ∷ []) ++ xs = is ∙ sym (append_assoc pre (x ∷ []) xs) in
-        let here : Contains columns x = subst (λ (ws : List (List ℕ)). Contains ws x) (sym is) (in_middle pre) in
+        let here : Contains columns x = subst (λ (ws : List (List ℕ)). Contains ws x) (sym is) (Contains-append_right pre (x ∷ xs) x (Contains-first x xs)) in
         elim (cases_Bool ((v x).0 == 0)) [
           | inl nothing ↦ fewer x xs v (represented_from xs (pre ++ x ∷ []) next v s (λ y m. elim (Contains-append_cases pre (x ∷ []) y m) [
             | inl k ↦ none y k
@@ -209,10 +205,6 @@ module _ (ideal : Ideal) (st : IsSetting ideal) where
               (IsInSpan-add Kr (List ℕ) _ _ left (IsInSpan-scaled Kr (List ℕ) _ (v x) q.0
               (IsInSpan-one Kr (List ℕ) _ q.0 (x, Contains-first x xs, q.1))) (fewer x xs left rest))
         ]
-      where
-        in_middle : (pre : List (List ℕ)) → Contains (pre ++ x ∷ xs) x
-        in_middle [] = Contains-first x xs
-        in_middle (b ∷ pre) = Contains-more b (pre ++ x ∷ xs) x (in_middle pre)
 
     -- a member of a degree below d is a sum of multiples of lower products of its degree
     pub represented : (f : List Term) → IsInIdeal ideal e f → IsInSpan Kr (List ℕ) (IsLowerAmong d e columns) (vectors.vector_of ideal.modulus fmr f)

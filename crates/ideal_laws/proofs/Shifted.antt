@@ -8,7 +8,7 @@ use Rattle.free_poly.proofs.Products.{IsRound, inside, outside, round, total_at-
 use Rattle.linear_algebra.specs.Fields.{Field}
 use Rattle.linear_algebra.specs.Spans.{sum_of, IsInSpan}
 use Rattle.linear_algebra.specs.Mod.{Residue}
-use Rattle.linear_algebra.proofs.Algebra.{zero_add, mul_zero}
+use Rattle.linear_algebra.proofs.Algebra.{mul_zero_add}
 use Rattle.linear_algebra.proofs.ModField.{same_residue}
 use Rattle.ideal_laws.proofs.Vectors as vectors
 
@@ -41,7 +41,7 @@ module _ (p : ℕ) (fm : IsFieldModulus p) (u v : List ℕ) where
     where
       at : (r : IsRound u v w) → entry_at w r (λ x. K.add (K.mul a (f x)) (g x)) ≡ K.add (K.mul a (entry_at w r f)) (entry_at w r g)
       at (inside x e) = refl
-      at (outside h) = sym (ap (λ (n : Residue p). K.add n K.zero) (mul_zero K a) ∙ zero_add K K.zero)
+      at (outside h) = sym (mul_zero_add K a K.zero)
 
   shifted-same : (f g : V) → ((x : List ℕ) → f x ≡ g x) → (w : List ℕ) → shifted f w ≡ shifted g w
   shifted-same f g e w = at (round u v w)

@@ -2,13 +2,13 @@
 use Rattle.std.proofs.Common.{◌≡◌, ◌⊎◌, ◌+◌, ◌-◌, ◌<◌, ◌≤◌, ℕ, zero, suc, List, [], ◌∷◌, ◌++◌, map, length, take, drop, refl, sym, ap, ◌∙◌, inl}
 use Rattle.std.proofs.Common.{inr, arith, AllPairs, subst, length-append}
 use Rattle.std.specs.List.{Contains, flat_map, range_with_len}
-use Rattle.std.proofs.Math.Seq.{drop-append_seam, take-append_seam}
 use Rattle.std.proofs.lemmas.Bool.{cases_lt}
 use Rattle.std.proofs.lemmas.List.{append_assoc, length-take, take-append-drop}
 use Rattle.std.proofs.lemmas.List.Elements.{All-append, All-cons, All-drop, All-map, All-nil, All-take, Contains-append_cases}
 use Rattle.words.specs.Words.{IsOver, degree_of, weight_of, words_of_degree}
 use Rattle.words.specs.Order.{IsLetterwiseGreater}
 use Rattle.words.proofs.Degrees.{Contains-range, listed_word, words_of_degree-falling}
+use Rattle.words.proofs.Factors.{factor_occurs}
 use Rattle.words.proofs.Members.{Contains-cases, Contains-flat_map, Contains-map, Contains-none}
 use Rattle.words.proofs.Weights.{weight_of-bounds}
 use Rattle.free_poly.specs.declared.term.Term.{Term}
@@ -98,9 +98,7 @@ module _ (ideal : Ideal) (st : IsSetting ideal) (d : ℕ) where
 
   stands : (w : List ℕ) (below : ℕ) (u : V) (k : Lower w u) → length k.left < below → StandsAt w below (length k.left, length k.lead)
   stands w below u k lt =
-      let here : take (length k.lead) (drop (length k.left) w) ≡ k.lead =
-      ap (λ (r : List ℕ). take (length k.lead) (drop (length k.left) r)) (k.word ∙ append_assoc k.left k.lead k.right)
-      ∙ ap (take (length k.lead)) (drop-append_seam k.left (k.lead ++ k.right)) ∙ take-append_seam k.lead k.right in
+      let here = (factor_occurs k.lead w (record { before = k.left; after = k.right; joined = k.word })).same in
       record {
         earlier = lt;
         minimal = subst (IsMinimal ideal) (sym here) (k.lower.reduced.minimal k.lead k.is_lead);
