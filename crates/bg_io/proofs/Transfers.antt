@@ -67,7 +67,7 @@ given_front given count bytes front tail same long =
     sym (take-append-drop count (drop given bytes)) ∙ ap (λ (l : List ℕ). take count (drop given bytes) ++ l) (drop-drop count given bytes)
     ∙ ap (λ (l : List ℕ). l ++ drop (given + count) bytes) (sym all)
 
--- where n bytes of a piece that can pass the limit by one alone pass it, with the text that was taken, one byte more than the limit is gone
+-- where a text and n bytes of a piece were taken, which pass the limit, and the whole piece would pass it by one, limit + 1 bytes are gone
 pub Loses-more : (a b c : Option (List ℕ)) (n limit : ℕ) (text piece : List ℕ) → Consumes a b text → Consumes b c (take n piece) →
     n ≤ length piece → length piece ≤ limit + 1 - length text → length text ≤ limit → limit < length text + n → Loses a c (limit + 1)
 Loses-more a b c n limit text piece p q fits short before above = record {

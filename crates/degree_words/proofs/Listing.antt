@@ -49,7 +49,7 @@ module _ (weights : List ℕ) (W : ℕ → List (List ℕ)) (k x : ℕ) where
   abbrev pub before_letter : ℕ → List (List ℕ)
   before_letter n = flat_map (with_letter weights W k) (range_with_len 0 n)
 
-  -- the words that the letters below x begin and those of the degree left, counted up to a most, are those that the letters up to x begin
+  -- up to a most, letters up to x begin as many words as letters below x begin and the degree left for x has, where its weight is at most k
   pub count_more : (most count entry : ℕ) → weight_of weights x ≤ k → count ≡ min (length (before_letter x)) most →
       entry ≡ min (length (W (k - weight_of weights x))) most
       → min (count + entry) most ≡ min (length (before_letter (x + 1))) most
@@ -65,7 +65,7 @@ module _ (weights : List ℕ) (W : ℕ → List (List ℕ)) (k x : ℕ) where
       c ∙ ap (λ (ws : List (List ℕ)). min (length ws) most) (sym (flat_map-range (with_letter weights W k) x
       ∙ ap (λ (ws : List (List ℕ)). before_letter x ++ ws) (with_letter-out lt) ∙ append-nil (before_letter x)))
 
-  -- the words that the letters below x begin, and x before each word of the degree left, are those that the letters up to x begin
+  -- where the weight of x is at most k, the words of letters below x, and x before each word of the degree left, are those of letters up to x
   pub list_more : (ws : List (List ℕ)) → weight_of weights x ≤ k → ws ≡ before_letter x →
       ws ++ map (λ w. x ∷ w) (W (k - weight_of weights x)) ≡ before_letter (x + 1)
   list_more ws le e = ap (λ (vs : List (List ℕ)). vs ++ map (λ w. x ∷ w) (W (k - weight_of weights x))) e
