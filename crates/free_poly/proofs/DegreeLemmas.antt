@@ -17,9 +17,11 @@ abbrev pub IsNextAnswer : List ℕ → List Term → ℕ → Option ℕ → Type
 IsNextAnswer weights f first answer = MatchOption answer (HasDegree weights first f) (IsNextDegree weights f first)
 
 module _ (weights : List ℕ) where
+  -- the greatest degree of no terms is 0
   pub IsGreatestDegree-none : IsGreatestDegree weights [] 0
   IsGreatestDegree-none = record { most = All-nil (λ t. degree_of weights t.word ≤ 0); some = inl (refl, refl) }
 
+  -- with one more term, the greatest degree is the greater of the old one and that of the term's word
   pub IsGreatestDegree-push : (f : List Term) (t : Term) (d : ℕ) → IsGreatestDegree weights f d →
       IsGreatestDegree weights (f ++ t ∷ []) (max d (degree_of weights t.word))
   IsGreatestDegree-push f t d h = record {
@@ -36,6 +38,7 @@ module _ (weights : List ℕ) where
   }
 
   module _ (first : ℕ) where
+    -- a further term of the first degree leaves the greatest other degree as it was, or leaves that there is none
     pub IsNextAnswer-same : (f : List Term) (t : Term) (answer : Option ℕ) → degree_of weights t.word ≡ first →
         IsNextAnswer weights f first answer → IsNextAnswer weights (f ++ t ∷ []) first answer
     IsNextAnswer-same f t None is h = All-push (λ s. degree_of weights s.word ≡ first) f t h is
@@ -49,6 +52,7 @@ module _ (weights : List ℕ) where
     more n other le m (inl e) = inl e
     more n other le m (inr b) = inr (omega (arith, le, b))
 
+    -- with a further term of another degree, the greatest other degree is the greater of that degree and the old one
     pub IsNextAnswer-other : (f : List Term) (t : Term) (answer : Option ℕ) → degree_of weights t.word ≢ first → IsNextAnswer weights f first answer
         → IsNextAnswer weights (f ++ t ∷ []) first (Some (max (degree_of weights t.word) (unwrap_or answer 0)))
     IsNextAnswer-other f t None other h =

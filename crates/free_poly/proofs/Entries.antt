@@ -40,6 +40,7 @@ pub record Unloads (all left : List Entry) (made : List Term) : Type 0 where
   pub above : All (λ t. All (λ e. letterwise_cmp e.0 t.word ≡ Less) left) made
   pub form : IsPolynomial made
 
+-- where a compares as less than b letter by letter, b is the greater word
 pub less_says : (a b : List ℕ) → letterwise_cmp a b ≡ Less → IsLetterwiseGreater b a
 less_says a b e = letterwise_total.antisymm b a ∙ ap ordering_reverse e
 
@@ -48,9 +49,11 @@ module _ {X : Type 0} where
   pub All-front : (P : X → Type 0) (xs : List X) (x : X) → All P (xs ++ x ∷ []) → All P xs
   All-front P xs x h k d within = subst P (get_or_append_left xs (x ∷ []) d k within) (h k d (omega (arith, within, length-append xs (x ∷ []))))
 
+  -- what holds of each entry of a list holds of its last
   pub All-last : (P : X → Type 0) (xs : List X) (x : X) → All P (xs ++ x ∷ []) → P x
   All-last P xs x h = subst P (get_or_push xs x x (length xs) refl) (h (length xs) x (omega (arith, length-append xs (x ∷ []))))
 
+  -- a relation between each entry and the later ones holds so in the list without its last entry
   pub AllPairs-front : (R : X → X → Type 0) (xs : List X) (x : X) → AllPairs R (xs ++ x ∷ []) → AllPairs R xs
   AllPairs-front R xs x h i j d below within =
       let inside : j < length (xs ++ x ∷ []) = omega (arith, within, length-append xs (x ∷ [])) in
@@ -58,6 +61,7 @@ module _ {X : Type 0} where
       subst (λ (y : X). R y (get_or xs j d)) (get_or_append_left xs (x ∷ []) d i first)
       (subst (R (get_or (xs ++ x ∷ []) i d)) (get_or_append_left xs (x ∷ []) d j within) (h i j d below inside))
 
+  -- where a relation holds between each entry and the later ones, each entry but the last stands in it to the last
   pub AllPairs-last : (R : X → X → Type 0) (xs : List X) (x : X) → AllPairs R (xs ++ x ∷ []) → All (λ y. R y x) xs
   AllPairs-last R xs x h k d within =
       subst (λ (y : X). R y x) (get_or_append_left xs (x ∷ []) d k within)
@@ -92,6 +96,7 @@ total_at-entries (e ∷ es) w h = elim (cases_Bool (bytes_eq e.0 w)) [
     gone k w es is h = All-map (λ t. t.word ≢ w) term_of es
         (λ i d within same. letterwise-apart _ k (less_says k _ (less_at k es h i d within)) (same ∙ sym is))
 
+-- where the words of the entries are strictly sorted letter by letter, each is less than all later ones
 pub Rises-sorted : (es : List Entry) → IsStrictlySortedBy letterwise_cmp (map (λ e. e.0) es) → Rises es
 Rises-sorted es h i j d below within =
     let at : (k : ℕ) → k < length es → get_or (map (λ (e : Entry). e.0) es) k d.0 ≡ (get_or es k d).0 =
@@ -100,6 +105,7 @@ Rises-sorted es h i j d below within =
     (subst (λ (y : List ℕ). letterwise_cmp y (get_or (map (λ (e : Entry). e.0) es) j d.0) ≡ Less) (at i (omega (arith, below, within)))
     (Less-from_sorted letterwise_cmp (map (λ e. e.0) es) i j d.0 h below (omega (arith, within, length-map {A = Entry} {B = List ℕ} es))))
 
+-- at first no term is made and all entries are left, whose words are strictly sorted
 pub Unloads-none : (es : List Entry) → IsStrictlySortedBy letterwise_cmp (map (λ e. e.0) es) → Unloads es es []
 Unloads-none es h = record {
   sum = λ w. zero-add (total_at (terms_of es) w);
@@ -145,5 +151,6 @@ Unloads-more all left x made other u = record {
   };
 }
 
+-- once no entry is left, the terms have the coefficient of the entries at each word
 pub Unloads-all : (all : List Entry) (made : List Term) → Unloads all [] made → (w : List ℕ) → total_at made w ≡ total_at (terms_of all) w
 Unloads-all all made u w = sym (add-zero (total_at made w)) ∙ u.sum w

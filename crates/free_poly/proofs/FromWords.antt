@@ -32,6 +32,7 @@ from_words-all P (x ∷ xs) c h =
       | inr some ↦ rw some (All-cons P _ _ (h x (Contains-first x xs) (zero_test (c x) some)) rest)
     ]
 
+-- the terms' words fall where the words of the list do
 pub from_words-falling : (xs : List (List ℕ)) (c : List ℕ → ℕ) → AllPairs IsLetterwiseGreater xs →
     AllPairs (λ s t. IsLetterwiseGreater s.word t.word) (from_words xs c)
 from_words-falling [] c h = AllPairs-nil (λ s t. IsLetterwiseGreater s.word t.word)
@@ -44,9 +45,11 @@ from_words-falling (x ∷ xs) c h =
           (AllPairs-first IsLetterwiseGreater x xs h) m)) rest)
     ]
 
+-- the terms are a polynomial where the words of the list fall
 pub from_words-polynomial : (xs : List (List ℕ)) (c : List ℕ → ℕ) → AllPairs IsLetterwiseGreater xs → IsPolynomial (from_words xs c)
 from_words-polynomial xs c h = record { falling = from_words-falling xs c h; nonzero = from_words-all (λ t. t.coefficient ≢ 0) xs c (λ x m ne. ne) }
 
+-- at a word outside the list the coefficient is 0
 pub from_words-absent : (xs : List (List ℕ)) (c : List ℕ → ℕ) (w : List ℕ) → (Contains xs w → ⊥) → total_at (from_words xs c) w ≡ 0
 from_words-absent xs c w h = total_at-absent (from_words xs c) w (from_words-all (λ t. t.word ≢ w) xs c (λ x m ne e. h (subst (Contains xs) e m)))
 

@@ -19,6 +19,7 @@ pub data IsCompared (a b : List ℕ) : Type 0 where
   same : a ≡ b → IsCompared a b
   smaller : IsLetterwiseGreater b a → IsCompared a b
 
+-- of any two words one is greater letter by letter, or they are equal
 pub compared : (a b : List ℕ) → IsCompared a b
 compared a b = by_answer (letterwise_cmp a b) refl
   where
@@ -27,12 +28,14 @@ compared a b = by_answer (letterwise_cmp a b) refl
     by_answer Equal e = same (letterwise-IsAntisymmetric a b e)
     by_answer Less e = smaller (letterwise_total.antisymm b a ∙ ap ordering_reverse e)
 
+-- without its first term a polynomial is one
 pub IsPolynomial-rest : (t : Term) (f : List Term) → IsPolynomial (t ∷ f) → IsPolynomial f
 IsPolynomial-rest t f h = record {
   falling = AllPairs-rest (λ s t. IsLetterwiseGreater s.word t.word) t f h.falling;
   nonzero = All-tail (λ (t : Term). t.coefficient ≢ 0) t f h.nonzero;
 }
 
+-- the order letter by letter is transitive
 pub letterwise-trans : (a b c : List ℕ) → IsLetterwiseGreater a b → IsLetterwiseGreater b c → IsLetterwiseGreater a c
 letterwise-trans a b c g h =
     let flip : (x y : List ℕ) → IsLetterwiseGreater x y → letterwise_cmp y x ≡ Less = λ x y i. letterwise_total.antisymm y x ∙ ap ordering_reverse i in
@@ -72,6 +75,7 @@ rest_same p t u f g hf hg e c w s = elim (compared t.word w) [
     apart : t.word ≢ w → total_at f w % p ≡ total_at g w % p
     apart ne = ap (λ (n : ℕ). n % p) (sym (skipped t f ne)) ∙ s ∙ ap (λ (n : ℕ). n % p) (skipped u g (λ is. ne (e ∙ is)))
 
+-- two polynomials with residues that have the same coefficients modulo p at all words are equal
 pub same_polynomials : (p : ℕ) (f g : List Term) → IsPolynomial f → IsPolynomial g → HasResidues p f → HasResidues p g → IsSame p f g → f ≡ g
 same_polynomials p [] [] hf hg rf rg s = refl
 same_polynomials p [] (t ∷ g) hf hg rf rg s =
