@@ -46,9 +46,13 @@ module _ (ideal : Ideal) (st : IsSetting ideal) (d : ℕ) (G : List (List Term))
 
   -- words of the degree, whose reducers are on them
   pub record AreClosedWords (xs : List (List ℕ)) : Type 0 where
+    -- greater words stand first
     pub falling : AllPairs IsLetterwiseGreater xs
+    -- each is in the letters of the ideal
     pub over : (x : List ℕ) → Contains xs x → IsOver (length ideal.weights) x
+    -- each has degree d
     pub degree : (x : List ℕ) → Contains xs x → degree_of ideal.weights x ≡ d
+    -- the reducer of each is 0 at all words that are not among them
     pub reducers_on : (x : List ℕ) (g : List Term) → Contains xs x → IsReducer G x g → IsOn xs (vec g)
 
   rest_closed : (x : List ℕ) (xs : List (List ℕ)) → AreClosedWords (x ∷ xs) → AreClosedWords xs
@@ -72,9 +76,13 @@ module _ (ideal : Ideal) (st : IsSetting ideal) (d : ℕ) (G : List (List Term))
 
   -- entries at the contested columns, and a sum of multiples of reducers
   pub record IsLeft (xs : List (List ℕ)) (rs : List (Option (List Term))) (v : V) : Type 0 where
+    -- an entry for each contested column
     pub entries : N
+    -- what is beside them
     pub rest : V
+    -- it is a sum of multiples of reducers
     pub spanned : IsInSpan K (List ℕ) (IsListedReducer rs) rest
+    -- v is the entries at the words of their columns, and the rest
     pub sum : (y : List ℕ) → v y ≡ K.add (spread ideal.modulus st.modulus (contested_words xs rs) entries y) (rest y)
 
   with_first : Residue ideal.modulus → N → N
@@ -166,6 +174,7 @@ module _ (ideal : Ideal) (st : IsSetting ideal) (d : ℕ) (G : List (List Term))
         ∙ add_left_comm K (K.mul (v x) (vec g y)) (spread ideal.modulus st.modulus (contested_words xs rs) r.entries y) (r.rest y);
   }
 
+  -- a vector that is 0 outside such columns is made of entries at the contested ones and a sum of multiples of the reducers of the others
   pub left_of : (xs : List (List ℕ)) (rs : List (Option (List Term))) → AllZip (HasReducer G) xs rs → AreClosedWords xs → (v : V) → IsOn xs v → IsLeft xs rs v
   left_of [] [] z h v on = record {
     entries = λ k. K.zero;

@@ -38,12 +38,14 @@ element_on-falling (x ∷ xs) (a ∷ row) h =
           (element_on-all (λ t. IsLetterwiseGreater x t.word) xs row (λ k lt within ne. AllPairs-first IsLetterwiseGreater x xs h k [] lt)) rest)
     ]
 
+-- the element is a polynomial where the words fall
 pub element_on-polynomial : (xs : List (List ℕ)) (row : List ℕ) → AllPairs IsLetterwiseGreater xs → IsPolynomial (element_on xs row)
 element_on-polynomial xs row h = record {
   falling = element_on-falling xs row h;
   nonzero = element_on-all (λ t. t.coefficient ≢ 0) xs row (λ k lt within ne. ne);
 }
 
+-- its coefficients are below p where the residues of the row are
 pub element_on-residues : (p : ℕ) (xs : List (List ℕ)) (row : List ℕ) → All (λ a. a < p) row → All (λ t. t.coefficient < p) (element_on xs row)
 element_on-residues p xs row h = element_on-all (λ t. t.coefficient < p) xs row (λ k lt within ne. h k 0 within)
 

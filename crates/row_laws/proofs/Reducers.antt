@@ -51,6 +51,7 @@ above_lead [] w y h e g = refl
 above_lead (t ∷ f) w y h e g = let is : t.word ≡ w = cc e in above_all y t f h (subst (IsLetterwiseGreater y) (sym is) g)
 
 module _ (ideal : Ideal) (st : IsSetting ideal) where
+  -- the leading word of a reduced element of degree n has degree n
   pub lead_degree : (n : ℕ) (f : List Term) (w : List ℕ) → IsReduced ideal n f → lead_of f ≡ Some w → degree_of ideal.weights w ≡ n
   lead_degree n [] w r e = cc e
   lead_degree n (t ∷ f) w r e = let is : t.word ≡ w = cc e in ap (degree_of ideal.weights) (sym is)
@@ -125,11 +126,14 @@ module _ (ideal : Ideal) (st : IsSetting ideal) where
             is = ap (vectors.vector_of ideal.modulus st.modulus) r.is;
           }
 
+      -- the reducer is in the ideal, in degree d
       pub reducer_inside : IsInIdeal ideal d f
       reducer_inside = subst (IsInIdeal ideal d) (sym r.is) (lower_inside ideal st d d w vector lower_product)
 
+      -- its coefficient at the word is 1
       pub reducer_there : vector w ≡ K.one
       reducer_there = lower_one ideal st d d w vector lower_product
 
+      -- its coefficient at each greater word is 0
       pub reducer_above : (y : List ℕ) → IsLetterwiseGreater y w → vector y ≡ K.zero
       reducer_above y g = lower_above ideal st d d w y vector lower_product g

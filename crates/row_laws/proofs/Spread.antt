@@ -37,6 +37,7 @@ module _ (p : ℕ) (fm : IsFieldModulus p) where
   spread [] u w = K.zero
   spread (x ∷ xs) u w = K.add (cond (bytes_eq x w) (u zero) K.zero) (spread xs (λ k. u (suc k)) w)
 
+  -- where all entries are 0, the vector over words is 0
   pub spread-zero : (xs : List (List ℕ)) (u : N) → ((k : ℕ) → u k ≡ K.zero) → (w : List ℕ) → spread xs u w ≡ K.zero
   spread-zero [] u h w = refl
   spread-zero (x ∷ xs) u h w = ap₂ K.add (by_test (bytes_eq x w)) (spread-zero xs (λ k. u (suc k)) (λ k. h (suc k)) w) ∙ K.add_zero K.zero
@@ -45,6 +46,7 @@ module _ (p : ℕ) (fm : IsFieldModulus p) where
       by_test true = h zero
       by_test false = refl
 
+  -- at a word of no column the vector over words is 0
   pub spread-absent : (xs : List (List ℕ)) (u : N) (w : List ℕ) → (Contains xs w → ⊥) → spread xs u w ≡ K.zero
   spread-absent [] u w h = refl
   spread-absent (x ∷ xs) u w h =
@@ -96,6 +98,7 @@ module _ (p : ℕ) (fm : IsFieldModulus p) where
   pub swapped : (a b c e : Residue p) → K.add (K.add a b) (K.add c e) ≡ K.add (K.add a c) (K.add b e)
   swapped a b c e = K.add_assoc a b (K.add c e) ∙ ap (K.add a) (add_left_comm K b c e) ∙ sym (K.add_assoc a c (K.add b e))
 
+  -- the vector over words of a * u + v is a times that of u, and that of v
   pub spread-linear : (xs : List (List ℕ)) (a : Residue p) (u v : N) (w : List ℕ) →
       spread xs (λ k. K.add (K.mul a (u k)) (v k)) w ≡ K.add (K.mul a (spread xs u w)) (spread xs v w)
   spread-linear [] a u v w = sym (ap (λ (n : Residue p). K.add n K.zero) (mul_zero K a) ∙ K.add_zero K.zero)
@@ -133,12 +136,14 @@ module _ (p : ℕ) (fm : IsFieldModulus p) where
   residues_of [] u = []
   residues_of (x ∷ xs) u = (u zero).0 ∷ residues_of xs (λ k. u (suc k))
 
+  -- the entries as numbers are a row of residues with one for each column
   pub residues_of-row : (xs : List (List ℕ)) (u : N) → IsRow p (length xs) (residues_of xs u)
   residues_of-row [] u = record { size = refl; residues = All-nil (λ a. a < p) }
   residues_of-row (x ∷ xs) u =
       let r = residues_of-row xs (λ k. u (suc k)) in
       record { size = ap suc r.size; residues = All-cons (λ a. a < p) (u zero).0 (residues_of xs (λ k. u (suc k))) (u zero).1 r.residues }
 
+  -- the entries as numbers have the same vector over words as the entries
   pub spread-residues : (xs : List (List ℕ)) (u : N) (w : List ℕ) → spread xs (vector p fm (residues_of xs u)) w ≡ spread xs u w
   spread-residues [] u w = refl
   spread-residues (x ∷ xs) u w =
