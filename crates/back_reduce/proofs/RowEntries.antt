@@ -6,13 +6,16 @@ use Rattle.back_reduce.specs.Entries.{entries_row, with_entries, AreEntries}
 use Rattle.back_reduce.specs.Listings.{entries_from, entries_of, entry_at}
 use Rattle.back_reduce.proofs.EntryRows.{entries_row-other, length-entries_row, with_entries_more}
 
+-- a residue 0 has no entry
 pub entry_at-zero : (k r : ℕ) → r ≡ 0 → entry_at k r ≡ []
 entry_at-zero k r none = ap (entry_at k) none
 
+-- a residue other than 0 has one entry, with its column and itself
 pub entry_at-other : (k r : ℕ) (e : Entry) → r ≢ 0 → e.column ≡ k → e.residue ≡ r → entry_at k r ≡ e ∷ []
 entry_at-other k zero e other column residue = absurd (other refl)
 entry_at-other k (suc r) e other column residue = ap₂ (λ (c s : ℕ). record { column = c; residue = s } ∷ []) (sym column) (sym residue)
 
+-- the entries of a list that follows another stand behind those of the other, at columns counted on from its end
 pub entries_from-append : (k : ℕ) (xs ys : List ℕ) → entries_from k (xs ++ ys) ≡ entries_from k xs ++ entries_from (k + length xs) ys
 entries_from-append k [] ys = ap (λ (n : ℕ). entries_from n ys) (omega arith)
 entries_from-append k (x ∷ xs) ys = ap (λ (l : List Entry). entry_at k x ++ l) (entries_from-append (suc k) xs ys
@@ -36,6 +39,7 @@ entries_from-set k (x ∷ xs) (suc c) r within none =
     ∙ ap (λ (n : ℕ). entries_from (suc k) xs ++ entry_at n r) (omega arith))
     ∙ sym (append_assoc (entry_at k x) (entries_from (suc k) xs) (entry_at (k + suc c) r))
 
+-- the row of zeros has no entries
 pub entries_of-zeros : (m : ℕ) → entries_of (replicate m 0) ≡ []
 entries_of-zeros m = entries_from-zeros 0 (replicate m 0) (λ j. entries_row-other m [] [] j (λ i within. absurd (omega (arith, within))))
 

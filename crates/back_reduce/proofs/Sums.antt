@@ -21,6 +21,7 @@ module _ (p : ℕ) (modulus : IsFieldModulus p) where
       sym (Kp.add_assoc n r (Kp.mul (Kp.neg Kp.one) r) ∙ ap (λ (s : Kp.F). Kp.add n (Kp.add r s)) back ∙ ap (Kp.add n) (Kp.add_neg r) ∙ Kp.add_zero n)
 
   module _ (P : Vp → Type 0) where
+    -- a row is itself and an empty sum of multiples
     pub plus_nothing : (row now : List ℕ) → now ≡ row → IsPlusSum p modulus P row now
     plus_nothing row now e = record {
       rest = λ c. Kp.zero;
