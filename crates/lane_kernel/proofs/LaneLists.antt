@@ -23,6 +23,7 @@ less_lane p r small lt = elim (cases_lt r p) [
       ap (λ (b : Bool). cond (top 31 (cond b (2 ^ 32 - 1) 0)) r ((r + (2 ^ 32 - p)) % 2 ^ 32)) test ∙ wrapped ∙ cond_above r p r (r - p) (r - p) above refl)
 ]
 
+-- the lane where taking p off wraps, and else what is left, is the lane less p where it is not below p
 pub less_lanes : (p n : ℕ) (v : List ℕ) → p < 2 ^ 32 → length v ≡ n → Each1 (Fits w32) v
     → sel_l (map (top 31) (zip2 (λ a b. cond (ltb a b) (2 ^ 32 - 1) 0) v (zip2 (λ a b. (a + (2 ^ 32 - b)) % 2 ^ 32) v (replicate n p)))) v
     (zip2 (λ a b. (a + (2 ^ 32 - b)) % 2 ^ 32) v (replicate n p))
@@ -63,6 +64,7 @@ rest_lane w b p a s wide room a_lt s_lt =
     ap (λ (n : ℕ). (n + (w - ((q * s) % w / b * p) % w)) % w) (mod-eq_of_lt multiple) ∙ ap (λ (n : ℕ). (a * s + (w - n)) % w) taken
     ∙ ap (λ (n : ℕ). n % w) (sym back) ∙ mul-add-mod_self_left w 1 (a * s - t * p) ∙ mod-eq_of_lt (omega (arith, multiple))
 
+-- no lane wraps in a * s - q * s / b * p for residues a and s, where q is a * b / p, b a power of 2 from p on, and b * b fits the lane
 pub rest_lanes : (w b p a q n k : ℕ) (xs : List ℕ) → p ≤ b → b * b ≤ w → a < p → q ≡ a * b / p → length xs ≡ n → Each1 (λ s. s < p) xs → 2 ^ k ≡ b
     → zip2 (λ c d. (c + (w - d)) % w) (zip2 (λ c d. (c * d) % w) (replicate n a) xs)
     (zip2 (λ c d. (c * d) % w) (zip2 (λ c d. c / 2 ^ d) (zip2 (λ c d. (c * d) % w) (replicate n q) xs) (replicate n k)) (replicate n p))

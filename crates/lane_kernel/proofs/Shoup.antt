@@ -15,6 +15,7 @@ cancelled b m n pos le = elim (cases_lt n m) [
   | inr less ↦ less
 ]
 
+-- with q the quotient of a * b by p, and t that of q * s by b, a * s less t times p is from 0 to 2p, for each s below b
 pub near_quotient : (b p a s : ℕ) → 0 < p → s < b → IsNear p a s (a * b / p * s / b)
 near_quotient b p a s pos lt =
     let q = a * b / p in
