@@ -87,6 +87,7 @@ module _ (ideal : Ideal) (st : IsSetting ideal) (d : ℕ) (lists : List (List (L
   }
 
   module _ (G : List (List Term)) (lower : AreLower ideal d G) where
+    -- the elements of those rows of the echelon form that have a normal leading word are the reduced basis of the degree
     pub basis_from_elements : (elements : List (List Term)) → AreElements ws G echelon elements → IsReducedBasis ideal d elements
     basis_from_elements elements are = record {
       exactly = λ f. (

@@ -73,6 +73,7 @@ module _ (ideal : Ideal) (st : IsSetting ideal) (d : ℕ) (lists : List (List (L
   in_degree : (k : ℕ) (w : List ℕ) → IsOver (length ideal.weights) w → degree_of ideal.weights w ≡ k → Contains (words_of_degree ideal.weights k) w
   in_degree k w over e = subst (λ (n : ℕ). Contains (words_of_degree ideal.weights n) w) e (listed_word ideal.weights st.are_weights w over)
 
+  -- a word in the letters of the ideal that has degree d is a column
   pub in_columns : (w : List ℕ) → IsOver (length ideal.weights) w → degree_of ideal.weights w ≡ d → Contains ws w
   in_columns = in_degree d
 
@@ -194,8 +195,11 @@ module _ (ideal : Ideal) (st : IsSetting ideal) (d : ℕ) (lists : List (List (L
 
   -- a vector and a sum of multiples of rows that gives it
   pub record IsCombined (v : Vd) : Type 0 where
+    -- an entry for each column
     pub entries : N
+    -- the entries are a sum of multiples of the rows of products
     pub inside : IsInRowSpan ideal.modulus st.modulus all_rows entries
+    -- v is the entries at the words of their columns
     pub same : (w : List ℕ) → v w ≡ onto entries w
 
   parts_combined : (cs : List (Kd.F × Vd)) → All (λ c. IsProductV c.1) cs → IsCombined (sum_of Kd (List ℕ) cs)

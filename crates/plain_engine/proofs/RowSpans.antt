@@ -44,6 +44,7 @@ module _ (p : ℕ) (modulus : IsFieldModulus p) where
   ])
 
 module _ (p : ℕ) where
+  -- a list of rows has one span with itself
   pub one_span-same : (rows : List (List ℕ)) → HaveOneSpan p rows rows
   one_span-same rows = record { same = λ modulus v. ((λ s. s), (λ s. s)) }
 
@@ -51,6 +52,7 @@ module _ (p : ℕ) where
   pub one_span-none : (rows : List (List ℕ)) → HaveOneSpan p (rows ++ []) rows
   one_span-none rows = subst (λ (xs : List (List ℕ)). HaveOneSpan p xs rows) (sym (append-nil rows)) (one_span-same rows)
 
+  -- two lists of rows that each have one span with a third have one span
   pub one_span-trans : (rows others last : List (List ℕ)) → HaveOneSpan p rows others → HaveOneSpan p others last → HaveOneSpan p rows last
   one_span-trans rows others last h k = record {
     same = λ modulus v. ((λ s. (k.same modulus v).0 ((h.same modulus v).0 s)), (λ s. (h.same modulus v).1 ((k.same modulus v).1 s)));
