@@ -23,7 +23,7 @@ less_lane p r small lt = elim (cases_lt r p) [
       ap (λ (b : Bool). cond (top 31 (cond b (2 ^ 32 - 1) 0)) r ((r + (2 ^ 32 - p)) % 2 ^ 32)) test ∙ wrapped ∙ cond_above r p r (r - p) (r - p) above refl)
 ]
 
--- the lane where taking p off wraps, and else what is left, is the lane less p where it is not below p
+-- to keep each lane where taking p off wraps, and what is left in the others, takes p off the lanes that are not below p
 pub less_lanes : (p n : ℕ) (v : List ℕ) → p < 2 ^ 32 → length v ≡ n → Each1 (Fits w32) v
     → sel_l (map (top 31) (zip2 (λ a b. cond (ltb a b) (2 ^ 32 - 1) 0) v (zip2 (λ a b. (a + (2 ^ 32 - b)) % 2 ^ 32) v (replicate n p)))) v
     (zip2 (λ a b. (a + (2 ^ 32 - b)) % 2 ^ 32) v (replicate n p))
