@@ -167,7 +167,7 @@ module _ (p m : ℕ) where
       length_all_zip_of (x ∷ xs) [] h = absurd h
       length_all_zip_of (x ∷ xs) (y ∷ ys) h = ap suc (length_all_zip_of xs ys h.1)
 
--- what the rows of a problem's leaders are reduced to
+-- what all leaders of a problem's rows are reduced to is the reduced row echelon form of these rows
 pub problem_rref : {C E : Type 0} (problem : Problem) (p : ℕ) (shown leaders : List Leader) (result : Result C E) (items : C → List (List ℕ))
     → problem.modulus ≡ p → shown ≡ leaders → AreLeadersOf problem leaders
     → IfOk result (λ c. AllZip (IsReducedTo p shown) shown (items c)) → IfOk result (λ c. IsRref problem.modulus problem.m (rows_of problem) (items c))

@@ -20,7 +20,7 @@ length-with_entries row (c ∷ columns) (r ∷ residues) = length-with_entries (
 pub length-entries_row : (m : ℕ) (columns residues : List ℕ) → length (entries_row m columns residues) ≡ m
 length-entries_row m columns residues = length-with_entries (replicate m 0) columns residues ∙ length-replicate {A = ℕ} m 0
 
--- one more residue
+-- to put in one more residue behind the others is to set it last
 pub with_entries_push : (row columns residues : List ℕ) (c r : ℕ) → length residues ≡ length columns →
     with_entries row (columns ++ c ∷ []) (residues ++ r ∷ []) ≡ set (with_entries row columns residues) c r
 with_entries_push row [] [] c r l = refl
@@ -35,7 +35,7 @@ length-take_same [] (y ∷ ys) (suc k) l = absurd (omega (arith, l))
 length-take_same (x ∷ xs) [] (suc k) l = absurd (omega (arith, l))
 length-take_same (x ∷ xs) (y ∷ ys) (suc k) l = ap suc (length-take_same xs ys k (omega (arith, l)))
 
--- the first residues and one more
+-- to put in the first k + 1 residues is to put in the first k and to set the next
 pub with_entries_more : (row columns residues : List ℕ) (k : ℕ) → length residues ≡ length columns → k < length columns →
     with_entries row (take (k + 1) columns) (take (k + 1) residues)
     ≡ set (with_entries row (take k columns) (take k residues)) (get_or columns k 0) (get_or residues k 0)
@@ -106,7 +106,7 @@ entries_row-at m columns residues i h within =
     with_entries-at (replicate m 0) columns residues i h.same h.rising
     (λ k d inside. omega (arith, h.below k d inside, length-replicate {A = ℕ} m 0)) within
 
--- the residues of a row that is made of residues
+-- listed residues are below p where those of the row that is told by them are
 pub entries-residues : (p m : ℕ) (columns residues : List ℕ) → AreEntries m columns residues → All (λ r. r < p) (entries_row m columns residues)
     → All (λ r. r < p) residues
 entries-residues p m columns residues h all i d within =
@@ -130,7 +130,7 @@ pub map-entries_row : (f : ℕ → ℕ) (m : ℕ) (columns residues : List ℕ) 
 map-entries_row f m columns residues none = map-with_entries f (replicate m 0) columns residues
     ∙ ap (λ (x : List ℕ). with_entries x columns (map f residues)) (map-zeros f m none)
 
--- how long a row is of which residues are listed
+-- a row that is held by listed residues has the width of the list as its length
 pub listed_width : (held : Form) (listed : Listed) (row : List ℕ) → row_in held ≡ row → held ≡ form.Listed listed → length row ≡ listed.width
 listed_width held listed row view is =
     ap length (sym view ∙ ap row_in is) ∙ length-entries_row listed.width listed.columns.items listed.residues.items

@@ -122,7 +122,7 @@ held_kept : (n : ℕ) (x : Option ℕ) → is_some x ≡ false → where_held x 
 held_kept n None e = refl
 held_kept n (Some r) e = cc e
 
--- what is listed of the columns below a bound, with one more column
+-- what is listed of the columns below a bound grows by one where the next column is held
 pub listed_more : {A X : Type 0} (holder : ℕ → Option ℕ) (f : ℕ → A) (g : X → A) (n : ℕ) (zs ys xs : List X) (x : X) (found : Option ℕ) →
     zs ≡ ys → ys ≡ xs ++ x ∷ [] → found ≡ holder n → is_some found ≡ true → g x ≡ f n
     → map g xs ≡ map f (held_columns n holder) → map g zs ≡ map f (held_columns (n + 1) holder)
@@ -139,7 +139,7 @@ listed_same holder f g n ys xs found kept is not e =
     ap (map g) kept ∙ e ∙ sym (ap (map f) (held_more holder n ∙ ap (λ (l : List ℕ). held_columns n holder ++ l)
     (held_kept n (holder n) (ap is_some (sym is) ∙ not)) ∙ append-nil (held_columns n holder)))
 
--- one more value of a function on the numbers below a bound
+-- the values of a function below a bound grow by the value at the bound
 pub values_more : (f : ℕ → ℕ) (n v : ℕ) (ys xs : List ℕ) → ys ≡ xs ++ v ∷ [] → xs ≡ map f (range_with_len 0 n) → v ≡ f n → ys ≡ map f (range_with_len 0 (n + 1))
 values_more f n v ys xs grown is own =
     grown ∙ ap (λ (l : List ℕ). l ++ v ∷ []) is ∙ ap (λ (a : ℕ). map f (range_with_len 0 n) ++ a ∷ []) own ∙ sym (map-range_with_len_more f 0 n n (omega arith))

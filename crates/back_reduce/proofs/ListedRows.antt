@@ -12,7 +12,7 @@ use Rattle.back_reduce.specs.Entries.{entries_row, with_entries, AreEntries, IsL
 use Rattle.back_reduce.proofs.EntryRows.{entries_row-at, entries_row-other, entries_row_zero, length-entries_row, with_entries_more, with_entries_push}
 use Rattle.back_reduce.proofs.Vectors.{length-plus_multiple}
 
--- where the first residue other than 0 is listed, the row leads
+-- where the first residue other than 0 is listed, the row leads at its column
 pub lead_listed : (m : ℕ) (columns residues : List ℕ) (i : ℕ) → AreEntries m columns residues → i < length columns → get_or residues i 0 ≢ 0 →
     ((j : ℕ) → j < i → get_or residues j 0 ≡ 0) → IsLead (entries_row m columns residues) (get_or columns i 0)
 lead_listed m columns residues i h within other zeros = record {
@@ -98,7 +98,7 @@ pub listed_all : (row : List ℕ) (columns residues : List ℕ) → IsListedUpto
 listed_all row columns residues h = ext_get_or 0 (entries_row (length row) columns residues) row (length-entries_row (length row) columns residues)
     (λ i within. h.done i (omega (arith, within, length-entries_row (length row) columns residues)))
 
--- a multiple of a row with one more residue, where it was 0
+-- a multiple of a row with a residue set where it was 0 is the multiple of the row with a times the residue added there
 pub plus_multiple-set : (p a : ℕ) (y x : List ℕ) (c r : ℕ) → length y ≡ length x → c < length y → get_or x c 0 ≡ 0 → get_or y c 0 < p →
     plus_multiple p a y (set x c r) ≡ set (plus_multiple p a y x) c ((get_or (plus_multiple p a y x) c 0 + a * r) % p)
 plus_multiple-set p a [] x c r l within none lt = absurd (omega (arith, within))
@@ -129,7 +129,7 @@ module _ (p a m i : ℕ) (into first columns residues : List ℕ) where
       (plus_multiple-residues p a first part pos (size ∙ sym (length-entries_row m (take i columns) (take i residues))) k d
       (omega (arith, within, length-plus_multiple p a first part)))
 
-  -- one more of its residues
+  -- a multiple of the part with one more of its residues is that of the part with a times this residue added at its column
   pub plus_multiple-part : AreEntries m columns residues → i < length columns → length first ≡ m → All (λ r. r < p) first →
       into ≡ plus_multiple p a first part →
       set into (get_or columns i 0) ((get_or into (get_or columns i 0) 0 + a * get_or residues i 0) % p)

@@ -43,7 +43,7 @@ entries_from-set k (x ∷ xs) (suc c) r within none =
 pub entries_of-zeros : (m : ℕ) → entries_of (replicate m 0) ≡ []
 entries_of-zeros m = entries_from-zeros 0 (replicate m 0) (λ j. entries_row-other m [] [] j (λ i within. absurd (omega (arith, within))))
 
--- the entries of a row of which one residue more is listed
+-- one more listed residue of a row adds its entry behind the others, if it is not 0
 pub entries_of-more : (m : ℕ) (columns residues : List ℕ) (i : ℕ) → AreEntries m columns residues → i < length columns →
     entries_of (with_entries (replicate m 0) (take (i + 1) columns) (take (i + 1) residues))
     ≡ entries_of (with_entries (replicate m 0) (take i columns) (take i residues)) ++ entry_at (get_or columns i 0) (get_or residues i 0)
@@ -58,7 +58,7 @@ entries_of-more m columns residues i h within =
     omega (arith, is, from, h.rising k i 0 (omega (arith, inside, short)) within, get_or-take i columns k 0 (omega (arith, inside, short)))))
     ∙ ap (λ (n : ℕ). entries_of part ++ entry_at n (get_or residues i 0)) (omega arith)
 
--- the entries of one column more
+-- one more column of a row adds its entry behind the others, if it is not 0
 pub entries_of-take_more : (row : List ℕ) (at : ℕ) → at < length row →
     entries_of (take (at + 1) row) ≡ entries_of (take at row) ++ entry_at at (get_or row at 0)
 entries_of-take_more row at within =

@@ -115,7 +115,7 @@ module _ (p : ℕ) (modulus : IsFieldModulus p) where
       from_held a zero v h = absurd h
       from_held a (suc n) v h = mutual_step a n (holder a) v refl (from_held (a + 1) n v) h
 
-  -- the rows of a problem one by one
+  -- the vector of each row of a problem, by its number, is one of those of its rows
   pub problem_row : (problem : Problem) (k : ℕ) → k < problem.n → OneOf (rows_of problem) (vec p modulus (row_of problem.rows.items k))
   problem_row problem k lt = subst (λ (rows : List (List ℕ)). OneOf rows (vec p modulus (row_of problem.rows.items k))) (sym (rows_by_number problem))
       (one_of_range (row_of problem.rows.items) 0 problem.n k (omega arith) (omega arith))
@@ -127,7 +127,7 @@ module _ (p : ℕ) (modulus : IsFieldModulus p) where
       let one = subst (λ (rows : List (List ℕ)). OneOf rows v) (rows_by_number problem) h in
       let r = range_one_of (row_of problem.rows.items) 0 problem.n v one in (r.0, omega (arith, r.2), r.3)
 
-  -- the held rows one by one
+  -- the vector of the row of each held column is one of those of the held rows
   pub one_held : (m : ℕ) (holder : ℕ → Option ℕ) (value : ℕ → ℕ → ℕ) (c r : ℕ) → c < m → holder c ≡ Some r →
       OneOf (held_rows m holder value) (vec p modulus (held_row m value c))
   one_held m holder value c r lt e = held_from (held_row m value) holder 0 m c r (omega arith) (omega arith) e

@@ -29,7 +29,7 @@ module _ (p : ℕ) (modulus : IsFieldModulus p) where
       sum = λ c. ap (λ (r : List ℕ). vec p modulus r c) e ∙ sym (Kp.add_zero (vec p modulus row c));
     }
 
-    -- one more multiple
+    -- a row and a sum of multiples stays one where a multiple of a vector of the span is added
     pub plus_more : (a : ℕ) (row now next pivot : List ℕ) → length now ≡ length pivot → next ≡ plus_multiple p a now pivot →
         IsInSpan Kp ℕ P (vec p modulus pivot)
         → IsPlusSum p modulus P row now → IsPlusSum p modulus P row next

@@ -168,7 +168,7 @@ module _ (p : ℕ) (modulus : IsFieldModulus p) where
             (IsInSpan-scaled Kt ℕ (IsHeldVector p modulus put) d (vec p modulus own.row) (own_rows put c own (put_there table c own within))));
       })
 
--- what is left of a row, made monic, in the table
+-- a table with what is left of a row, made monic, at the column where it leads freely is a table, and has the row inserted
 pub placed_from : (p holder at a : ℕ) (table : List (Option Held)) (items left : List ℕ) (own : Held) → IsTable p (length items) table →
     length left ≡ length items → IsPlusHeld p table items left → IsFirstFree table left at
     → a < p → product_of p a (get_or left at 0) ≡ 1 → own.holder ≡ holder → own.row ≡ map (λ r. product_of p a r) left
@@ -180,7 +180,7 @@ placed_from p holder at a table items left own h l sum first lt one own_holder o
       placed left at a own sum (omega (arith, below, h.size)) first.free lt one own_holder own_row refl,
     )
 
--- a row that leads at a column where no row of the table does, made monic, in the table
+-- a table with a row, made monic, at its leading column, where none led, is a table, and has the row inserted
 pub placed_first : (p holder at a : ℕ) (table : List (Option Held)) (row : List ℕ) (own : Held) → IsTable p (length row) table →
     IsLead row at → held_at table at ≡ None → a < p → product_of p a (get_or row at 0) ≡ 1 → own.holder ≡ holder →
     own.row ≡ map (λ r. product_of p a r) row
