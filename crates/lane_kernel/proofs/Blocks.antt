@@ -25,7 +25,7 @@ rest_chunk p a at y x now h done room = Each1-from_get_or (λ r. r < p) (chunk a
     let low : i < 8 = omega (arith, within, length-chunk at 8 now (omega (arith, room, done.size))) in
     subst (λ (n : ℕ). n < p) (sym (get_or-chunk at 8 now i 0 low ∙ done.others (at + i) (omega arith))) (h (at + i) 0 (omega (arith, low, room)))))
 
--- one more block
+-- where the multiple is added up to a place, the eight sums with it that are written from there on add it up to the place behind them
 pub block_added : (p a at next : ℕ) (y x now v : List ℕ) → length y ≡ length x → IsAddedUpto p a y x at now → at + 8 ≤ length y → next ≡ at + 8
     → v ≡ zip2 (λ r s. (r + s) % p) (chunk at 8 now) (map (λ s. (a * s) % p) (chunk at 8 x)) → IsAddedUpto p a y x next (put_chunk at now v)
 block_added p a at next y x now v l done room is sum =

@@ -32,7 +32,7 @@ less_lanes p n [] small l each = refl
 less_lanes p zero (r ∷ v) small l each = absurd (omega (arith, l))
 less_lanes p (suc n) (r ∷ v) small l each = λ i. less_lane p r small each.0.fits i ∷ less_lanes p n v small (omega (arith, l)) each.1 i
 
--- the sums of residues, lane by lane
+-- the sums of residues, each less p where it is not below p, are the sums modulo p, lane by lane
 pub sum_lanes : (p : ℕ) (f s : List ℕ) → p < 2 ^ 31 → Each1 (λ r. r < p) f → Each1 (λ r. r < p) s →
     map (λ r. cond (ltb r p) r (r - p)) (zip2 (λ a b. (a + b) % 2 ^ 32) f s) ≡ zip2 (λ a b. (a + b) % p) f s
 sum_lanes p [] s small h k = refl
@@ -79,7 +79,7 @@ rest_lanes w b p a q (suc n) k (s ∷ xs) wide room a_lt is l each e =
     ∙ ap (λ (i : ℕ). a * s - i * s / b * p) (sym is) in
     λ i. own i ∷ rest_lanes w b p a q n k xs wide room a_lt is (omega (arith, l)) each.1 e i
 
--- the remainders of the multiples
+-- what is left of the multiples, each less p where it is not below p, are their remainders by p
 pub remainder_lanes : (b p a q : ℕ) (xs : List ℕ) → p ≤ b → a < p → q ≡ a * b / p → Each1 (λ s. s < p) xs →
     map (λ r. cond (ltb r p) r (r - p)) (map (λ s. a * s - q * s / b * p) xs) ≡ map (λ s. (a * s) % p) xs
 remainder_lanes b p a q [] wide a_lt is each = refl
@@ -101,7 +101,7 @@ rest_small b p a q (s ∷ xs) wide a_lt is each =
     let own : a * s - a * b / p * s / b * p < 2 * p = omega (arith, near.below, near.near) in
     (subst (λ (i : ℕ). a * s - i * s / b * p < 2 * p) (sym is) own, rest_small b p a q xs wide a_lt is each.1)
 
--- the negatives of residues, lane by lane
+-- p less each residue, less p where it is not below p, is p - 1 times the residue modulo p
 pub negative_lanes : (p n : ℕ) (xs : List ℕ) → p < 2 ^ 31 → length xs ≡ n → Each1 (λ s. s < p) xs →
     map (λ r. cond (ltb r p) r (r - p)) (zip2 (λ a b. (a + (2 ^ 32 - b)) % 2 ^ 32) (replicate n p) xs) ≡ map (λ s. ((p - 1) * s) % p) xs
 negative_lanes p zero [] small l each = refl
