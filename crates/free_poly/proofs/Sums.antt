@@ -41,11 +41,11 @@ words_of_same p P f g form residues same h k d within = word_from_same p P f g _
 pub IsSame-back : (p : ℕ) (f g : List Term) → IsSame p f g → IsSame p g f
 IsSame-back p f g same w = sym (same w)
 
--- the totals modulo p are the same element
+-- a sum whose coefficients are those of another modulo p is the same element
 pub IsSame-from_totals : (p : ℕ) (f g : List Term) → ((w : List ℕ) → total_at f w ≡ total_at g w % p) → IsSame p f g
 IsSame-from_totals p f g totals w = ap (λ (n : ℕ). n % p) (totals w) ∙ mod-mod (total_at g w) p
 
--- the polynomial whose totals are those of the sum modulo p
+-- a polynomial whose coefficients are those of a sum with residues, modulo p, has residues
 pub HasResidues-from_totals : (p : ℕ) (f g : List Term) → IsPolynomial f → ((w : List ℕ) → total_at f w ≡ total_at g w % p) → HasResidues p g → HasResidues p f
 HasResidues-from_totals p f g form totals residues k d within =
     let own : total_at f (get_or f k d).word ≡ (get_or f k d).coefficient = total_at-found f k d _ (AreApart-from_polynomial f form) within refl in
