@@ -41,7 +41,7 @@ module _ (K : Field) where
   pub back_less : (s r : K.F) → K.add (K.add s r) (K.mul (K.neg K.one) r) ≡ s
   back_less s r = ap (K.add (K.add s r)) (minus r) ∙ K.add_assoc s r (K.neg r) ∙ ap (K.add s) (K.add_neg r) ∙ K.add_zero s
 
--- the vector of f - h
+-- the vector of f - h is that of f less that of h
 pub vector_of-less : (p : ℕ) (fm : IsFieldModulus p) (f h : List Term) (y : List ℕ)
     → vectors.vector_of p fm (f ++ scaled (p - 1) h) y ≡ (vectors.K p fm).add (vectors.vector_of p fm f y)
     ((vectors.K p fm).mul ((vectors.K p fm).neg (vectors.K p fm).one) (vectors.vector_of p fm h y))

@@ -13,7 +13,7 @@ use Rattle.back_reduce.specs.Rref.{IsRref}
 use Rattle.row_laws.proofs.Forms.{first_led, lead_in_columns, leads_ordered, row_before, row_one, row_zero}
 
 module _ {X Y : Type 0} (f : X → Y) where
-  -- rows and their leading columns one by one
+  -- of as many leading columns as rows, each row's image has one beside it
   pub with_lead : (ls : List ℕ) (rs : List X) → length ls ≡ length rs → (r : X) → Contains rs r → (l : ℕ) × Contains (zip ls (map f rs)) (l, f r)
   with_lead [] [] e r m = absurd (Contains-none r m)
   with_lead [] (s ∷ rs) e r m = absurd (omega (arith, e))
