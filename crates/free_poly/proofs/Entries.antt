@@ -19,7 +19,7 @@ use Rattle.words.proofs.Members.{AllPairs-nil}
 use Rattle.free_poly.specs.declared.term.Term.{Term}
 use Rattle.free_poly.specs.Terms.{total_at}
 use Rattle.free_poly.specs.Poly.{IsPolynomial}
-use Rattle.free_poly.proofs.Totals.{here, letterwise-apart, not_here, total_at-absent, total_at-append}
+use Rattle.free_poly.proofs.Totals.{here, letterwise-apart, not_equal, not_here, total_at-absent, total_at-append}
 
 abbrev pub Entry : Type 0
 Entry = List ℕ × ℕ
@@ -45,7 +45,7 @@ pub less_says : (a b : List ℕ) → letterwise_cmp a b ≡ Less → IsLetterwis
 less_says a b e = letterwise_total.antisymm b a ∙ ap ordering_reverse e
 
 module _ {X : Type 0} where
-  -- all but the last
+  -- what holds of each entry of a list holds of each in the list without its last entry
   pub All-front : (P : X → Type 0) (xs : List X) (x : X) → All P (xs ++ x ∷ []) → All P xs
   All-front P xs x h k d within = subst P (get_or_append_left xs (x ∷ []) d k within) (h k d (omega (arith, within, length-append xs (x ∷ []))))
 
@@ -67,7 +67,7 @@ module _ {X : Type 0} where
       subst (λ (y : X). R y x) (get_or_append_left xs (x ∷ []) d k within)
       (subst (R (get_or (xs ++ x ∷ []) k d)) (get_or_push xs x d (length xs) refl) (h k (length xs) d within (omega (arith, length-append xs (x ∷ [])))))
 
--- what the map has at a word
+-- where the entries' words are strictly sorted, the terms have at a word what the map has there, and else 0
 pub total_at-entries : (es : List Entry) (w : List ℕ) → IsStrictlySortedBy letterwise_cmp (map (λ e. e.0) es) →
     total_at (terms_of es) w ≡ unwrap_or (lookup (is_at (letterwise_cmp w)) es) 0
 total_at-entries [] w h = refl
@@ -79,13 +79,10 @@ total_at-entries (e ∷ es) w h = elim (cases_Bool (bytes_eq e.0 w)) [
       let none : total_at (terms_of es) w ≡ 0 = total_at-absent (terms_of es) w (gone e.0 w es ((bytes_eq-Decides e.0 w).0 is) later) in
       rw (is, found, none) (add-zero e.1)
   | inr other ↦
-      let missed : is_at (letterwise_cmp w) e.0 ≡ false = sym (letterwise_ties w e.0) ∙ not_here w e.0 (λ s. apart e.0 w other (sym s)) in
+      let missed : is_at (letterwise_cmp w) e.0 ≡ false = sym (letterwise_ties w e.0) ∙ not_here w e.0 (λ s. not_equal e.0 w other (sym s)) in
       rw (other, missed, zero-add) (total_at-entries es w (sorted_tail letterwise_cmp e.0 (map (λ f. f.0) es) h))
 ]
   where
-    apart : (a b : List ℕ) → bytes_eq a b ≡ false → a ≢ b
-    apart a b f e = let t : bytes_eq a b ≡ true = here a b e in cc
-
     less_at : (k : List ℕ) (es : List Entry) → All (λ y. letterwise_cmp k y ≡ Less) (map (λ (f : Entry). f.0) es) → All (λ e. letterwise_cmp k e.0 ≡ Less) es
     less_at k [] h = All-nil (λ (e : Entry). letterwise_cmp k e.0 ≡ Less)
     less_at k (e ∷ es) h = All-cons (λ (e : Entry). letterwise_cmp k e.0 ≡ Less) e es
@@ -126,7 +123,7 @@ none_of : (b : Bool) (c : ℕ) → c ≡ 0 → cond b c 0 + 0 ≡ 0
 none_of true c e = rw e refl
 none_of false c e = refl
 
--- an entry of 0 is left out
+-- a last entry of 0 is taken without making a term
 pub Unloads-zero : (all left : List Entry) (x : Entry) (made : List Term) → x.1 ≡ 0 → Unloads all (left ++ x ∷ []) made → Unloads all left made
 Unloads-zero all left x made zero u = record {
   sum = λ w. omega (arith, u.sum w, last_total left x w, none_of (bytes_eq x.0 w) x.1 zero);
@@ -135,7 +132,7 @@ Unloads-zero all left x made zero u = record {
   form = u.form;
 }
 
--- another is the next term
+-- a last entry other than 0 is taken as the next term
 pub Unloads-more : (all left : List Entry) (x : Entry) (made : List Term) → x.1 ≢ 0 → Unloads all (left ++ x ∷ []) made →
     Unloads all left (made ++ term_of x ∷ [])
 Unloads-more all left x made other u = record {

@@ -2,7 +2,7 @@
 use Rattle.std.proofs.Common.{ap₂, ◌≡◌, ◌≢◌, ◌+◌, ◌*◌, ◌-◌, ◌<◌, ◌%◌, ℕ, Bool, true, false, cond, ◌==◌, List, [], ◌∷◌, ◌++◌, length, get_or, take}
 use Rattle.std.proofs.Common.{drop, refl, sym, ap, ◌∙◌, inl, inr, arith, bytes_eq, zero-add, add-zero, mul-zero, append-nil, All, subst}
 use Rattle.std.proofs.Math.Nat.{add-mod-mod, mod-eq_of_lt, mod-lt, mul-add, zero-mod}
-use Rattle.std.proofs.lemmas.Bool.{cases_Bool, eqb-true}
+use Rattle.std.proofs.lemmas.Bool.{cases_Bool, eqb-false, eqb-true}
 use Rattle.std.proofs.lemmas.List.Elements.{All-cons, All-head, All-nil, All-push, All-tail}
 use Rattle.std.proofs.lemmas.List.Quantifiers.{all_pairs_push}
 use Rattle.std.proofs.lemmas.List.{take_all}
@@ -59,14 +59,11 @@ IsPolynomial-made made w c form above = elim (cases_Bool (c == 0)) [
   | inl none ↦ rw (none, append-nil) form
   | inr some ↦ rw some (record {
     falling = all_pairs_push (λ s t. IsLetterwiseGreater s.word t.word) made (record { word = w; coefficient = c }) form.falling above;
-    nonzero = All-push (λ t. t.coefficient ≢ 0) made (record { word = w; coefficient = c }) form.nonzero (λ e. other c some e);
+    nonzero = All-push (λ t. t.coefficient ≢ 0) made (record { word = w; coefficient = c }) form.nonzero (eqb-false c 0 some);
   })
 ]
-  where
-    other : (n : ℕ) → (n == 0) ≡ false → n ≢ 0
-    other n f e = let t : (n == 0) ≡ true = ap (λ (m : ℕ). m == 0) e in cc
 
--- a list with a first term
+-- the first term that is left is below each term that was made
 pub first_above : (p : ℕ) (made : List Term) (x : Term) (left : List Term) → IsLeft p made (x ∷ left) → All (λ t. IsLetterwiseGreater t.word x.word) made
 first_above p made x left h k d within = All-head (λ t. IsLetterwiseGreater (get_or made k d).word t.word) x left (h.below k d within)
 
@@ -103,10 +100,6 @@ taken p a m v x y r s e =
 
 made_total : (made : List Term) (w : List ℕ) (c : ℕ) (v : List ℕ) → total_at (made ++ term_at w c) v ≡ total_at made v + cond (bytes_eq w v) c 0
 made_total made w c v = total_at-append made (term_at w c) v ∙ ap (λ (n : ℕ). total_at made v + n) (total_at-term_at w c v)
-
--- at the first word of one list
-at_first : (x : Term) (left : List Term) (w : List ℕ) → total_at (x ∷ left) w ≡ cond (bytes_eq x.word w) x.coefficient 0 + total_at left w
-at_first x left w = refl
 
 if_residue : (p : ℕ) (b : Bool) (c : ℕ) → c < p → cond b c 0 ≡ (cond b c 0 + 0) % p
 if_residue p true c below = sym (ap (λ (n : ℕ). n % p) (add-zero c) ∙ mod-eq_of_lt below)

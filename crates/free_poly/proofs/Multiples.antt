@@ -1,13 +1,13 @@
 -- Multiples of a polynomial by a residue that has an inverse.
 use Rattle.std.proofs.Common.{ap₂, ◌≡◌, ◌≢◌, ◌+◌, ◌*◌, ◌<◌, ◌%◌, ℕ, Bool, true, false, cond, List, [], ◌∷◌, map, refl, sym, ap, ◌∙◌, arith, bytes_eq, mul-zero}
-use Rattle.std.proofs.Math.Nat.{add-mod, mod-eq_of_lt, mod-lt, mod-mod, mul_assoc, mul_comm, one-mul, zero-mod}
+use Rattle.std.proofs.Math.Nat.{add-mod, mod-eq_of_lt, mod-lt, mod-mod, mul_assoc, one-mul, zero-mod}
 use Rattle.std.proofs.lemmas.Nat.{mul-mod_first, mul-mod_second}
 use Rattle.std.proofs.lemmas.List.Elements.{All-map}
 use Rattle.words.specs.Order.{IsLetterwiseGreater}
 use Rattle.words.proofs.Members.{AllPairs-map}
 use Rattle.free_poly.specs.declared.term.Term.{Term}
 use Rattle.free_poly.specs.Terms.{HasResidues, IsSame, scaled, total_at}
-use Rattle.free_poly.specs.Poly.{IsMonic, IsMultiple, IsPolynomial}
+use Rattle.free_poly.specs.Poly.{IsMultiple, IsPolynomial}
 
 -- a times each coefficient, as residues
 abbrev pub multiple_of : ℕ → ℕ → List Term → List Term
@@ -61,7 +61,3 @@ module _ (p a c : ℕ) (inverse : (c * a) % p ≡ 1) where
   -- a times a polynomial is its multiple by a residue other than 0, as a has an inverse
   pub IsMultiple-multiple_of : (f : List Term) → a < p → IsMultiple p (multiple_of p a f) f
   IsMultiple-multiple_of f below = record { factor = a; other = omega (arith, other_factor); residue = below; same = IsSame-multiple_of p a f }
-
-  -- a times a polynomial is monic where a is the inverse of its first coefficient
-  pub IsMonic-multiple_of : (t : Term) (f : List Term) → t.coefficient ≡ c → IsMonic (multiple_of p a (t ∷ f))
-  IsMonic-multiple_of t f lead = ap (λ (n : ℕ). (a * n) % p) lead ∙ ap (λ (n : ℕ). n % p) (mul_comm a c) ∙ inverse

@@ -1,5 +1,6 @@
 -- Two polynomials with the same coefficients are one.
 use Rattle.std.proofs.Common.{ap₂, ◌≡◌, ◌≢◌, ◌+◌, ◌<◌, ◌%◌, ℕ, Bool, cond, List, [], ◌∷◌, refl, sym, ap, ◌∙◌, zero-add, add-zero}
+use Rattle.std.proofs.Common.{Some, subst}
 use Rattle.std.proofs.Math.Nat.{mod-eq_of_lt, zero-mod}
 use Rattle.std.proofs.lemmas.List.Elements.{All-cons, All-head, All-tail}
 use Rattle.std.specs.Ordering.{ordering_reverse}
@@ -10,7 +11,7 @@ use Rattle.words.proofs.Members.{AllPairs-first, AllPairs-rest}
 use Rattle.words.specs.OrderLaws.{letterwise-IsAntisymmetric, letterwise_total}
 use Rattle.free_poly.specs.declared.term.Term.{Term}
 use Rattle.free_poly.specs.Terms.{HasResidues, IsSame, total_at}
-use Rattle.free_poly.specs.Poly.{IsPolynomial}
+use Rattle.free_poly.specs.Poly.{IsPolynomial, lead_of}
 use Rattle.free_poly.proofs.Totals.{here, not_here, total_at-absent, letterwise-apart}
 
 -- of two words one is greater, or they are one
@@ -46,6 +47,11 @@ pub above_all : (w : List ℕ) (t : Term) (f : List Term) → IsPolynomial (t �
 above_all w t f h g = total_at-absent (t ∷ f) w (All-cons (λ (s : Term). s.word ≢ w) t f (λ e. letterwise-apart w t.word g (sym e))
     (λ k d within e. letterwise-apart w _ (letterwise-trans w t.word _ g
     (AllPairs-first (λ s t. IsLetterwiseGreater s.word t.word) t f h.falling k d within)) (sym e)))
+
+-- at a word that is greater than the leading word a polynomial has nothing
+pub above_lead : (f : List Term) (w y : List ℕ) → IsPolynomial f → lead_of f ≡ Some w → IsLetterwiseGreater y w → total_at f y ≡ 0
+above_lead [] w y h e g = refl
+above_lead (t ∷ f) w y h e g = let is : t.word ≡ w = cc e in above_all y t f h (subst (IsLetterwiseGreater y) (sym is) g)
 
 -- a residue other than 0 stays so
 kept : (p c : ℕ) → c < p → c ≢ 0 → c % p ≡ 0 % p → ⊥

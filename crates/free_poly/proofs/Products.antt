@@ -14,7 +14,7 @@ use Rattle.words.proofs.Weights.{degree_of-append}
 use Rattle.free_poly.specs.declared.term.Term.{Term}
 use Rattle.free_poly.specs.Terms.{HasDegree, HasNoPrefix, HasOneDegree, HasResidues, IsSame, UsesLetters, product, scaled, total_at}
 use Rattle.free_poly.specs.Poly.{IsPolynomial}
-use Rattle.free_poly.proofs.Totals.{here, not_here}
+use Rattle.free_poly.proofs.Totals.{here, not_equal, not_here}
 
 -- two lists of terms are equal where their first words, their first coefficients and their rests are
 pub same_terms : (s t : Term) (f g : List Term) → s.word ≡ t.word → s.coefficient ≡ t.coefficient → f ≡ g → s ∷ f ≡ t ∷ g
@@ -30,7 +30,7 @@ pub product-append : (u : List ℕ) (f g : List Term) (v : List ℕ) → product
 product-append u [] g v = refl
 product-append u (t ∷ f) g v = same_terms _ _ _ _ refl refl (product-append u f g v)
 
--- a product of a product
+-- u * (a * f * b) * v is (u * a) * f * (b * v)
 pub product-product : (u a : List ℕ) (f : List Term) (b v : List ℕ) → product u (product a f b) v ≡ product (u ++ a) f (b ++ v)
 product-product u a [] b v = refl
 product-product u a (t ∷ f) b v = same_terms _ _ _ _ words refl (product-product u a f b v)
@@ -49,11 +49,8 @@ joined_cancels u x y v e = append_cancel_left u x y (append_cancel_right (u ++ x
 same_test : (u x y v : List ℕ) → bytes_eq (u ++ x ++ v) (u ++ y ++ v) ≡ bytes_eq x y
 same_test u x y v = elim (cases_Bool (bytes_eq x y)) [
   | inl is ↦ here (u ++ x ++ v) (u ++ y ++ v) (ap (λ (r : List ℕ). u ++ r ++ v) ((bytes_eq-Decides x y).0 is)) ∙ sym is
-  | inr other ↦ not_here (u ++ x ++ v) (u ++ y ++ v) (λ e. apart other (joined_cancels u x y v e)) ∙ sym other
+  | inr other ↦ not_here (u ++ x ++ v) (u ++ y ++ v) (λ e. not_equal x y other (joined_cancels u x y v e)) ∙ sym other
 ]
-  where
-    apart : bytes_eq x y ≡ false → x ≢ y
-    apart f e = let t : bytes_eq x y ≡ true = here x y e in cc
 
 -- the coefficient at u * x * v is that at x
 pub total_at-inside : (u : List ℕ) (f : List Term) (v x : List ℕ) → total_at (product u f v) (u ++ x ++ v) ≡ total_at f x
@@ -102,7 +99,7 @@ IsSame-product p u f g v s w = elim (round u v w) [
 pub degree_of-round : (weights u x v : List ℕ) → degree_of weights (u ++ x ++ v) ≡ degree_of weights u + degree_of weights x + degree_of weights v
 degree_of-round weights u x v = degree_of-append weights (u ++ x) v ∙ ap (λ (n : ℕ). n + degree_of weights v) (degree_of-append weights u x)
 
--- words of one degree keep their order letter by letter
+-- u * a * v is greater than u * b * v letter by letter where a is greater than b and has its degree
 pub letterwise-product : (weights : List ℕ) → AreWeights weights → (u a b v : List ℕ) → degree_of weights a ≡ degree_of weights b →
     IsLetterwiseGreater a b → IsLetterwiseGreater (u ++ a ++ v) (u ++ b ++ v)
 letterwise-product weights aw u a b v same g = elim (first_difference a b g) [
@@ -139,7 +136,7 @@ IsPolynomial-product weights aw u f v one h = record {
   nonzero = All-map (λ t. t.coefficient ≢ 0) (λ t. record { word = u ++ t.word ++ v; coefficient = t.coefficient }) f h.nonzero;
 }
 
--- the words keep their order too where none is a proper prefix of another
+-- the product of a polynomial none of whose words is a proper prefix of another is a polynomial
 pub IsPolynomial-product_apart : (u : List ℕ) (f : List Term) (v : List ℕ) → HasNoPrefix f → IsPolynomial f → IsPolynomial (product u f v)
 IsPolynomial-product_apart u f v apart h = record {
   falling = AllPairs-map (λ t. record { word = u ++ t.word ++ v; coefficient = t.coefficient })

@@ -21,6 +21,10 @@ not_here a b ne = false_from_ne_true (bytes_eq a b) (λ e. ne ((bytes_eq-Decides
 pub here : (a b : List ℕ) → a ≡ b → bytes_eq a b ≡ true
 here a b e = (bytes_eq-Decides a b).1 e
 
+-- words that fail the test of equality are different
+pub not_equal : (a b : List ℕ) → bytes_eq a b ≡ false → a ≢ b
+not_equal a b other e = let same : bytes_eq a b ≡ true = here a b e in cc
+
 -- the coefficient of a sum is the sum of the coefficients
 pub total_at-append : (f g : List Term) (w : List ℕ) → total_at (f ++ g) w ≡ total_at f w + total_at g w
 total_at-append [] g w = sym (zero-add (total_at g w))
