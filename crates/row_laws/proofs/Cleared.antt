@@ -10,7 +10,7 @@ use Rattle.words.specs.Order.{IsLetterwiseGreater}
 use Rattle.words.proofs.Members.{AllPairs-first, AllPairs-rest, Contains-cases, Contains-first, Contains-more, Contains-none}
 use Rattle.free_poly.specs.declared.term.Term.{Term}
 use Rattle.free_poly.proofs.FromWords.{listed}
-use Rattle.free_poly.proofs.Totals.{here}
+use Rattle.free_poly.proofs.Totals.{not_equal}
 use Rattle.linear_algebra.specs.Fields.{Field}
 use Rattle.linear_algebra.specs.Spans.{IsInSpan}
 use Rattle.linear_algebra.specs.Mod.{Residue}
@@ -21,7 +21,6 @@ use Rattle.ideal_laws.specs.Ideal.{Ideal}
 use Rattle.ideal_laws.specs.Laws.{IsSetting}
 use Rattle.ideal_laws.specs.Overlaps.{AreLower}
 use Rattle.ideal_laws.specs.Quantities.{reducers_in, contested_words}
-use Rattle.ideal_laws.proofs.Vectors.{vector_of-append, vector_of-scaled}
 use Rattle.ideal_laws.proofs.Vectors as vectors
 use Rattle.row_laws.proofs.Parts as parts
 use Rattle.row_laws.proofs.Reducers.{reducer_above, reducer_there}
@@ -119,13 +118,10 @@ module _ (ideal : Ideal) (st : IsSetting ideal) (d : ℕ) (G : List (List Term))
   elsewhere-on x xs v on y off = elim (cases_Bool (bytes_eq x y)) [
     | inl is ↦ ap (λ (b : Bool). cond b K.zero (v y)) is
     | inr other ↦ ap (λ (b : Bool). cond b K.zero (v y)) other ∙ on y (λ m. elim (Contains-cases x xs y m) [
-      | inl e ↦ apart x y other e
+      | inl e ↦ not_equal x y other e
       | inr n ↦ off n
     ])
   ]
-    where
-      apart : (a b : List ℕ) → bytes_eq a b ≡ false → a ≡ b → ⊥
-      apart a b o e = let t : bytes_eq a b ≡ true = here a b e in cc
 
   here_and_elsewhere : (x : List ℕ) (v : V) (y : List ℕ) → K.add (cond (bytes_eq x y) (v x) K.zero) (elsewhere x v y) ≡ v y
   here_and_elsewhere x v y = both (bytes_eq x y) (λ e. (bytes_eq-Decides x y).0 e)
