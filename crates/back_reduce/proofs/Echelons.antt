@@ -71,6 +71,7 @@ module _ (p m : ℕ) where
     abbrev Ve : Type 0
     Ve = V p modulus
 
+    -- the vector of a row in a list is one of the list's vectors
     pub contained_one : (rows : List (List ℕ)) (r : List ℕ) → Contains rows r → OneOf p modulus rows (vec p modulus r)
     contained_one [] r there = absurd (omega (arith, there.1))
     contained_one (x ∷ rows) r there = elim (Contains-cases x rows r there) [
@@ -78,6 +79,7 @@ module _ (p m : ℕ) where
       | inr later ↦ inr (contained_one rows r later)
     ]
 
+    -- each of a list's vectors is the vector of a row in it
     pub one_contained : (rows : List (List ℕ)) (v : Ve) → OneOf p modulus rows v → (r : List ℕ) × Contains rows r × (v ≡ vec p modulus r)
     one_contained [] v h = absurd h
     one_contained (x ∷ rows) v (inl is) = (x, Contains-first x rows, is)
@@ -121,10 +123,12 @@ module _ (p m : ℕ) where
           l.row r (b.1.related.sum modulus)
           (IsInSpan-one Ke ℕ Q (vec p modulus r) (contained_one ends r b.1.right))
 
+      -- the span of the reduced rows is in that of the leaders' rows
       pub ends_from : (v : Ve) → IsInRowSpan p modulus ends v → IsInRowSpan p modulus (starts_of leaders) v
       ends_from = IsInSpan-trans Ke ℕ (OneOf p modulus ends) (OneOf p modulus (starts_of leaders)) (λ v one. (
           let r = one_contained ends v one in subst (IsInRowSpan p modulus (starts_of leaders)) (sym r.2) (end_in r.0 r.1)))
 
+      -- the span of the leaders' rows is in that of the reduced rows
       pub starts_from : (v : Ve) → IsInRowSpan p modulus (starts_of leaders) v → IsInRowSpan p modulus ends v
       starts_from = IsInSpan-trans Ke ℕ (OneOf p modulus (starts_of leaders)) (OneOf p modulus ends) (λ v one. (
           let l = one_start leaders v one in subst (IsInRowSpan p modulus ends) (sym l.2) (start_in m l.0 l.1 (omega arith))))
@@ -137,6 +141,7 @@ module _ (p m : ℕ) where
       let start : IsLeader p m own.column own.row = All-contains (λ (l : Leader). IsLeader p m l.column l.row) leaders own are.each b.1.left in
       record { size = b.1.related.leader.size ∙ start.size; residues = b.1.related.leader.residues }
 
+  -- what leaders with the span of some rows are reduced to is the reduced row echelon form of these rows
   pub rref_from : (rows : List (List ℕ)) (leaders : List Leader) (ends : List (List ℕ)) → AreLeaders p m leaders → AllZip (IsReducedTo p leaders) leaders ends
       → ((modulus : IsFieldModulus p) (v : V p modulus) → IsInRowSpan p modulus (starts_of leaders) v ↔ IsInRowSpan p modulus rows v) → IsRref p m rows ends
   rref_from rows leaders ends are z same = record {
@@ -162,7 +167,7 @@ module _ (p m : ℕ) where
       length_all_zip_of (x ∷ xs) [] h = absurd h
       length_all_zip_of (x ∷ xs) (y ∷ ys) h = ap suc (length_all_zip_of xs ys h.1)
 
--- what the rows of a problem's leaders are reduced to
+-- what all leaders of a problem's rows are reduced to is the reduced row echelon form of these rows
 pub problem_rref : {C E : Type 0} (problem : Problem) (p : ℕ) (shown leaders : List Leader) (result : Result C E) (items : C → List (List ℕ))
     → problem.modulus ≡ p → shown ≡ leaders → AreLeadersOf problem leaders
     → IfOk result (λ c. AllZip (IsReducedTo p shown) shown (items c)) → IfOk result (λ c. IsRref problem.modulus problem.m (rows_of problem) (items c))

@@ -17,6 +17,7 @@ use Rattle.back_reduce.proofs.RowLists.{held_one, one_held, option_cases, proble
 use Rattle.back_reduce.proofs.Tables.{empty_held, empty_table, has_inserted, held_within, none_is_some, put_elsewhere, put_there, same_some}
 use Rattle.back_reduce.proofs.Vectors.{K, vec}
 
+-- the table that holds nothing is the table after no rows of a problem
 pub eliminated_none : (problem : Problem) → IsEliminated problem 0 (replicate problem.m None)
 eliminated_none problem = record {
   is_table = empty_table problem.modulus problem.m;
@@ -64,6 +65,7 @@ apart_more holder table at c d first second h k (own same is) (old there) e = ab
 apart_more holder table at c d first second h k (old there) (own same is) e = absurd (omega (arith, h c first there, is, e))
 apart_more holder table at c d first second h k (old there) (old there') e = k there there' e
 
+-- the table after the first r rows of a problem, with row r inserted, is the table after the first r + 1
 pub eliminated_more : (problem : Problem) (r : ℕ) (table after : List (Option Held)) → r < problem.n → IsEliminated problem r table →
     IsTable problem.modulus problem.m after
     → IsInserted problem.modulus r table (row_of problem.rows.items r) after → IsEliminated problem (r + 1) after
@@ -115,6 +117,7 @@ pub row_free : (m : ℕ) (table : List (Option Held)) (c : ℕ) → held_at tabl
 row_free m table c free = sym (fill_by_all (value_in table c) (replicate m 0) m 0 (length-replicate m 0)
     (λ k lt. get_or-replicate m k 0 0 lt ∙ sym (ap (λ (x : Option Held). value_of x k) free)))
 
+-- the table after all rows of a problem has the problem's pivots
 pub sequential : (problem : Problem) (table : List (Option Held)) → IsEliminated problem problem.n table → IsSequential problem table
 sequential problem table h =
     let p = problem.modulus in

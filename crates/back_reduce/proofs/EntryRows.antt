@@ -10,15 +10,17 @@ use Rattle.back_reduce.specs.declared.form.Listed.{Listed}
 use Rattle.back_reduce.specs.Entries.{entries_row, with_entries, AreEntries}
 use Rattle.back_reduce.specs.Forms.{row_in}
 
+-- residues that are put into a row leave its length as it is
 pub length-with_entries : (row columns residues : List ℕ) → length (with_entries row columns residues) ≡ length row
 length-with_entries row [] residues = refl
 length-with_entries row (c ∷ columns) [] = refl
 length-with_entries row (c ∷ columns) (r ∷ residues) = length-with_entries (set row c r) columns residues ∙ length-set row c r
 
+-- the row of m residues that is told by listed columns has length m
 pub length-entries_row : (m : ℕ) (columns residues : List ℕ) → length (entries_row m columns residues) ≡ m
 length-entries_row m columns residues = length-with_entries (replicate m 0) columns residues ∙ length-replicate {A = ℕ} m 0
 
--- one more residue
+-- to put in one more residue behind the others is to set it last
 pub with_entries_push : (row columns residues : List ℕ) (c r : ℕ) → length residues ≡ length columns →
     with_entries row (columns ++ c ∷ []) (residues ++ r ∷ []) ≡ set (with_entries row columns residues) c r
 with_entries_push row [] [] c r l = refl
@@ -33,7 +35,7 @@ length-take_same [] (y ∷ ys) (suc k) l = absurd (omega (arith, l))
 length-take_same (x ∷ xs) [] (suc k) l = absurd (omega (arith, l))
 length-take_same (x ∷ xs) (y ∷ ys) (suc k) l = ap suc (length-take_same xs ys k (omega (arith, l)))
 
--- the first residues and one more
+-- to put in the first k + 1 residues is to put in the first k and to set the next
 pub with_entries_more : (row columns residues : List ℕ) (k : ℕ) → length residues ≡ length columns → k < length columns →
     with_entries row (take (k + 1) columns) (take (k + 1) residues)
     ≡ set (with_entries row (take k columns) (take k residues)) (get_or columns k 0) (get_or residues k 0)
@@ -56,6 +58,7 @@ get_or-zeros m k = elim (cases_lt k m) [
   | inr past ↦ get_or_past {X = ℕ} (replicate m 0) k 0 (omega (arith, past, length-replicate {A = ℕ} m 0))
 ]
 
+-- a column that is not listed has 0
 pub entries_row-other : (m : ℕ) (columns residues : List ℕ) (k : ℕ) → ((i : ℕ) → i < length columns → get_or columns i 0 ≢ k) →
     get_or (entries_row m columns residues) k 0 ≡ 0
 entries_row-other m columns residues k other = with_entries-other (replicate m 0) columns residues k other ∙ get_or-zeros m k
@@ -76,6 +79,7 @@ with_entries_zero row (c ∷ columns) (r ∷ residues) k none zeros =
     ])
     (λ i within is. zeros (suc i) (omega (arith, within)) is)
 
+-- a column has 0 where no residue but 0 is listed for it
 pub entries_row_zero : (m : ℕ) (columns residues : List ℕ) (k : ℕ) →
     ((i : ℕ) → i < length columns → get_or columns i 0 ≡ k → get_or residues i 0 ≡ 0) → get_or (entries_row m columns residues) k 0 ≡ 0
 entries_row_zero m columns residues k zeros = with_entries_zero (replicate m 0) columns residues k (get_or-zeros m k) zeros
@@ -95,13 +99,14 @@ with_entries-at row (c ∷ columns) (r ∷ residues) (suc i) l rising below with
     (λ k d inside. subst (λ (n : ℕ). get_or columns k d < n) (sym (length-set row c r)) (below (suc k) d (omega (arith, inside))))
     (omega (arith, within))
 
+-- a listed column has its residue, where the columns rise and are below m
 pub entries_row-at : (m : ℕ) (columns residues : List ℕ) (i : ℕ) → AreEntries m columns residues → i < length columns →
     get_or (entries_row m columns residues) (get_or columns i 0) 0 ≡ get_or residues i 0
 entries_row-at m columns residues i h within =
     with_entries-at (replicate m 0) columns residues i h.same h.rising
     (λ k d inside. omega (arith, h.below k d inside, length-replicate {A = ℕ} m 0)) within
 
--- the residues of a row that is made of residues
+-- listed residues are below p where those of the row that is told by them are
 pub entries-residues : (p m : ℕ) (columns residues : List ℕ) → AreEntries m columns residues → All (λ r. r < p) (entries_row m columns residues)
     → All (λ r. r < p) residues
 entries-residues p m columns residues h all i d within =
@@ -125,7 +130,7 @@ pub map-entries_row : (f : ℕ → ℕ) (m : ℕ) (columns residues : List ℕ) 
 map-entries_row f m columns residues none = map-with_entries f (replicate m 0) columns residues
     ∙ ap (λ (x : List ℕ). with_entries x columns (map f residues)) (map-zeros f m none)
 
--- how long a row is of which residues are listed
+-- a row that is held by listed residues has the width of the list as its length
 pub listed_width : (held : Form) (listed : Listed) (row : List ℕ) → row_in held ≡ row → held ≡ form.Listed listed → length row ≡ listed.width
 listed_width held listed row view is =
     ap length (sym view ∙ ap row_in is) ∙ length-entries_row listed.width listed.columns.items listed.residues.items

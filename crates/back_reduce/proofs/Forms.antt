@@ -16,6 +16,7 @@ IsFormFrom m a (c ∷ cs) [] = ⊥
 IsFormFrom m a (c ∷ cs) (r ∷ rs) = (a ≤ c) × (c < m) × (get_or r c 0 ≡ 1) × ((k : ℕ) → k < c → get_or r k 0 ≡ 0)
     × All (λ d. get_or r d 0 ≡ 0) cs × IsFormFrom m (c + 1) cs rs
 
+-- rows that lead at rising columns from a on lead so from each smaller column on
 pub form_later : (m a b : ℕ) (cs : List ℕ) (rs : List (List ℕ)) → b ≤ a → IsFormFrom m a cs rs → IsFormFrom m b cs rs
 form_later m a b [] [] le h = tt
 form_later m a b [] (r ∷ rs) le h = h
@@ -51,6 +52,7 @@ module _ (p : ℕ) (modulus : IsFieldModulus p) where
     zero_at_leads m (c + 1) r cs rs (All-tail (λ (d : ℕ). get_or r d 0 ≡ 0) c cs z) h.5,
   )
 
+  -- rows that lead at rising columns from a on, below m, and are 0 at each other's columns are reduced over the columns from a to m
   pub reduced_from : (n m a : ℕ) (cs : List ℕ) (rs : List (List ℕ)) → a + n ≡ m → IsFormFrom m a cs rs → IsReduced Kf ℕ (range_with_len a n) (led cs rs)
   reduced_from zero m a [] [] e h = done
   reduced_from zero m a [] (r ∷ rs) e h = absurd h
@@ -74,6 +76,7 @@ module _ (p : ℕ) (modulus : IsFieldModulus p) where
         (reduced_from n m (a + 1) (c ∷ cs) (r ∷ rs) (omega (arith, e)) whole)
   ]
 
+  -- what stands beside the leading columns are the vectors of all rows
   pub rows_of_led : (m a : ℕ) (cs : List ℕ) (rs : List (List ℕ)) → IsFormFrom m a cs rs → map (λ e. e.1) (led cs rs) ≡ map (vec p modulus) rs
   rows_of_led m a [] [] h = refl
   rows_of_led m a [] (r ∷ rs) h = absurd h

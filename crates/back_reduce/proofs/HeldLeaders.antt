@@ -48,12 +48,15 @@ module _ (holder : ℕ → Option ℕ) where
   rising a (suc n) end le = rising_step a end (holder a) (flat_map (λ c. where_held (holder c) c) (range_with_len (a + 1) n)) refl
       (omega (arith, le)) (rising (a + 1) n end (omega (arith, le)))
 
+  -- each of the held columns is below m and has a holder
   pub held_each : (m : ℕ) → All (IsHeldFrom 0 m) (held_columns m holder)
   held_each m = (rising 0 m m (omega arith)).each
 
+  -- the held columns rise
   pub held_rising : (m : ℕ) → AllPairs (λ c d. c < d) (held_columns m holder)
   held_rising m = (rising 0 m m (omega arith)).pairs
 
+-- the row of a held column leads there
 pub holder_leader : (p m n : ℕ) (value : ℕ → ℕ → ℕ) (c r : ℕ) → c < m → IsHolder p m n (value c) c r → IsLeader p m c (held_row m value c)
 holder_leader p m n value c r lt h = record {
   size = length-map-range_with_len (value c) 0 m;
@@ -63,6 +66,7 @@ holder_leader p m n value c r lt h = record {
   before = λ k below. get_or-map-range_with_len (value c) 0 m k k 0 (omega (arith, below, lt)) (omega arith) ∙ h.before k below;
 }
 
+-- leaders with the held columns and rows of pivots are rows that lead at rising columns
 pub leaders_are : (problem : Problem) (holder : ℕ → Option ℕ) (value : ℕ → ℕ → ℕ) (leaders : List Leader) → ArePivots problem holder value
     → map (λ l. l.column) leaders ≡ held_columns problem.m holder → map (λ l. l.row) leaders ≡ held_rows problem.m holder value →
     AreLeaders problem.modulus problem.m leaders
@@ -90,6 +94,7 @@ leaders_are problem holder value leaders h columns rows =
       );
     }
 
+-- leaders with the held columns and rows of pivots are all that leads in the span of the problem's rows
 pub leaders_of_pivots : (problem : Problem) (holder : ℕ → Option ℕ) (value : ℕ → ℕ → ℕ) (leaders : List Leader) → ArePivots problem holder value
     → map (λ l. l.column) leaders ≡ held_columns problem.m holder → map (λ l. l.row) leaders ≡ held_rows problem.m holder value →
     AreLeadersOf problem leaders
@@ -117,7 +122,7 @@ held_kept : (n : ℕ) (x : Option ℕ) → is_some x ≡ false → where_held x 
 held_kept n None e = refl
 held_kept n (Some r) e = cc e
 
--- what is listed of the columns below a bound, with one more column
+-- what lists the held columns below n lists those below n + 1 with an entry for column n behind it, where this is held
 pub listed_more : {A X : Type 0} (holder : ℕ → Option ℕ) (f : ℕ → A) (g : X → A) (n : ℕ) (zs ys xs : List X) (x : X) (found : Option ℕ) →
     zs ≡ ys → ys ≡ xs ++ x ∷ [] → found ≡ holder n → is_some found ≡ true → g x ≡ f n
     → map g xs ≡ map f (held_columns n holder) → map g zs ≡ map f (held_columns (n + 1) holder)
@@ -126,6 +131,7 @@ listed_more holder f g n zs ys xs x found shown grown is some own e =
     ∙ sym (ap (map f) (held_more holder n ∙ ap (λ (l : List ℕ). held_columns n holder ++ l)
     (held_pushed n (holder n) (ap is_some (sym is) ∙ some))) ∙ map_push f (held_columns n holder) n)
 
+-- what lists the held columns below n lists those below n + 1 too, where column n is not held
 pub listed_same : {A X : Type 0} (holder : ℕ → Option ℕ) (f : ℕ → A) (g : X → A) (n : ℕ) (ys xs : List X) (found : Option ℕ) → ys ≡ xs →
     found ≡ holder n → is_some found ≡ false
     → map g xs ≡ map f (held_columns n holder) → map g ys ≡ map f (held_columns (n + 1) holder)
@@ -133,7 +139,7 @@ listed_same holder f g n ys xs found kept is not e =
     ap (map g) kept ∙ e ∙ sym (ap (map f) (held_more holder n ∙ ap (λ (l : List ℕ). held_columns n holder ++ l)
     (held_kept n (holder n) (ap is_some (sym is) ∙ not)) ∙ append-nil (held_columns n holder)))
 
--- one more value of a function on the numbers below a bound
+-- what lists the values of a function below n lists those below n + 1 with its value at n behind it
 pub values_more : (f : ℕ → ℕ) (n v : ℕ) (ys xs : List ℕ) → ys ≡ xs ++ v ∷ [] → xs ≡ map f (range_with_len 0 n) → v ≡ f n → ys ≡ map f (range_with_len 0 (n + 1))
 values_more f n v ys xs grown is own =
     grown ∙ ap (λ (l : List ℕ). l ++ v ∷ []) is ∙ ap (λ (a : ℕ). map f (range_with_len 0 n) ++ a ∷ []) own ∙ sym (map-range_with_len_more f 0 n n (omega arith))

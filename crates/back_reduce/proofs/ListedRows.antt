@@ -12,7 +12,7 @@ use Rattle.back_reduce.specs.Entries.{entries_row, with_entries, AreEntries, IsL
 use Rattle.back_reduce.proofs.EntryRows.{entries_row-at, entries_row-other, entries_row_zero, length-entries_row, with_entries_more, with_entries_push}
 use Rattle.back_reduce.proofs.Vectors.{length-plus_multiple}
 
--- where the first residue other than 0 is listed, the row leads
+-- where the first residue other than 0 is listed, the row leads at its column
 pub lead_listed : (m : ℕ) (columns residues : List ℕ) (i : ℕ) → AreEntries m columns residues → i < length columns → get_or residues i 0 ≢ 0 →
     ((j : ℕ) → j < i → get_or residues j 0 ≡ 0) → IsLead (entries_row m columns residues) (get_or columns i 0)
 lead_listed m columns residues i h within other zeros = record {
@@ -30,6 +30,7 @@ lead_listed m columns residues i h within other zeros = record {
 zero_everywhere : (row : List ℕ) → ((k : ℕ) → get_or row k 0 ≡ 0) → All (λ r. r ≡ 0) row
 zero_everywhere row none k d within = get_or_default row k d 0 within ∙ none k
 
+-- a row is 0 where all its listed residues are
 pub none_listed : (m : ℕ) (columns residues : List ℕ) → ((i : ℕ) → i < length columns → get_or residues i 0 ≡ 0) →
     All (λ r. r ≡ 0) (entries_row m columns residues)
 none_listed m columns residues zeros =
@@ -37,11 +38,16 @@ none_listed m columns residues zeros =
 
 -- the residues at the first columns of a row are listed, but for zeros
 pub record IsListedUpto (row : List ℕ) (at : ℕ) (columns residues : List ℕ) : Type 0 where
+  -- a residue for each listed column
   pub same : length residues ≡ length columns
+  -- the listed columns rise
   pub rising : AllPairs (λ c d. c < d) columns
+  -- they are below the next column
   pub below : All (λ c. c < at) columns
+  -- the row that is told by them is the given one at all columns before that
   pub done : (k : ℕ) → k < at → get_or (entries_row (length row) columns residues) k 0 ≡ get_or row k 0
 
+-- nothing is listed of no columns
 pub listed_upto_0 : (row : List ℕ) → IsListedUpto row 0 [] []
 listed_upto_0 row = record {
   same = refl;
@@ -53,6 +59,7 @@ listed_upto_0 row = record {
 not_yet : (at k : ℕ) (columns : List ℕ) → All (λ c. c < at) columns → at ≤ k → (i : ℕ) → i < length columns → get_or columns i 0 ≢ k
 not_yet at k columns below from i within is = omega (arith, below i 0 within, from, is)
 
+-- a residue that is listed with its column counts as done
 pub listed_more : (row : List ℕ) (at : ℕ) (columns residues : List ℕ) → at < length row → IsListedUpto row at columns residues →
     IsListedUpto row (at + 1) (columns ++ at ∷ []) (residues ++ get_or row at 0 ∷ [])
 listed_more row at columns residues within h =
@@ -72,6 +79,7 @@ listed_more row at columns residues within h =
       ];
     }
 
+-- a residue 0 is done without being listed
 pub listed_same : (row : List ℕ) (at : ℕ) (columns residues : List ℕ) → get_or row at 0 ≡ 0 → IsListedUpto row at columns residues →
     IsListedUpto row (at + 1) columns residues
 listed_same row at columns residues none h = record {
@@ -85,11 +93,12 @@ listed_same row at columns residues none h = record {
   ];
 }
 
+-- once all columns are done, the row that is told by the listed ones is the row itself
 pub listed_all : (row : List ℕ) (columns residues : List ℕ) → IsListedUpto row (length row) columns residues → entries_row (length row) columns residues ≡ row
 listed_all row columns residues h = ext_get_or 0 (entries_row (length row) columns residues) row (length-entries_row (length row) columns residues)
     (λ i within. h.done i (omega (arith, within, length-entries_row (length row) columns residues)))
 
--- a multiple of a row with one more residue, where it was 0
+-- a multiple of a row with a residue set where it was 0 is the multiple of the row with a times the residue added there
 pub plus_multiple-set : (p a : ℕ) (y x : List ℕ) (c r : ℕ) → length y ≡ length x → c < length y → get_or x c 0 ≡ 0 → get_or y c 0 < p →
     plus_multiple p a y (set x c r) ≡ set (plus_multiple p a y x) c ((get_or (plus_multiple p a y x) c 0 + a * r) % p)
 plus_multiple-set p a [] x c r l within none lt = absurd (omega (arith, within))
@@ -101,6 +110,7 @@ plus_multiple-set p a (t ∷ y) (s ∷ x) zero r l within none lt =
 plus_multiple-set p a (t ∷ y) (s ∷ x) (suc c) r l within none lt =
     ap (λ (rest : List ℕ). (t + a * s) % p ∷ rest) (plus_multiple-set p a y x c r (omega (arith, l)) (omega (arith, within)) none lt)
 
+-- a multiple of the row of zeros leaves a row of residues as it is
 pub plus_multiple-zeros : (p a : ℕ) (y : List ℕ) → All (λ r. r < p) y → plus_multiple p a y (replicate (length y) 0) ≡ y
 plus_multiple-zeros p a [] residues = refl
 plus_multiple-zeros p a (t ∷ y) residues =
@@ -112,13 +122,14 @@ module _ (p a m i : ℕ) (into first columns residues : List ℕ) where
   abbrev part : List ℕ
   part = with_entries (replicate m 0) (take i columns) (take i residues)
 
+  -- a row with a multiple of the part added has residues below p
   pub plus_multiple-part_residues : 0 < p → length first ≡ m → into ≡ plus_multiple p a first part → (k d : ℕ) → k < length first → get_or into k d < p
   plus_multiple-part_residues pos size is k d within =
       subst (λ (l : List ℕ). get_or l k d < p) (sym is)
       (plus_multiple-residues p a first part pos (size ∙ sym (length-entries_row m (take i columns) (take i residues))) k d
       (omega (arith, within, length-plus_multiple p a first part)))
 
-  -- one more of its residues
+  -- a multiple of the part with one more of its residues is that of the part with a times this residue added at its column
   pub plus_multiple-part : AreEntries m columns residues → i < length columns → length first ≡ m → All (λ r. r < p) first →
       into ≡ plus_multiple p a first part →
       set into (get_or columns i 0) ((get_or into (get_or columns i 0) 0 + a * get_or residues i 0) % p)

@@ -93,6 +93,7 @@ module _ (p m : ℕ) (modulus : IsFieldModulus p) where
       ap₂ ◌∷◌ (same_row r s (All-head (IsRow p m) r rs h) (All-head (IsRow p m) s ss g) e.1)
       (same_rows cs rs ds ss (omega (arith, l)) (omega (arith, k)) (All-tail (IsRow p m) r rs h) (All-tail (IsRow p m) s ss g) e.2)
 
+  -- two reduced row echelon forms of the same rows are equal
   pub one_rref : (rows echelon other : List (List ℕ)) → IsRref p m rows echelon → IsRref p m rows other → other ≡ echelon
   one_rref rows echelon other h k =
       same_rows k.leads other h.leads echelon k.count h.count k.each h.each
@@ -123,6 +124,7 @@ one_modulus p f g =
     let two : f.two_or_more ≡ g.two_or_more = prop f.two_or_more g.two_or_more in
     λ i. record { two_or_more = two i; has_inverse = λ a pos lt. inverse a pos lt i }
 
+-- rows of m residues have exactly one reduced row echelon form
 pub has_one_rref : (p m : ℕ) (rows : List (List ℕ)) → IsFieldModulus p → All (IsRow p m) rows → HasOneRref p m rows
 has_one_rref p m rows modulus are =
     let found = eliminated (K p modulus) ℕ (range_with_len 0 m) (map (vec p modulus) rows) in

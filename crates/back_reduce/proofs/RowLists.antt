@@ -19,6 +19,7 @@ use Rattle.back_reduce.proofs.Vectors.{K, V, vec}
 row_end : (m n r : ℕ) → r < n → r * m + m ≤ n * m
 row_end m n r lt = omega (arith, mul-le (r + 1) m n m (omega arith) (omega arith))
 
+-- n rows are cut
 pub length-cut_rows : (m n : ℕ) (cells : List ℕ) → length (cut_rows m n cells) ≡ n
 length-cut_rows m n cells = length-map-range_with_len (λ r. take m (drop (r * m) cells)) 0 n
 
@@ -58,6 +59,7 @@ module _ (p : ℕ) (modulus : IsFieldModulus p) where
   one_of_append (x ∷ xs) ys v h = inr (one_of_append xs ys v h)
 
   module _ (g : ℕ → List ℕ) where
+    -- the vector of the row with a number of a range is one of those of the range
     pub one_of_range : (a n k : ℕ) → a ≤ k → k < a + n → OneOf (map g (range_with_len a n)) (vec p modulus (g k))
     one_of_range a zero k le lt = absurd (omega (arith, le, lt))
     one_of_range a (suc n) k le lt = elim (cases_eq k a) [
@@ -65,6 +67,7 @@ module _ (p : ℕ) (modulus : IsFieldModulus p) where
       | inr other ↦ inr (one_of_range (a + 1) n k (omega (arith, le, other)) (omega (arith, lt)))
     ]
 
+    -- each vector of a range of rows is that of a row with a number of the range
     pub range_one_of : (a n : ℕ) (v : Vr) → OneOf (map g (range_with_len a n)) v → (k : ℕ) × (a ≤ k) × (k < a + n) × (v ≡ vec p modulus (g k))
     range_one_of a zero v h = absurd h
     range_one_of a (suc n) v (inl e) = (a, omega arith, omega arith, e)
@@ -112,21 +115,23 @@ module _ (p : ℕ) (modulus : IsFieldModulus p) where
       from_held a zero v h = absurd h
       from_held a (suc n) v h = mutual_step a n (holder a) v refl (from_held (a + 1) n v) h
 
-  -- the rows of a problem one by one
+  -- the vector of each row of a problem, by its number, is one of those of its rows
   pub problem_row : (problem : Problem) (k : ℕ) → k < problem.n → OneOf (rows_of problem) (vec p modulus (row_of problem.rows.items k))
   problem_row problem k lt = subst (λ (rows : List (List ℕ)). OneOf rows (vec p modulus (row_of problem.rows.items k))) (sym (rows_by_number problem))
       (one_of_range (row_of problem.rows.items) 0 problem.n k (omega arith) (omega arith))
 
+  -- each vector of a problem's rows is that of a row with a number below n
   pub row_problem : (problem : Problem) (v : Vr) → OneOf (rows_of problem) v →
       (k : ℕ) × (k < problem.n) × (v ≡ vec p modulus (row_of problem.rows.items k))
   row_problem problem v h =
       let one = subst (λ (rows : List (List ℕ)). OneOf rows v) (rows_by_number problem) h in
       let r = range_one_of (row_of problem.rows.items) 0 problem.n v one in (r.0, omega (arith, r.2), r.3)
 
-  -- the held rows one by one
+  -- the vector of the row of each held column is one of those of the held rows
   pub one_held : (m : ℕ) (holder : ℕ → Option ℕ) (value : ℕ → ℕ → ℕ) (c r : ℕ) → c < m → holder c ≡ Some r →
       OneOf (held_rows m holder value) (vec p modulus (held_row m value c))
   one_held m holder value c r lt e = held_from (held_row m value) holder 0 m c r (omega arith) (omega arith) e
 
+  -- each vector of the held rows is that of the row of a held column
   pub held_one : (m : ℕ) (holder : ℕ → Option ℕ) (value : ℕ → ℕ → ℕ) (v : Vr) → OneOf (held_rows m holder value) v → IsFrom (held_row m value) holder 0 m v
   held_one m holder value v h = from_held (held_row m value) holder 0 m v h

@@ -21,6 +21,7 @@ module _ (p : ℕ) (modulus : IsFieldModulus p) where
       sym (Kp.add_assoc n r (Kp.mul (Kp.neg Kp.one) r) ∙ ap (λ (s : Kp.F). Kp.add n (Kp.add r s)) back ∙ ap (Kp.add n) (Kp.add_neg r) ∙ Kp.add_zero n)
 
   module _ (P : Vp → Type 0) where
+    -- a row is itself and an empty sum of multiples
     pub plus_nothing : (row now : List ℕ) → now ≡ row → IsPlusSum p modulus P row now
     plus_nothing row now e = record {
       rest = λ c. Kp.zero;
@@ -28,7 +29,7 @@ module _ (p : ℕ) (modulus : IsFieldModulus p) where
       sum = λ c. ap (λ (r : List ℕ). vec p modulus r c) e ∙ sym (Kp.add_zero (vec p modulus row c));
     }
 
-    -- one more multiple
+    -- a row and a sum of multiples stays one where a multiple of a vector of the span is added
     pub plus_more : (a : ℕ) (row now next pivot : List ℕ) → length now ≡ length pivot → next ≡ plus_multiple p a now pivot →
         IsInSpan Kp ℕ P (vec p modulus pivot)
         → IsPlusSum p modulus P row now → IsPlusSum p modulus P row next

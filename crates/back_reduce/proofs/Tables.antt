@@ -29,12 +29,15 @@ leader_from p m c a left pos l within none one = record {
       ∙ ap (λ (n : ℕ). n % p) (mul-zero a) ∙ zero-mod p;
 }
 
+-- no option is both none and some
 pub none_is_some : {A : Type 0} (x : A) → None ≡ Some x → ⊥
 none_is_some x e = cc e
 
+-- values whose options are equal are equal
 pub same_some : {A : Type 0} (x y : A) → Some x ≡ Some y → x ≡ y
 same_some x y e = cc e
 
+-- a column that holds a row is one of the table
 pub held_within : (table : List (Option Held)) (c : ℕ) (held : Held) → held_at table c ≡ Some held → c < length table
 held_within [] c held e = absurd (none_is_some held e)
 held_within (x ∷ table) zero held e = omega arith
@@ -42,12 +45,15 @@ held_within (x ∷ table) (suc c) held e = omega (arith, held_within table c hel
 
 -- a row that is put where none led
 module _ (table : List (Option Held)) (c : ℕ) (own : Held) (within : c < length table) where
+  -- its column holds it
   pub put_there : held_at (set table c (Some own)) c ≡ Some own
   put_there = get_or-set_same table c (Some own) None within
 
+  -- all other columns hold what they held
   pub put_elsewhere : (k : ℕ) → (k ≡ c → ⊥) → held_at (set table c (Some own)) k ≡ held_at table k
   put_elsewhere k other = get_or-set_other table c k (Some own) None other
 
+  -- what holds of it at its column, and of each row of the table, holds of each row of the new table
   pub put_cases : (P : ℕ → Held → Type 0) → P c own → ((k : ℕ) (held : Held) → held_at table k ≡ Some held → P k held) →
       (k : ℕ) (held : Held) → held_at (set table c (Some own)) k ≡ Some held → P k held
   put_cases P mine others k held there = elim (cases_eq k c) [
@@ -57,11 +63,13 @@ module _ (table : List (Option Held)) (c : ℕ) (own : Held) (within : c < lengt
     | inr other ↦ others k held (sym (put_elsewhere k other) ∙ there)
   ]
 
+  -- where its column held nothing, each row of the table is still held
   pub put_kept : held_at table c ≡ None → (k : ℕ) (held : Held) → held_at table k ≡ Some held → held_at (set table c (Some own)) k ≡ Some held
   put_kept free k held there =
       let other : k ≡ c → ⊥ = λ is. none_is_some held (sym free ∙ ap (held_at table) (sym is) ∙ there) in
       put_elsewhere k other ∙ there
 
+-- a table with a row that leads at a column put there is a table
 pub put_table : (p m c : ℕ) (table : List (Option Held)) (own : Held) → IsTable p m table → c < m → IsLeader p m c own.row →
     IsTable p m (set table c (Some own))
 put_table p m c table own h within leader = record {
@@ -70,6 +78,7 @@ put_table p m c table own h within leader = record {
       (λ _. leader) (λ n g e below. h.leaders n g below e) k held there inside;
 }
 
+-- m columns that hold nothing are a table
 pub empty_table : (p m : ℕ) → IsTable p m (replicate m None)
 empty_table p m = record {
   size = length-replicate m (nobody);
@@ -79,6 +88,7 @@ empty_table p m = record {
     nobody : Option Held
     nobody = None
 
+-- a table of nothing holds no row
 pub empty_held : (m c : ℕ) (held : Held) → held_at (replicate m None) c ≡ Some held → ⊥
 empty_held m c held there = elim (cases_lt c m) [
   | inl within ↦ none_is_some held (sym (get_or-replicate m c nobody None within) ∙ there)
@@ -102,6 +112,7 @@ module _ (p : ℕ) (modulus : IsFieldModulus p) where
   by_rows : (Q : Vt → Type 0) (table : List (Option Held)) → AreSpanned Q table → (v : Vt) → IsHeldVector p modulus table v → IsInSpan Kt ℕ Q v
   by_rows Q table s v h = subst (IsInSpan Kt ℕ Q) (sym h.is) (s h.column h.held h.there)
 
+  -- each row of a table is in the span of its rows
   pub own_rows : (table : List (Option Held)) → AreSpanned (IsHeldVector p modulus table) table
   own_rows table c held there = IsInSpan-one Kt ℕ (IsHeldVector p modulus table) (vec p modulus held.row)
       (record { column = c; held = held; there = there; is = refl })
@@ -112,6 +123,7 @@ module _ (p : ℕ) (modulus : IsFieldModulus p) where
     pub kept : (c : ℕ) (held : Held) → held_at table c ≡ Some held → held_at after c ≡ Some held
     pub reached : IsInSpan Kt ℕ (IsHeldVector p modulus after) (vec p modulus row)
 
+  -- an insertion keeps the table's rows, leaves all in each span that has these and the row, and has the row in the span of the rows
   pub has_inserted : (holder : ℕ) (Q : Vt → Type 0) (table : List (Option Held)) (row : List ℕ) (after : List (Option Held)) →
       IsInserted p holder table row after → HasInserted Q table row after
   has_inserted holder Q table row after (nothing left sum zeros is) =
@@ -156,7 +168,7 @@ module _ (p : ℕ) (modulus : IsFieldModulus p) where
             (IsInSpan-scaled Kt ℕ (IsHeldVector p modulus put) d (vec p modulus own.row) (own_rows put c own (put_there table c own within))));
       })
 
--- what is left of a row, made monic, in the table
+-- a table with what is left of a row, made monic, at the column where it leads freely is a table, and has the row inserted
 pub placed_from : (p holder at a : ℕ) (table : List (Option Held)) (items left : List ℕ) (own : Held) → IsTable p (length items) table →
     length left ≡ length items → IsPlusHeld p table items left → IsFirstFree table left at
     → a < p → product_of p a (get_or left at 0) ≡ 1 → own.holder ≡ holder → own.row ≡ map (λ r. product_of p a r) left
@@ -168,7 +180,7 @@ placed_from p holder at a table items left own h l sum first lt one own_holder o
       placed left at a own sum (omega (arith, below, h.size)) first.free lt one own_holder own_row refl,
     )
 
--- a row that leads at a column where no row of the table does, made monic, in the table
+-- a table with a row, made monic, at its leading column, where none led, is a table, and has the row inserted
 pub placed_first : (p holder at a : ℕ) (table : List (Option Held)) (row : List ℕ) (own : Held) → IsTable p (length row) table →
     IsLead row at → held_at table at ≡ None → a < p → product_of p a (get_or row at 0) ≡ 1 → own.holder ≡ holder →
     own.row ≡ map (λ r. product_of p a r) row

@@ -14,11 +14,13 @@ use Rattle.linear_algebra.specs.Mod.{Residue, of, residue_field, same_residue}
 use Rattle.back_reduce.specs.Rows.{vector}
 use Rattle.back_reduce.specs.Table.{IsLeader}
 
+-- a multiple added to a row leaves its length as it is
 pub length-plus_multiple : (p a : ℕ) (y x : List ℕ) → length (plus_multiple p a y x) ≡ length y
 length-plus_multiple p a [] x = refl
 length-plus_multiple p a (r ∷ y) [] = refl
 length-plus_multiple p a (r ∷ y) (s ∷ x) = ap suc (length-plus_multiple p a y x)
 
+-- at each column of two rows of one length, the residue is y + a * x modulo p
 pub plus_multiple-at : (p a : ℕ) (y x : List ℕ) (k : ℕ) → length y ≡ length x → k < length y →
     get_or (plus_multiple p a y x) k 0 ≡ (get_or y k 0 + a * get_or x k 0) % p
 plus_multiple-at p a [] x k l within = absurd (omega (arith, within))
@@ -97,11 +99,13 @@ entry-plus p a (r ∷ y) [] c l = absurd (omega (arith, l))
 entry-plus p a (r ∷ y) (s ∷ x) zero l = mod-mod (r + a * s) p
 entry-plus p a (r ∷ y) (s ∷ x) (suc c) l = entry-plus p a y x c (omega (arith, l))
 
+-- the entry of a function's image is the function of the entry, also past the end, where the function keeps 0
 pub entry-map : (f : ℕ → ℕ) → f 0 ≡ 0 → (row : List ℕ) (c : ℕ) → get_or (map f row) c 0 ≡ f (get_or row c 0)
 entry-map f none [] c = sym none
 entry-map f none (r ∷ row) zero = refl
 entry-map f none (r ∷ row) (suc c) = entry-map f none row c
 
+-- a times 0 is 0 modulo p
 pub scaled_zero : (p a : ℕ) → product_of p a 0 ≡ 0
 scaled_zero p a = ap (λ (n : ℕ). n % p) (mul-zero a) ∙ zero-mod p
 
@@ -118,10 +122,12 @@ module _ (p : ℕ) (modulus : IsFieldModulus p) where
   abbrev pub vec : List ℕ → V
   vec row = vector p modulus row
 
+  -- the vector of y + a * x is that of y plus a times that of x, for rows of one length
   pub vec-plus : (a : ℕ) (y x : List ℕ) → length y ≡ length x → (c : ℕ) → vec (plus_multiple p a y x) c ≡ K.add (vec y c) (K.mul (res a) (vec x c))
   vec-plus a y x l c = same_residue p _ _ (entry-plus p a y x c l ∙ add-mod (get_or y c 0) (a * get_or x c 0) p
       ∙ ap (λ (n : ℕ). (get_or y c 0 % p + n) % p) (mul-mod a (get_or x c 0) p))
 
+  -- the vector of a * row is a times that of the row
   pub vec-scaled : (a : ℕ) (row : List ℕ) (c : ℕ) → vec (map (λ r. product_of p a r) row) c ≡ K.mul (res a) (vec row c)
   vec-scaled a row c = same_residue p _ _ (
       ap (λ (n : ℕ). n % p) (entry-map (λ r. product_of p a r) (scaled_zero p a) row c)
@@ -131,8 +137,10 @@ module _ (p : ℕ) (modulus : IsFieldModulus p) where
   pub vec-past : (row : List ℕ) (c : ℕ) → length row < c + 1 → vec row c ≡ K.zero
   vec-past row c past = same_residue p _ _ (ap (λ (n : ℕ). n % p) (get_or_past row c 0 (omega (arith, past))))
 
+  -- where the row has 0, so has its vector
   pub vec-zero : (row : List ℕ) (c : ℕ) → get_or row c 0 ≡ 0 → vec row c ≡ K.zero
   vec-zero row c none = same_residue p _ _ (ap (λ (n : ℕ). n % p) none)
 
+  -- where the row has 1, so has its vector
   pub vec-one : (row : List ℕ) (c : ℕ) → get_or row c 0 ≡ 1 → vec row c ≡ K.one
   vec-one row c one = same_residue p _ _ (ap (λ (n : ℕ). n % p) one)

@@ -1,9 +1,8 @@
--- The greatest degrees of terms, one term after another, and what they say of the sum.
-use Rattle.std.proofs.Common.{◌≡◌, ◌≢◌, ◌⊎◌, ◌≤◌, ℕ, max, List, [], ◌∷◌, ◌++◌, Option, None, Some, refl, ◌∙◌, inl, inr, arith, subst}
-use Rattle.std.specs.Prelude.{MatchOption, unwrap_or}
+-- The greatest degrees of terms, and what they say of the sum.
+use Rattle.std.proofs.Common.{◌≡◌, ◌⊎◌, ◌≤◌, ℕ, List, [], Option, ◌∙◌, inl, inr, arith, subst}
+use Rattle.std.specs.Prelude.{MatchOption}
 use Rattle.std.specs.List.{Contains}
-use Rattle.std.proofs.lemmas.Bool.{cases_lt}
-use Rattle.std.proofs.lemmas.List.Elements.{All-contains, All-nil, All-push, All-weaker, Contains-append_left, Contains-push}
+use Rattle.std.proofs.lemmas.List.Elements.{All-contains}
 use Rattle.words.specs.Words.{degree_of}
 use Rattle.words.proofs.Members.{Contains-none}
 use Rattle.free_poly.specs.declared.term.Term.{Term}
@@ -17,64 +16,6 @@ abbrev pub IsNextAnswer : List ℕ → List Term → ℕ → Option ℕ → Type
 IsNextAnswer weights f first answer = MatchOption answer (HasDegree weights first f) (IsNextDegree weights f first)
 
 module _ (weights : List ℕ) where
-  pub IsGreatestDegree-none : IsGreatestDegree weights [] 0
-  IsGreatestDegree-none = record { most = All-nil (λ t. degree_of weights t.word ≤ 0); some = inl (refl, refl) }
-
-  pub IsGreatestDegree-push : (f : List Term) (t : Term) (d : ℕ) → IsGreatestDegree weights f d →
-      IsGreatestDegree weights (f ++ t ∷ []) (max d (degree_of weights t.word))
-  IsGreatestDegree-push f t d h = record {
-    most = All-push (λ s. degree_of weights s.word ≤ max d (degree_of weights t.word)) f t
-        (All-weaker (λ s. degree_of weights s.word ≤ d) (λ s. degree_of weights s.word ≤ max d (degree_of weights t.word))
-        (λ s le. omega (arith, le)) f h.most) (omega arith);
-    some = elim (cases_lt d (degree_of weights t.word)) [
-      | inl above ↦ inr (t, Contains-push f t, omega (arith, above))
-      | inr within ↦ elim h.some [
-        | inl none ↦ inr (t, Contains-push f t, omega (arith, within, none.1))
-        | inr old ↦ inr (old.0, Contains-append_left f (t ∷ []) old.0 old.1, omega (arith, within, old.2))
-      ]
-    ];
-  }
-
-  module _ (first : ℕ) where
-    pub IsNextAnswer-same : (f : List Term) (t : Term) (answer : Option ℕ) → degree_of weights t.word ≡ first →
-        IsNextAnswer weights f first answer → IsNextAnswer weights (f ++ t ∷ []) first answer
-    IsNextAnswer-same f t None is h = All-push (λ s. degree_of weights s.word ≡ first) f t h is
-    IsNextAnswer-same f t (Some other) is h = record {
-      apart = h.apart;
-      most = All-push (λ s. (degree_of weights s.word ≡ first) ⊎ (degree_of weights s.word ≤ other)) f t h.most (inl is);
-      some = (h.some.0, Contains-append_left f (t ∷ []) h.some.0 h.some.1, h.some.2);
-    }
-
-    more : (n other : ℕ) → other ≤ n → (m : ℕ) → (m ≡ first) ⊎ (m ≤ other) → (m ≡ first) ⊎ (m ≤ n)
-    more n other le m (inl e) = inl e
-    more n other le m (inr b) = inr (omega (arith, le, b))
-
-    pub IsNextAnswer-other : (f : List Term) (t : Term) (answer : Option ℕ) → degree_of weights t.word ≢ first → IsNextAnswer weights f first answer
-        → IsNextAnswer weights (f ++ t ∷ []) first (Some (max (degree_of weights t.word) (unwrap_or answer 0)))
-    IsNextAnswer-other f t None other h =
-        let d = max (degree_of weights t.word) 0 in record {
-          apart = λ e. other (omega (arith, e));
-          most = All-push (λ s. (degree_of weights s.word ≡ first) ⊎ (degree_of weights s.word ≤ d)) f t
-              (All-weaker (λ s. degree_of weights s.word ≡ first) (λ s. (degree_of weights s.word ≡ first) ⊎ (degree_of weights s.word ≤ d))
-              (λ s e. inl e) f h) (inr (omega arith));
-          some = (t, Contains-push f t, omega arith);
-        }
-    IsNextAnswer-other f t (Some old) other h =
-        let d = max (degree_of weights t.word) old in record {
-          apart = λ e. elim (cases_lt (degree_of weights t.word) old) [
-            | inl above ↦ h.apart (omega (arith, above, e))
-            | inr within ↦ other (omega (arith, within, e))
-          ];
-          most = All-push (λ s. (degree_of weights s.word ≡ first) ⊎ (degree_of weights s.word ≤ d)) f t
-              (All-weaker (λ s. (degree_of weights s.word ≡ first) ⊎ (degree_of weights s.word ≤ old))
-              (λ s. (degree_of weights s.word ≡ first) ⊎ (degree_of weights s.word ≤ d))
-              (λ s c. more d old (omega arith) (degree_of weights s.word) c) f h.most) (inr (omega arith));
-          some = elim (cases_lt (degree_of weights t.word) old) [
-            | inl above ↦ (h.some.0, Contains-append_left f (t ∷ []) h.some.0 h.some.1, omega (arith, above, h.some.2))
-            | inr within ↦ (t, Contains-push f t, omega (arith, within))
-          ];
-        }
-
   -- the two degrees of a polynomial are those of each sum that is the same element
   pub HasTwoDegrees-from : (p : ℕ) (f g : List Term) (first other : ℕ) → IsPolynomial f → HasResidues p f → IsSame p f g
       → IsGreatestDegree weights f first → IsNextDegree weights f first other → HasTwoDegrees p weights g first other

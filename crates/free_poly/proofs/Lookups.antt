@@ -37,6 +37,7 @@ standing-le w s t above = elim (compared w t.word) [
         let low : ordering_index (standing w s) ≡ 0 = ap ordering_index (letterwise_total.antisymm w s.word ∙ ap ordering_reverse g) in
         omega (arith, low)
 
+-- along a polynomial the comparison of a word with the terms' words goes from less over equal to greater
 pub standing-rises : (w : List ℕ) (f : List Term) → IsPolynomial f → IsNonDecreasingBy (λ t. ordering_index (standing w t)) f
 standing-rises w f form i j d ordered within = elim (cases_eq i j) [
   | inl e ↦ let is : ordering_index (standing w (get_or f i d)) ≡ ordering_index (standing w (get_or f j d)) =
@@ -44,11 +45,13 @@ standing-rises w f form i j d ordered within = elim (cases_eq i j) [
   | inr other ↦ standing-le w (get_or f i d) (get_or f j d) (form.falling i j d (omega (arith, ordered, other)) within)
 ]
 
+-- the coefficient at a word is that of a term whose word compares as equal to it
 pub total_at-standing : (w : List ℕ) (f : List Term) (i : ℕ) (t : Term) → IsPolynomial f → i < length f →
     HoldsAt (λ s. standing w s ≡ Equal) f i → total_at f w ≡ (get_or f i t).coefficient
 total_at-standing w f i t form within found = total_at-found f i t w (AreApart-from_polynomial f form) within
     (sym (letterwise-IsAntisymmetric w (get_or f i t).word (found t)))
 
+-- the coefficient at a word is 0 where it is less than each word before some place and greater than each word from there on
 pub total_at-between : (w : List ℕ) (f : List Term) (i : ℕ) → IsPartitionPoint (λ s. standing w s ≡ Less) (λ s. standing w s ≡ Greater) f i → total_at f w ≡ 0
 total_at-between w f i parts = total_at-absent f w (λ k d within e. elim (cases_lt k i) [
   | inl before ↦ letterwise-apart (get_or f k d).word w (less_says w (get_or f k d).word (parts.0 k d (omega arith) before)) e

@@ -2,7 +2,7 @@
 use Rattle.std.proofs.Common.{ap₂, ◌≡◌, ◌≢◌, ◌+◌, ◌*◌, ◌-◌, ◌<◌, ◌%◌, ℕ, Bool, true, false, cond, ◌==◌, List, [], ◌∷◌, ◌++◌, length, get_or, take}
 use Rattle.std.proofs.Common.{drop, refl, sym, ap, ◌∙◌, inl, inr, arith, bytes_eq, zero-add, add-zero, mul-zero, append-nil, All, subst}
 use Rattle.std.proofs.Math.Nat.{add-mod-mod, mod-eq_of_lt, mod-lt, mul-add, zero-mod}
-use Rattle.std.proofs.lemmas.Bool.{cases_Bool, eqb-true}
+use Rattle.std.proofs.lemmas.Bool.{cases_Bool, eqb-false, eqb-true}
 use Rattle.std.proofs.lemmas.List.Elements.{All-cons, All-head, All-nil, All-push, All-tail}
 use Rattle.std.proofs.lemmas.List.Quantifiers.{all_pairs_push}
 use Rattle.std.proofs.lemmas.List.{take_all}
@@ -35,6 +35,7 @@ pub record Merges (p a : ℕ) (f g made first second : List Term) : Type 0 where
   pub first_left : IsLeft p made first
   pub second_left : IsLeft p made second
 
+-- the term with coefficient c at w has c at w, and 0 at each other word
 pub total_at-term_at : (w : List ℕ) (c : ℕ) (v : List ℕ) → total_at (term_at w c) v ≡ cond (bytes_eq w v) c 0
 total_at-term_at w c v = elim (cases_Bool (c == 0)) [
   | inl none ↦ rw none (sym (zero_if (bytes_eq w v) c (eqb-true c 0 none)))
@@ -58,14 +59,11 @@ IsPolynomial-made made w c form above = elim (cases_Bool (c == 0)) [
   | inl none ↦ rw (none, append-nil) form
   | inr some ↦ rw some (record {
     falling = all_pairs_push (λ s t. IsLetterwiseGreater s.word t.word) made (record { word = w; coefficient = c }) form.falling above;
-    nonzero = All-push (λ t. t.coefficient ≢ 0) made (record { word = w; coefficient = c }) form.nonzero (λ e. other c some e);
+    nonzero = All-push (λ t. t.coefficient ≢ 0) made (record { word = w; coefficient = c }) form.nonzero (eqb-false c 0 some);
   })
 ]
-  where
-    other : (n : ℕ) → (n == 0) ≡ false → n ≢ 0
-    other n f e = let t : (n == 0) ≡ true = ap (λ (m : ℕ). m == 0) e in cc
 
--- a list with a first term
+-- the first term that is left is below each term that was made
 pub first_above : (p : ℕ) (made : List Term) (x : Term) (left : List Term) → IsLeft p made (x ∷ left) → All (λ t. IsLetterwiseGreater t.word x.word) made
 first_above p made x left h k d within = All-head (λ t. IsLetterwiseGreater (get_or made k d).word t.word) x left (h.below k d within)
 
@@ -103,10 +101,6 @@ taken p a m v x y r s e =
 made_total : (made : List Term) (w : List ℕ) (c : ℕ) (v : List ℕ) → total_at (made ++ term_at w c) v ≡ total_at made v + cond (bytes_eq w v) c 0
 made_total made w c v = total_at-append made (term_at w c) v ∙ ap (λ (n : ℕ). total_at made v + n) (total_at-term_at w c v)
 
--- at the first word of one list
-at_first : (x : Term) (left : List Term) (w : List ℕ) → total_at (x ∷ left) w ≡ cond (bytes_eq x.word w) x.coefficient 0 + total_at left w
-at_first x left w = refl
-
 if_residue : (p : ℕ) (b : Bool) (c : ℕ) → c < p → cond b c 0 ≡ (cond b c 0 + 0) % p
 if_residue p true c below = sym (ap (λ (n : ℕ). n % p) (add-zero c) ∙ mod-eq_of_lt below)
 if_residue p false c below = sym (zero-mod p)
@@ -120,6 +114,7 @@ if_sum p a true c x y e = e ∙ add-mod-mod x (a * y) p
 if_sum p a false c x y e = sym (ap (λ (n : ℕ). n % p) (zero-add (a * 0) ∙ mul-zero a) ∙ zero-mod p)
 
 module _ (p a : ℕ) (f g made : List Term) where
+  -- the first term of the first list is the next that is made, where its word is above all words left of the second
   pub Merges-first : (x : Term) (first second : List Term) → Merges p a f g made (x ∷ first) second → IsAbove x.word second
       → Merges p a f g (made ++ term_at x.word x.coefficient) first second
   Merges-first x first second m above =
@@ -139,6 +134,7 @@ module _ (p a : ℕ) (f g made : List Term) where
       by_test : (b : Bool) (c : ℕ) → c < p → cond b c 0 ≡ (cond b c 0 + a * 0) % p
       by_test b c below = if_residue p b c below ∙ ap (λ (n : ℕ). (cond b c 0 + n) % p) (sym (mul-zero a))
 
+  -- a times the first term of the second list is the next that is made, where its word is above all words left of the first
   pub Merges-second : (y : Term) (c : ℕ) (first second : List Term) → c ≡ (a * y.coefficient) % p → 0 < p →
       Merges p a f g made first (y ∷ second) → IsAbove y.word first
       → Merges p a f g (made ++ term_at y.word c) first second
@@ -155,6 +151,7 @@ module _ (p a : ℕ) (f g made : List Term) where
     second_left = IsLeft-rest p made y second y.word c m.second_left refl;
   }
 
+  -- where both lists begin with one word, the sum of their first terms, the second taken a times, is the next that is made
   pub Merges-both : (x y : Term) (c : ℕ) (first second : List Term) → x.word ≡ y.word → c ≡ (x.coefficient + (a * y.coefficient) % p) % p → 0 < p
       → Merges p a f g made (x ∷ first) (y ∷ second) → Merges p a f g (made ++ term_at x.word c) first second
   Merges-both x y c first second same is some m = record {
@@ -172,9 +169,11 @@ module _ (p a : ℕ) (f g made : List Term) where
     second_left = IsLeft-rest p made y second x.word c m.second_left same;
   }
 
+-- before any term is made, all of a polynomial with residues is left
 pub IsLeft-none : (p : ℕ) (f : List Term) → IsPolynomial f → HasResidues p f → IsLeft p [] f
 IsLeft-none p f form residues = record { form = form; residues = residues; below = All-nil (λ t. IsAbove t.word f) }
 
+-- before any term is made, all of the two polynomials with residues is left
 pub Merges-none : (p a : ℕ) (f g : List Term) → IsPolynomial f → IsPolynomial g → HasResidues p f → HasResidues p g → Merges p a f g [] f g
 Merges-none p a f g hf hg rf rg = record {
   sum = λ w. ap (λ (n : ℕ). (n + a * total_at g w) % p) (zero-add (total_at f w));
@@ -184,6 +183,7 @@ Merges-none p a f g hf hg rf rg = record {
   second_left = IsLeft-none p g hg rg;
 }
 
+-- where nothing is left of either, the terms that were made are f + a * g modulo p
 pub Merges-all : (p a : ℕ) (f g made : List Term) → Merges p a f g made [] [] → IsSame p made (f ++ scaled a g)
 Merges-all p a f g made m w =
     let whole : total_at made w + 0 + a * 0 ≡ total_at made w = omega (arith, mul-zero a) in
@@ -199,6 +199,7 @@ after_first-cons : (t : Term) (f : List Term) → after_first (t ∷ f) ≡ f
 after_first-cons t f = take_all (length (t ∷ f) - 1) f (omega arith)
 
 module _ (p a : ℕ) (f g made : List Term) where
+  -- where the first list begins with the greater word, or is the only one with a word, its first term is made and is left no more
   pub step_first : (first second : List Term) (x : Term) → 0 < length first + length second → firsts_cmp first second ≡ Greater → x ≡ get_or first 0 x
       → Merges p a f g made first second → Merges p a f g (made ++ term_at x.word x.coefficient) (after_first first) second
   step_first [] [] x some e is m = absurd (omega (arith, some))
@@ -208,6 +209,7 @@ module _ (p a : ℕ) (f g made : List Term) where
   step_first (t ∷ first) (u ∷ second) x some e is m =
       rw (after_first-cons, is) (Merges-first p a f g made t first (u ∷ second) m (above_from_first t.word u second m.second_left.form e))
 
+  -- where the second list begins with the greater word, or is the only one with a word, a times its first term is made and is left no more
   pub step_second : (first second : List Term) (y : Term) (c : ℕ) → 0 < p → firsts_cmp first second ≡ Less → y ≡ get_or second 0 y → c ≡ (a * y.coefficient) % p
       → Merges p a f g made first second → Merges p a f g (made ++ term_at y.word c) first (after_first second)
   step_second first [] y c some e is value m = cc e
@@ -219,6 +221,7 @@ module _ (p a : ℕ) (f g made : List Term) where
       let above : IsLetterwiseGreater u.word t.word = less_says t.word u.word e in
       rw (after_first-cons, is) (Merges-second p a f g made u c (t ∷ first) second same some m (above_from_first u.word t first m.first_left.form above))
 
+  -- where the two lists begin with one word, the sum of their first terms is made and neither is left any more
   pub step_both : (first second : List Term) (x y : Term) (c : ℕ) → 0 < p → firsts_cmp first second ≡ Equal → x ≡ get_or first 0 x →
       y ≡ get_or second 0 y → c ≡ (x.coefficient + (a * y.coefficient) % p) % p
       → Merges p a f g made first second → Merges p a f g (made ++ term_at x.word c) (after_first first) (after_first second)

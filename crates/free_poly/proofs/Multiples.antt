@@ -1,22 +1,24 @@
 -- Multiples of a polynomial by a residue that has an inverse.
 use Rattle.std.proofs.Common.{ap₂, ◌≡◌, ◌≢◌, ◌+◌, ◌*◌, ◌<◌, ◌%◌, ℕ, Bool, true, false, cond, List, [], ◌∷◌, map, refl, sym, ap, ◌∙◌, arith, bytes_eq, mul-zero}
-use Rattle.std.proofs.Math.Nat.{add-mod, mod-eq_of_lt, mod-lt, mod-mod, mul_assoc, mul_comm, one-mul, zero-mod}
+use Rattle.std.proofs.Math.Nat.{add-mod, mod-eq_of_lt, mod-lt, mod-mod, mul_assoc, one-mul, zero-mod}
 use Rattle.std.proofs.lemmas.Nat.{mul-mod_first, mul-mod_second}
 use Rattle.std.proofs.lemmas.List.Elements.{All-map}
 use Rattle.words.specs.Order.{IsLetterwiseGreater}
 use Rattle.words.proofs.Members.{AllPairs-map}
 use Rattle.free_poly.specs.declared.term.Term.{Term}
 use Rattle.free_poly.specs.Terms.{HasResidues, IsSame, scaled, total_at}
-use Rattle.free_poly.specs.Poly.{IsMonic, IsMultiple, IsPolynomial}
+use Rattle.free_poly.specs.Poly.{IsMultiple, IsPolynomial}
 
 -- a times each coefficient, as residues
 abbrev pub multiple_of : ℕ → ℕ → List Term → List Term
 multiple_of p a f = map (λ t. record { word = t.word; coefficient = (a * t.coefficient) % p }) f
 
+-- a multiple has the words of the polynomial, in their order
 pub map-words-multiple_of : (p a : ℕ) (f : List Term) → map (λ (t : Term). t.word) (multiple_of p a f) ≡ map (λ (t : Term). t.word) f
 map-words-multiple_of p a [] = refl
 map-words-multiple_of p a (t ∷ f) = ap (λ (ws : List (List ℕ)). t.word ∷ ws) (map-words-multiple_of p a f)
 
+-- a multiple whose coefficients are taken modulo p is the same element as a * f
 pub IsSame-multiple_of : (p a : ℕ) (f : List Term) → IsSame p (multiple_of p a f) (scaled a f)
 IsSame-multiple_of p a [] w = refl
 IsSame-multiple_of p a (t ∷ f) w =
@@ -29,6 +31,7 @@ IsSame-multiple_of p a (t ∷ f) w =
     once true n = mod-mod n p
     once false n = refl
 
+-- the coefficients of a multiple are residues
 pub HasResidues-multiple_of : (p a : ℕ) (f : List Term) → 0 < p → HasResidues p (multiple_of p a f)
 HasResidues-multiple_of p a f some = All-map (λ t. t.coefficient < p) (λ t. record { word = t.word; coefficient = (a * t.coefficient) % p })
     f (λ k d within. mod-lt _ some)
@@ -43,6 +46,7 @@ module _ (p a c : ℕ) (inverse : (c * a) % p ≡ 1) where
   kept n below other e =
       other (sym (mod-eq_of_lt below) ∙ sym (undone n) ∙ ap (λ (m : ℕ). (c * m) % p) e ∙ ap (λ (m : ℕ). m % p) (mul-zero c) ∙ zero-mod p)
 
+  -- a times a polynomial with residues is a polynomial, as a has an inverse
   pub IsPolynomial-multiple_of : (f : List Term) → IsPolynomial f → HasResidues p f → IsPolynomial (multiple_of p a f)
   IsPolynomial-multiple_of f form residues = record {
     falling = AllPairs-map (λ t. record { word = t.word; coefficient = (a * t.coefficient) % p })
@@ -54,8 +58,6 @@ module _ (p a c : ℕ) (inverse : (c * a) % p ≡ 1) where
   other_factor : a ≢ 0
   other_factor e = let zero : (c * a) % p ≡ 0 = ap (λ (n : ℕ). (c * n) % p) e ∙ ap (λ (n : ℕ). n % p) (mul-zero c) ∙ zero-mod p in omega (arith, inverse, zero)
 
+  -- a times a polynomial is its multiple by a residue other than 0, as a has an inverse
   pub IsMultiple-multiple_of : (f : List Term) → a < p → IsMultiple p (multiple_of p a f) f
   IsMultiple-multiple_of f below = record { factor = a; other = omega (arith, other_factor); residue = below; same = IsSame-multiple_of p a f }
-
-  pub IsMonic-multiple_of : (t : Term) (f : List Term) → t.coefficient ≡ c → IsMonic (multiple_of p a (t ∷ f))
-  IsMonic-multiple_of t f lead = ap (λ (n : ℕ). (a * n) % p) lead ∙ ap (λ (n : ℕ). n % p) (mul_comm a c) ∙ inverse

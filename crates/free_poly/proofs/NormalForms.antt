@@ -1,5 +1,6 @@
 -- Two polynomials with the same coefficients are one.
 use Rattle.std.proofs.Common.{ap₂, ◌≡◌, ◌≢◌, ◌+◌, ◌<◌, ◌%◌, ℕ, Bool, cond, List, [], ◌∷◌, refl, sym, ap, ◌∙◌, zero-add, add-zero}
+use Rattle.std.proofs.Common.{Some, subst}
 use Rattle.std.proofs.Math.Nat.{mod-eq_of_lt, zero-mod}
 use Rattle.std.proofs.lemmas.List.Elements.{All-cons, All-head, All-tail}
 use Rattle.std.specs.Ordering.{ordering_reverse}
@@ -10,7 +11,7 @@ use Rattle.words.proofs.Members.{AllPairs-first, AllPairs-rest}
 use Rattle.words.specs.OrderLaws.{letterwise-IsAntisymmetric, letterwise_total}
 use Rattle.free_poly.specs.declared.term.Term.{Term}
 use Rattle.free_poly.specs.Terms.{HasResidues, IsSame, total_at}
-use Rattle.free_poly.specs.Poly.{IsPolynomial}
+use Rattle.free_poly.specs.Poly.{IsPolynomial, lead_of}
 use Rattle.free_poly.proofs.Totals.{here, not_here, total_at-absent, letterwise-apart}
 
 -- of two words one is greater, or they are one
@@ -19,6 +20,7 @@ pub data IsCompared (a b : List ℕ) : Type 0 where
   same : a ≡ b → IsCompared a b
   smaller : IsLetterwiseGreater b a → IsCompared a b
 
+-- of any two words one is greater letter by letter, or they are equal
 pub compared : (a b : List ℕ) → IsCompared a b
 compared a b = by_answer (letterwise_cmp a b) refl
   where
@@ -27,12 +29,14 @@ compared a b = by_answer (letterwise_cmp a b) refl
     by_answer Equal e = same (letterwise-IsAntisymmetric a b e)
     by_answer Less e = smaller (letterwise_total.antisymm b a ∙ ap ordering_reverse e)
 
+-- without its first term a polynomial is one
 pub IsPolynomial-rest : (t : Term) (f : List Term) → IsPolynomial (t ∷ f) → IsPolynomial f
 IsPolynomial-rest t f h = record {
   falling = AllPairs-rest (λ s t. IsLetterwiseGreater s.word t.word) t f h.falling;
   nonzero = All-tail (λ (t : Term). t.coefficient ≢ 0) t f h.nonzero;
 }
 
+-- the order letter by letter is transitive
 pub letterwise-trans : (a b c : List ℕ) → IsLetterwiseGreater a b → IsLetterwiseGreater b c → IsLetterwiseGreater a c
 letterwise-trans a b c g h =
     let flip : (x y : List ℕ) → IsLetterwiseGreater x y → letterwise_cmp y x ≡ Less = λ x y i. letterwise_total.antisymm y x ∙ ap ordering_reverse i in
@@ -43,6 +47,11 @@ pub above_all : (w : List ℕ) (t : Term) (f : List Term) → IsPolynomial (t �
 above_all w t f h g = total_at-absent (t ∷ f) w (All-cons (λ (s : Term). s.word ≢ w) t f (λ e. letterwise-apart w t.word g (sym e))
     (λ k d within e. letterwise-apart w _ (letterwise-trans w t.word _ g
     (AllPairs-first (λ s t. IsLetterwiseGreater s.word t.word) t f h.falling k d within)) (sym e)))
+
+-- at a word that is greater than the leading word a polynomial has nothing
+pub above_lead : (f : List Term) (w y : List ℕ) → IsPolynomial f → lead_of f ≡ Some w → IsLetterwiseGreater y w → total_at f y ≡ 0
+above_lead [] w y h e g = refl
+above_lead (t ∷ f) w y h e g = let is : t.word ≡ w = cc e in above_all y t f h (subst (IsLetterwiseGreater y) (sym is) g)
 
 -- a residue other than 0 stays so
 kept : (p c : ℕ) → c < p → c ≢ 0 → c % p ≡ 0 % p → ⊥
@@ -72,6 +81,7 @@ rest_same p t u f g hf hg e c w s = elim (compared t.word w) [
     apart : t.word ≢ w → total_at f w % p ≡ total_at g w % p
     apart ne = ap (λ (n : ℕ). n % p) (sym (skipped t f ne)) ∙ s ∙ ap (λ (n : ℕ). n % p) (skipped u g (λ is. ne (e ∙ is)))
 
+-- two polynomials with residues that have the same coefficients modulo p at all words are equal
 pub same_polynomials : (p : ℕ) (f g : List Term) → IsPolynomial f → IsPolynomial g → HasResidues p f → HasResidues p g → IsSame p f g → f ≡ g
 same_polynomials p [] [] hf hg rf rg s = refl
 same_polynomials p [] (t ∷ g) hf hg rf rg s =

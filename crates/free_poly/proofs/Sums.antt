@@ -37,14 +37,15 @@ pub words_of_same : (p : ℕ) (P : List ℕ → Type 0) (f g : List Term) → Is
     All (λ t. P t.word) g → All (λ t. P t.word) f
 words_of_same p P f g form residues same h k d within = word_from_same p P f g _ same (Stands-own p f form residues k d within) h
 
+-- to be one element modulo p is symmetric
 pub IsSame-back : (p : ℕ) (f g : List Term) → IsSame p f g → IsSame p g f
 IsSame-back p f g same w = sym (same w)
 
--- the totals modulo p are the same element
+-- a sum whose coefficients are those of another modulo p is the same element
 pub IsSame-from_totals : (p : ℕ) (f g : List Term) → ((w : List ℕ) → total_at f w ≡ total_at g w % p) → IsSame p f g
 IsSame-from_totals p f g totals w = ap (λ (n : ℕ). n % p) (totals w) ∙ mod-mod (total_at g w) p
 
--- the polynomial whose totals are those of the sum modulo p
+-- a polynomial whose coefficients are those of a sum with residues, modulo p, has residues
 pub HasResidues-from_totals : (p : ℕ) (f g : List Term) → IsPolynomial f → ((w : List ℕ) → total_at f w ≡ total_at g w % p) → HasResidues p g → HasResidues p f
 HasResidues-from_totals p f g form totals residues k d within =
     let own : total_at f (get_or f k d).word ≡ (get_or f k d).coefficient = total_at-found f k d _ (AreApart-from_polynomial f form) within refl in
@@ -53,13 +54,16 @@ HasResidues-from_totals p f g form totals residues k d within =
     (λ e. form.nonzero k d within (is ∙ ap (λ (n : ℕ). n % p) e ∙ zero-mod p)) (λ i e inside. omega (arith, residues i e inside)) in
     subst (λ (n : ℕ). n < p) (sym is) (mod-lt _ some)
 
+-- a polynomial with residues is over so many letters where a sum of terms is that is the same element modulo p
 pub UsesLetters-from_same : (p names : ℕ) (f g : List Term) → IsPolynomial f → HasResidues p f → IsSame p f g → UsesLetters names g → UsesLetters names f
 UsesLetters-from_same p names f g form residues same letters = words_of_same p (IsOver names) f g form residues same letters
 
+-- a polynomial with residues has degree d where a sum of terms has it that is the same element modulo p
 pub HasDegree-from_same : (p : ℕ) (weights : List ℕ) (d : ℕ) (f g : List Term) → IsPolynomial f → HasResidues p f → IsSame p f g →
     HasDegree weights d g → HasDegree weights d f
 HasDegree-from_same p weights d f g form residues same degrees = words_of_same p (λ w. degree_of weights w ≡ d) f g form residues same degrees
 
+-- where a sum's words have degrees below a bound, so have those of a polynomial with residues that is the same element modulo p
 pub degrees_from_same : (p : ℕ) (weights : List ℕ) (most : ℕ) (f g : List Term) → IsPolynomial f → HasResidues p f → IsSame p f g
     → All (λ t. degree_of weights t.word < most) g → All (λ t. degree_of weights t.word < most) f
 degrees_from_same p weights most f g form residues same degrees = words_of_same p (λ w. degree_of weights w < most) f g form residues same degrees

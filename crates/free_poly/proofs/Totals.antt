@@ -13,16 +13,24 @@ use Rattle.free_poly.specs.declared.term.Term.{Term}
 use Rattle.free_poly.specs.Terms.{HasResidues, scaled, total_at}
 use Rattle.free_poly.specs.Poly.{IsPolynomial}
 
+-- different words fail the test of equality
 pub not_here : (a b : List ℕ) → a ≢ b → bytes_eq a b ≡ false
 not_here a b ne = false_from_ne_true (bytes_eq a b) (λ e. ne ((bytes_eq-Decides a b).0 e))
 
+-- equal words pass the test of equality
 pub here : (a b : List ℕ) → a ≡ b → bytes_eq a b ≡ true
 here a b e = (bytes_eq-Decides a b).1 e
 
+-- words that fail the test of equality are different
+pub not_equal : (a b : List ℕ) → bytes_eq a b ≡ false → a ≢ b
+not_equal a b other e = let same : bytes_eq a b ≡ true = here a b e in cc
+
+-- the coefficient of a sum is the sum of the coefficients
 pub total_at-append : (f g : List Term) (w : List ℕ) → total_at (f ++ g) w ≡ total_at f w + total_at g w
 total_at-append [] g w = sym (zero-add (total_at g w))
 total_at-append (t ∷ f) g w = ap (λ (n : ℕ). cond (bytes_eq t.word w) t.coefficient 0 + n) (total_at-append f g w) ∙ sym (add_assoc _ _ _)
 
+-- at a word that none of the terms has, the coefficient is 0
 pub total_at-absent : (f : List Term) (w : List ℕ) → All (λ t. t.word ≢ w) f → total_at f w ≡ 0
 total_at-absent [] w h = refl
 total_at-absent (t ∷ f) w h =
@@ -42,6 +50,7 @@ letterwise-apart (x ∷ a) (y ∷ b) g e =
 abbrev pub AreApart : List Term → Type 0
 AreApart f = AllPairs (λ s t. s.word ≢ t.word) f
 
+-- the words of a polynomial are all different
 pub AreApart-from_polynomial : (f : List Term) → IsPolynomial f → AreApart f
 AreApart-from_polynomial f h i j d below within = letterwise-apart _ _ (h.falling i j d below within)
 
@@ -49,6 +58,7 @@ AreApart-from_polynomial f h i j d below within = letterwise-apart _ _ (h.fallin
 rest_apart : (t : Term) (f : List Term) → AreApart (t ∷ f) → All (λ s. s.word ≢ t.word) f
 rest_apart t f h k d within e = h zero (suc k) d (omega arith) (omega arith) (sym e)
 
+-- words that are all different remain so without the first
 pub AreApart-tail : (t : Term) (f : List Term) → AreApart (t ∷ f) → AreApart f
 AreApart-tail t f h i j d below within = h (suc i) (suc j) d (omega arith) (omega arith)
 
@@ -77,6 +87,7 @@ total_at-found (t ∷ f) (suc i) d w h within e =
     let other : t.word ≢ w = λ is. h zero (suc i) d (omega arith) within (is ∙ sym e) in
     rw (not_here t.word w other, zero-add) (total_at-found f i d w (AreApart-tail t f h) (omega arith) e)
 
+-- the coefficient of a times a sum is a times its coefficient
 pub total_at-scaled : (a : ℕ) (f : List Term) (w : List ℕ) → total_at (scaled a f) w ≡ a * total_at f w
 total_at-scaled a [] w = sym (mul-zero a)
 total_at-scaled a (t ∷ f) w =

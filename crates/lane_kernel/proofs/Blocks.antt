@@ -13,17 +13,19 @@ use Rattle.lane_kernel.specs.Lanes.{IsAddedUpto}
 use borrow.Rule.Slice.PartMut.{put_mid}
 use lib.Lanes.{chunk, put_chunk, zip2, Each1}
 
+-- eight places of a list of residues, one after another, hold residues
 pub residue_chunk : (p at : ℕ) (xs : List ℕ) → All (λ r. r < p) xs → at + 8 ≤ length xs → Each1 (λ r. r < p) (chunk at 8 xs)
 residue_chunk p at xs h room = Each1-from_get_or (λ r. r < p) (chunk at 8 xs) 0 (λ i within. (
     let low : i < 8 = omega (arith, within, length-chunk at 8 xs room) in
     subst (λ (n : ℕ). n < p) (sym (get_or-chunk at 8 xs i 0 low)) (h (at + i) 0 (omega (arith, low, room)))))
 
+-- the eight places from the first one on to which nothing is added yet hold residues
 pub rest_chunk : (p a at : ℕ) (y x now : List ℕ) → All (λ r. r < p) y → IsAddedUpto p a y x at now → at + 8 ≤ length y → Each1 (λ r. r < p) (chunk at 8 now)
 rest_chunk p a at y x now h done room = Each1-from_get_or (λ r. r < p) (chunk at 8 now) 0 (λ i within. (
     let low : i < 8 = omega (arith, within, length-chunk at 8 now (omega (arith, room, done.size))) in
     subst (λ (n : ℕ). n < p) (sym (get_or-chunk at 8 now i 0 low ∙ done.others (at + i) (omega arith))) (h (at + i) 0 (omega (arith, low, room)))))
 
--- one more block
+-- where the multiple is added up to a place, the eight sums with it that are written from there on add it up to the place behind them
 pub block_added : (p a at next : ℕ) (y x now v : List ℕ) → length y ≡ length x → IsAddedUpto p a y x at now → at + 8 ≤ length y → next ≡ at + 8
     → v ≡ zip2 (λ r s. (r + s) % p) (chunk at 8 now) (map (λ s. (a * s) % p) (chunk at 8 x)) → IsAddedUpto p a y x next (put_chunk at now v)
 block_added p a at next y x now v l done room is sum =
@@ -87,6 +89,7 @@ whole_added p a done y x mid rest l le h is =
     plus_multiple-at p a (r ∷ y) (s ∷ x) zero l within = refl
     plus_multiple-at p a (r ∷ y) (s ∷ x) (suc k) l within = plus_multiple-at p a y x k (omega (arith, l)) (omega (arith, within))
 
+-- the places to which the multiple is added, and the sum of the rest of y with that multiple of the rest of x, are y + a * x
 pub parts_added : (p q a done k j n : ℕ) (y x mid rest : List ℕ) → length y ≡ length x → done ≤ length y → q ≡ p → IsAddedUpto q a y x n mid
     → n ≡ done → k ≡ length mid - done → j ≡ length x - done
     → rest ≡ plus_multiple p a (take k (drop done mid)) (take j (drop done x)) → put_mid done k mid rest ≡ plus_multiple p a y x

@@ -23,6 +23,7 @@ less_lane p r small lt = elim (cases_lt r p) [
       ap (λ (b : Bool). cond (top 31 (cond b (2 ^ 32 - 1) 0)) r ((r + (2 ^ 32 - p)) % 2 ^ 32)) test ∙ wrapped ∙ cond_above r p r (r - p) (r - p) above refl)
 ]
 
+-- to keep each lane where taking p off wraps, and what is left in the others, takes p off the lanes that are not below p
 pub less_lanes : (p n : ℕ) (v : List ℕ) → p < 2 ^ 32 → length v ≡ n → Each1 (Fits w32) v
     → sel_l (map (top 31) (zip2 (λ a b. cond (ltb a b) (2 ^ 32 - 1) 0) v (zip2 (λ a b. (a + (2 ^ 32 - b)) % 2 ^ 32) v (replicate n p)))) v
     (zip2 (λ a b. (a + (2 ^ 32 - b)) % 2 ^ 32) v (replicate n p))
@@ -31,7 +32,7 @@ less_lanes p n [] small l each = refl
 less_lanes p zero (r ∷ v) small l each = absurd (omega (arith, l))
 less_lanes p (suc n) (r ∷ v) small l each = λ i. less_lane p r small each.0.fits i ∷ less_lanes p n v small (omega (arith, l)) each.1 i
 
--- the sums of residues, lane by lane
+-- the sums of residues, each less p where it is not below p, are the sums modulo p, lane by lane
 pub sum_lanes : (p : ℕ) (f s : List ℕ) → p < 2 ^ 31 → Each1 (λ r. r < p) f → Each1 (λ r. r < p) s →
     map (λ r. cond (ltb r p) r (r - p)) (zip2 (λ a b. (a + b) % 2 ^ 32) f s) ≡ zip2 (λ a b. (a + b) % p) f s
 sum_lanes p [] s small h k = refl
@@ -63,6 +64,7 @@ rest_lane w b p a s wide room a_lt s_lt =
     ap (λ (n : ℕ). (n + (w - ((q * s) % w / b * p) % w)) % w) (mod-eq_of_lt multiple) ∙ ap (λ (n : ℕ). (a * s + (w - n)) % w) taken
     ∙ ap (λ (n : ℕ). n % w) (sym back) ∙ mul-add-mod_self_left w 1 (a * s - t * p) ∙ mod-eq_of_lt (omega (arith, multiple))
 
+-- no lane wraps in a * s - q * s / b * p for residues a and s, where q is a * b / p, b a power of 2 from p on, and b * b fits the lane
 pub rest_lanes : (w b p a q n k : ℕ) (xs : List ℕ) → p ≤ b → b * b ≤ w → a < p → q ≡ a * b / p → length xs ≡ n → Each1 (λ s. s < p) xs → 2 ^ k ≡ b
     → zip2 (λ c d. (c + (w - d)) % w) (zip2 (λ c d. (c * d) % w) (replicate n a) xs)
     (zip2 (λ c d. (c * d) % w) (zip2 (λ c d. c / 2 ^ d) (zip2 (λ c d. (c * d) % w) (replicate n q) xs) (replicate n k)) (replicate n p))
@@ -77,7 +79,7 @@ rest_lanes w b p a q (suc n) k (s ∷ xs) wide room a_lt is l each e =
     ∙ ap (λ (i : ℕ). a * s - i * s / b * p) (sym is) in
     λ i. own i ∷ rest_lanes w b p a q n k xs wide room a_lt is (omega (arith, l)) each.1 e i
 
--- the remainders of the multiples
+-- what is left of the multiples, each less p where it is not below p, are their remainders by p
 pub remainder_lanes : (b p a q : ℕ) (xs : List ℕ) → p ≤ b → a < p → q ≡ a * b / p → Each1 (λ s. s < p) xs →
     map (λ r. cond (ltb r p) r (r - p)) (map (λ s. a * s - q * s / b * p) xs) ≡ map (λ s. (a * s) % p) xs
 remainder_lanes b p a q [] wide a_lt is each = refl
@@ -99,7 +101,7 @@ rest_small b p a q (s ∷ xs) wide a_lt is each =
     let own : a * s - a * b / p * s / b * p < 2 * p = omega (arith, near.below, near.near) in
     (subst (λ (i : ℕ). a * s - i * s / b * p < 2 * p) (sym is) own, rest_small b p a q xs wide a_lt is each.1)
 
--- the negatives of residues, lane by lane
+-- p less each residue, less p where it is not below p, is p - 1 times the residue modulo p
 pub negative_lanes : (p n : ℕ) (xs : List ℕ) → p < 2 ^ 31 → length xs ≡ n → Each1 (λ s. s < p) xs →
     map (λ r. cond (ltb r p) r (r - p)) (zip2 (λ a b. (a + (2 ^ 32 - b)) % 2 ^ 32) (replicate n p) xs) ≡ map (λ s. ((p - 1) * s) % p) xs
 negative_lanes p zero [] small l each = refl

@@ -15,6 +15,7 @@ cancelled b m n pos le = elim (cases_lt n m) [
   | inr less ↦ less
 ]
 
+-- with q the quotient of a * b by p, and t that of q * s by b, a * s less t times p is from 0 to 2p, for each s below b
 pub near_quotient : (b p a s : ℕ) → 0 < p → s < b → IsNear p a s (a * b / p * s / b)
 near_quotient b p a s pos lt =
     let q = a * b / p in
@@ -37,7 +38,7 @@ near_quotient b p a s pos lt =
       near = omega (arith, close);
     }
 
--- a number below 2p, less p where it is not below p
+-- a number below 2p, less p where it is not below p, is its remainder by p
 pub less_once : (p u : ℕ) → u < 2 * p → cond (ltb u p) u (u - p) ≡ u % p
 less_once p u lt = elim (cases_lt u p) [
   | inl below ↦ sym (cond_below u p u (u - p) below) ∙ sym (mod-eq_of_lt below)
@@ -47,7 +48,7 @@ less_once p u lt = elim (cases_lt u p) [
       sym (cond_above u p u (u - p) (u - p) above refl) ∙ sym (ap (λ (n : ℕ). n % p) (sym split) ∙ mul-add-mod_self_left p 1 (u - p) ∙ rest))
 ]
 
--- what is left of a multiple has its remainder
+-- what is left of a * s, less t times p, has the remainder of a * s by p
 pub near_remainder : (p a s t : ℕ) → IsNear p a s t → (a * s - t * p) % p ≡ (a * s) % p
 near_remainder p a s t h =
     let split : p * t + (a * s - t * p) ≡ a * s = omega (arith, h.below, mul_comm p t) in

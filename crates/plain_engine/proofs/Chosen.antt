@@ -1,21 +1,21 @@
 -- The elements row by row.
 use Rattle.std.proofs.Common.{◌≡◌, ◌+◌, ◌<◌, ℕ, List, [], ◌∷◌, ◌++◌, length, take, get_or, sym, ap, ◌∙◌, inl, inr}
-use Rattle.std.proofs.Common.{arith, All, AllPairs, subst, Some}
+use Rattle.std.proofs.Common.{arith, subst, Some}
 use Rattle.std.specs.List.{Contains}
-use Rattle.std.proofs.Math.Seq.{get_or-append_seam}
 use Rattle.std.proofs.lemmas.Bool.{cases_lt}
-use Rattle.std.proofs.lemmas.List.{get_or_append_left, length_push, take_more}
+use Rattle.std.proofs.lemmas.List.{length_push, take_more}
 use Rattle.std.proofs.lemmas.List.Quantifiers.{all_pairs_push}
 use Rattle.std.proofs.lemmas.List.Elements.{All-contains, Contains-append_left, Contains-get_or, Contains-push, Contains-push_cases}
 use Rattle.words.specs.Words.{OccursAt}
 use Rattle.free_poly.specs.declared.term.Term.{Term}
 use Rattle.free_poly.specs.Poly.{lead_of, element_on}
+use Rattle.free_poly.proofs.Entries.{AllPairs-front, AllPairs-last}
 use Rattle.ideal_laws.specs.Closure.{IsNormal}
 use Rattle.back_reduce.specs.Entries.{IsLead}
 use Rattle.ideal_laws.specs.Basis.{HasGreaterLead}
 use Rattle.plain_engine.specs.Elements.{AreElements, HasNormalLead, StandsAbove}
 
--- one more element none of whose leading words stands in the word
+-- a word that is normal to the first elements and has no leading word of the next in it is normal to these and the next
 pub normal_more : (fs : List (List Term)) (i : ℕ) (e : List Term) (w : List ℕ) → i < length fs → e ≡ get_or fs i e → IsNormal (take i fs) w
     → ((v : List ℕ) (k : ℕ) → lead_of e ≡ Some v → OccursAt v w k → ⊥) → IsNormal (take (i + 1) fs) w
 normal_more fs i e w within is h own g v k m lead o = elim (Contains-push_cases (take i fs) (get_or fs i e) g
@@ -34,21 +34,9 @@ lead_one row c d h k = elim (cases_lt c d) [
   ]
 ]
 
--- of a list whose members are related in their order, all but the last are, and each is to the last
-module _ {X : Type 0} (R : X → X → Type 0) (xs : List X) (x : X) (h : AllPairs R (xs ++ x ∷ [])) where
-  before_last : AllPairs R xs
-  before_last i j d lt within =
-      let same : (k : ℕ) → k < length xs → get_or (xs ++ x ∷ []) k d ≡ get_or xs k d = λ k l. get_or_append_left xs (x ∷ []) d k l in
-      subst (λ y. R y (get_or xs j d)) (same i (omega (arith, lt, within))) (subst (R (get_or (xs ++ x ∷ []) i d)) (same j within)
-      (h i j d lt (omega (arith, within, length_push xs x))))
-
-  to_last : All (λ y. R y x) xs
-  to_last k d within = subst (λ y. R y x) (get_or_append_left xs (x ∷ []) d k within)
-      (subst (R (get_or (xs ++ x ∷ []) k d)) (get_or-append_seam xs x [] d) (h k (length xs) d within (omega (arith, length_push xs x))))
-
 module _ (columns : List (List ℕ)) (G : List (List Term)) (rows : List (List ℕ)) (elements : List (List Term)) (row : List ℕ)
     (are : AreElements columns G rows elements) where
-  -- a row that gives no element
+  -- a row without a normal leading word adds no element
   pub elements_same : (HasNormalLead columns G row → ⊥) → AreElements columns G (rows ++ row ∷ []) elements
   elements_same none = record {
     exactly = λ f. (
@@ -58,11 +46,11 @@ module _ (columns : List (List ℕ)) (G : List (List Term)) (rows : List (List �
         | inr same ↦ absurd (none (subst (HasNormalLead columns G) (sym same) q.2))
       ]),
     );
-    falling = λ all. are.falling (before_last (StandsAbove columns) rows row all);
+    falling = λ all. are.falling (AllPairs-front (StandsAbove columns) rows row all);
     few = omega (arith, are.few, length_push rows row);
   }
 
-  -- a row that gives one
+  -- a row with a normal leading word adds its element behind the others
   pub elements_more : HasNormalLead columns G row →
       AreElements columns G (rows ++ row ∷ []) (elements ++ element_on columns row ∷ [])
   elements_more normal =
@@ -78,9 +66,9 @@ module _ (columns : List (List ℕ)) (G : List (List Term)) (rows : List (List �
             | inr same ↦ subst (Contains (elements ++ own ∷ [])) (ap (element_on columns) same ∙ sym q.3) (Contains-push elements own)
           ]),
         );
-        falling = λ all. all_pairs_push HasGreaterLead elements own (are.falling (before_last (StandsAbove columns) rows row all)) (λ k d within.
+        falling = λ all. all_pairs_push HasGreaterLead elements own (are.falling (AllPairs-front (StandsAbove columns) rows row all)) (λ k d within.
             let q = (are.exactly (get_or elements k d)).0 (Contains-get_or elements k d within) in
             subst (λ (g : List Term). HasGreaterLead g own) (sym q.3) (All-contains (λ r. StandsAbove columns r row) rows q.0
-            (to_last (StandsAbove columns) rows row all) q.1));
+            (AllPairs-last (StandsAbove columns) rows row all) q.1));
         few = omega (arith, are.few, length_push rows row, length_push elements own);
       }

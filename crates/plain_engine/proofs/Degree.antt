@@ -9,6 +9,7 @@ use Rattle.words.specs.Order.{IsLetterwiseGreater}
 use Rattle.words.proofs.Members.{Contains-first}
 use Rattle.free_poly.specs.declared.term.Term.{Term}
 use Rattle.free_poly.specs.Poly.{lead_of}
+use Rattle.free_poly.proofs.NormalForms.{above_lead}
 use Rattle.linear_algebra.specs.Mod.{Residue}
 use Rattle.linear_algebra.proofs.ModField.{same_residue}
 use Rattle.ideal_laws.specs.Basis.{IsReduced, IsReducedBasis}
@@ -23,7 +24,6 @@ use Rattle.back_reduce.specs.Rows.{IsInRowSpan}
 use Rattle.back_reduce.specs.Rref.{IsRref}
 use Rattle.row_laws.proofs.DegreeRows.{IsMember, term_there}
 use Rattle.row_laws.proofs.Leaders.{IsLedBy, first_leads, none_before, one_there}
-use Rattle.row_laws.proofs.Reducers.{above_lead}
 use Rattle.row_laws.proofs.ReducedRows.{IsLedRow, led_of, reduced_of_row, row_is_reduced, rows_fall}
 use Rattle.row_laws.proofs.Spread.{spread-at}
 use Rattle.degree_words.specs.Lists.{AreLists}
@@ -87,6 +87,7 @@ module _ (ideal : Ideal) (st : IsSetting ideal) (d : ℕ) (lists : List (List (L
   }
 
   module _ (G : List (List Term)) (lower : AreLower ideal d G) where
+    -- the elements of those rows of the echelon form that have a normal leading word are the reduced basis of the degree
     pub basis_from_elements : (elements : List (List Term)) → AreElements ws G echelon elements → IsReducedBasis ideal d elements
     basis_from_elements elements are = record {
       exactly = λ f. (

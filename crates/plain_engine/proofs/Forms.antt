@@ -78,7 +78,7 @@ module _ (p m : ℕ) (rows echelon : List (List ℕ)) (rref : IsRref p m rows ec
     sized : length es ≡ length echelon
     sized = omega (arith, length-zip rref.leads (map (vector p modulus) echelon), length-map echelon (vector p modulus), rref.count)
 
-    -- there are at most m rows
+    -- the form has at most m rows
     pub rref-length : length echelon ≤ m
     rref-length = omega (arith, sized, reduced-length K ℕ (range_with_len 0 m) es (rref.basis modulus).reduced, length-range_with_len 0 m)
 
@@ -102,7 +102,7 @@ module _ (p m : ℕ) (rows echelon : List (List ℕ)) (rref : IsRref p m rows ec
           | inr le ↦ span_past p modulus m echelon rref.each sum inside c le ∙ sym (past c le)
         ]) inside
 
-  -- it has the span of the rows
+  -- the form of rows of m residues has one span with them
   pub rref-one_span : All (IsRow p m) rows → HaveOneSpan p rows echelon
   rref-one_span are = record {
     same = λ modulus v. (
@@ -113,7 +113,7 @@ module _ (p m : ℕ) (rows echelon : List (List ℕ)) (rref : IsRref p m rows ec
     );
   }
 
-  -- where it has m rows, it spans all
+  -- a form of m rows spans all
   pub rref-full : length echelon ≡ m → SpansAll p m echelon
   rref-full l modulus v past =
       let b = rref.basis modulus in

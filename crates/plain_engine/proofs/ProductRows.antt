@@ -33,7 +33,7 @@ use Rattle.degree_words.specs.Lists.{AreLists, list_at}
 use Rattle.plain_engine.specs.Products.{coefficients, relation_rows, word_rows, words_round}
 use Rattle.plain_engine.proofs.RowSpans.{span_one}
 
--- the words of the last list
+-- the list of the degree itself has all words of this degree
 pub last_list : (weights : List ℕ) (d : ℕ) (lists : List (List (List ℕ))) → AreLists weights d lists (d + 1) → list_at lists d ≡ words_of_degree weights d
 last_list weights d lists al = al.listed d (omega arith) (subst (λ (n : ℕ). words_of_degree weights n ≢ []) none_left (λ e. cc e))
   where
@@ -73,6 +73,7 @@ module _ (ideal : Ideal) (st : IsSetting ideal) (d : ℕ) (lists : List (List (L
   in_degree : (k : ℕ) (w : List ℕ) → IsOver (length ideal.weights) w → degree_of ideal.weights w ≡ k → Contains (words_of_degree ideal.weights k) w
   in_degree k w over e = subst (λ (n : ℕ). Contains (words_of_degree ideal.weights n) w) e (listed_word ideal.weights st.are_weights w over)
 
+  -- a word in the letters of the ideal that has degree d is a column
   pub in_columns : (w : List ℕ) → IsOver (length ideal.weights) w → degree_of ideal.weights w ≡ d → Contains ws w
   in_columns = in_degree d
 
@@ -180,7 +181,7 @@ module _ (ideal : Ideal) (st : IsSetting ideal) (d : ℕ) (lists : List (List (L
             (in_columns (get_or f k t).word (letters k t within) (h.degree k t within)))))))
       ]
 
-  -- a sum of multiples of rows gives a member
+  -- a sum of multiples of the rows of products is, at the words of the columns, a sum of multiples of products
   pub combined_member : (u : N) → IsInRowSpan ideal.modulus st.modulus all_rows u → IsInSpan Kd (List ℕ) IsProductV (onto u)
   combined_member = spread-member ideal.modulus st.modulus ws (OneOf ideal.modulus st.modulus all_rows) IsProductV (λ g one. (
       let c = one_contained ideal.modulus 0 st.modulus all_rows g one in
@@ -194,8 +195,11 @@ module _ (ideal : Ideal) (st : IsSetting ideal) (d : ℕ) (lists : List (List (L
 
   -- a vector and a sum of multiples of rows that gives it
   pub record IsCombined (v : Vd) : Type 0 where
+    -- an entry for each column
     pub entries : N
+    -- the entries are a sum of multiples of the rows of products
     pub inside : IsInRowSpan ideal.modulus st.modulus all_rows entries
+    -- v is the entries at the words of their columns
     pub same : (w : List ℕ) → v w ≡ onto entries w
 
   parts_combined : (cs : List (Kd.F × Vd)) → All (λ c. IsProductV c.1) cs → IsCombined (sum_of Kd (List ℕ) cs)
@@ -217,7 +221,7 @@ module _ (ideal : Ideal) (st : IsSetting ideal) (d : ℕ) (lists : List (List (L
             ∙ sym (spread-linear ideal.modulus st.modulus ws c.0 u rest.entries w);
       }
 
-  -- each member is given by one
+  -- each sum of multiples of products is such a sum of multiples of rows
   pub member_combined : (v : Vd) → IsInSpan Kd (List ℕ) IsProductV v → IsCombined v
   member_combined v s =
       let r = parts_combined s.parts s.each in

@@ -44,19 +44,21 @@ module _ (p : ℕ) (modulus : IsFieldModulus p) where
   ])
 
 module _ (p : ℕ) where
+  -- a list of rows has one span with itself
   pub one_span-same : (rows : List (List ℕ)) → HaveOneSpan p rows rows
   one_span-same rows = record { same = λ modulus v. ((λ s. s), (λ s. s)) }
 
-  -- no more rows
+  -- no more rows leave the span as it is
   pub one_span-none : (rows : List (List ℕ)) → HaveOneSpan p (rows ++ []) rows
   one_span-none rows = subst (λ (xs : List (List ℕ)). HaveOneSpan p xs rows) (sym (append-nil rows)) (one_span-same rows)
 
+  -- two lists of rows that each have one span with a third have one span
   pub one_span-trans : (rows others last : List (List ℕ)) → HaveOneSpan p rows others → HaveOneSpan p others last → HaveOneSpan p rows last
   one_span-trans rows others last h k = record {
     same = λ modulus v. ((λ s. (k.same modulus v).0 ((h.same modulus v).0 s)), (λ s. (h.same modulus v).1 ((k.same modulus v).1 s)));
   }
 
-  -- the same rows after both
+  -- lists with one span have one span with the same rows behind both
   pub one_span-append : (rows others more : List (List ℕ)) → HaveOneSpan p rows others → HaveOneSpan p (rows ++ more) (others ++ more)
   one_span-append rows others more h = record {
     same = λ modulus v. (
@@ -65,7 +67,7 @@ module _ (p : ℕ) where
     );
   }
 
-  -- rows that are added after others
+  -- where first and front have one span with middle, and middle and more with last, so have first, front and more with last
   pub one_span-joined : (first front middle more last : List (List ℕ)) → HaveOneSpan p (first ++ front) middle → HaveOneSpan p (middle ++ more) last →
       HaveOneSpan p (first ++ (front ++ more)) last
   one_span-joined first front middle more last h k = subst (λ (rows : List (List ℕ)). HaveOneSpan p rows last) (append_assoc first front more)

@@ -10,7 +10,7 @@ use Rattle.words.specs.Order.{IsLetterwiseGreater}
 use Rattle.words.proofs.Members.{AllPairs-first, AllPairs-rest, Contains-cases, Contains-first, Contains-more, Contains-none}
 use Rattle.free_poly.specs.declared.term.Term.{Term}
 use Rattle.free_poly.proofs.FromWords.{listed}
-use Rattle.free_poly.proofs.Totals.{here}
+use Rattle.free_poly.proofs.Totals.{not_equal}
 use Rattle.linear_algebra.specs.Fields.{Field}
 use Rattle.linear_algebra.specs.Spans.{IsInSpan}
 use Rattle.linear_algebra.specs.Mod.{Residue}
@@ -21,7 +21,6 @@ use Rattle.ideal_laws.specs.Ideal.{Ideal}
 use Rattle.ideal_laws.specs.Laws.{IsSetting}
 use Rattle.ideal_laws.specs.Overlaps.{AreLower}
 use Rattle.ideal_laws.specs.Quantities.{reducers_in, contested_words}
-use Rattle.ideal_laws.proofs.Vectors.{vector_of-append, vector_of-scaled}
 use Rattle.ideal_laws.proofs.Vectors as vectors
 use Rattle.row_laws.proofs.Parts as parts
 use Rattle.row_laws.proofs.Reducers.{reducer_above, reducer_there}
@@ -46,9 +45,13 @@ module _ (ideal : Ideal) (st : IsSetting ideal) (d : ℕ) (G : List (List Term))
 
   -- words of the degree, whose reducers are on them
   pub record AreClosedWords (xs : List (List ℕ)) : Type 0 where
+    -- greater words stand first
     pub falling : AllPairs IsLetterwiseGreater xs
+    -- each is in the letters of the ideal
     pub over : (x : List ℕ) → Contains xs x → IsOver (length ideal.weights) x
+    -- each has degree d
     pub degree : (x : List ℕ) → Contains xs x → degree_of ideal.weights x ≡ d
+    -- the reducer of each is 0 at all words that are not among them
     pub reducers_on : (x : List ℕ) (g : List Term) → Contains xs x → IsReducer G x g → IsOn xs (vec g)
 
   rest_closed : (x : List ℕ) (xs : List (List ℕ)) → AreClosedWords (x ∷ xs) → AreClosedWords xs
@@ -72,9 +75,13 @@ module _ (ideal : Ideal) (st : IsSetting ideal) (d : ℕ) (G : List (List Term))
 
   -- entries at the contested columns, and a sum of multiples of reducers
   pub record IsLeft (xs : List (List ℕ)) (rs : List (Option (List Term))) (v : V) : Type 0 where
+    -- an entry for each contested column
     pub entries : N
+    -- what is beside them
     pub rest : V
+    -- it is a sum of multiples of reducers
     pub spanned : IsInSpan K (List ℕ) (IsListedReducer rs) rest
+    -- v is the entries at the words of their columns, and the rest
     pub sum : (y : List ℕ) → v y ≡ K.add (spread ideal.modulus st.modulus (contested_words xs rs) entries y) (rest y)
 
   with_first : Residue ideal.modulus → N → N
@@ -111,13 +118,10 @@ module _ (ideal : Ideal) (st : IsSetting ideal) (d : ℕ) (G : List (List Term))
   elsewhere-on x xs v on y off = elim (cases_Bool (bytes_eq x y)) [
     | inl is ↦ ap (λ (b : Bool). cond b K.zero (v y)) is
     | inr other ↦ ap (λ (b : Bool). cond b K.zero (v y)) other ∙ on y (λ m. elim (Contains-cases x xs y m) [
-      | inl e ↦ apart x y other e
+      | inl e ↦ not_equal x y other e
       | inr n ↦ off n
     ])
   ]
-    where
-      apart : (a b : List ℕ) → bytes_eq a b ≡ false → a ≡ b → ⊥
-      apart a b o e = let t : bytes_eq a b ≡ true = here a b e in cc
 
   here_and_elsewhere : (x : List ℕ) (v : V) (y : List ℕ) → K.add (cond (bytes_eq x y) (v x) K.zero) (elsewhere x v y) ≡ v y
   here_and_elsewhere x v y = both (bytes_eq x y) (λ e. (bytes_eq-Decides x y).0 e)
@@ -166,6 +170,7 @@ module _ (ideal : Ideal) (st : IsSetting ideal) (d : ℕ) (G : List (List Term))
         ∙ add_left_comm K (K.mul (v x) (vec g y)) (spread ideal.modulus st.modulus (contested_words xs rs) r.entries y) (r.rest y);
   }
 
+  -- a vector that is 0 outside such columns is made of entries at the contested ones and a sum of multiples of the reducers of the others
   pub left_of : (xs : List (List ℕ)) (rs : List (Option (List Term))) → AllZip (HasReducer G) xs rs → AreClosedWords xs → (v : V) → IsOn xs v → IsLeft xs rs v
   left_of [] [] z h v on = record {
     entries = λ k. K.zero;

@@ -65,6 +65,7 @@ contested_falling (x ∷ xs) (None ∷ rs) h =
 contested_falling (x ∷ xs) (Some g ∷ rs) h = contested_falling xs rs (AllPairs-rest IsLetterwiseGreater x xs h)
 
 module _ (ideal : Ideal) (st : IsSetting ideal) (d : ℕ) (G : List (List Term)) (lower : AreLower ideal d G) where
+  -- a word in the letters of the ideal that has degree d is among the words of degree d
   pub in_degree : (w : List ℕ) → IsOver (length ideal.weights) w → degree_of ideal.weights w ≡ d → Contains (words_of_degree ideal.weights d) w
   in_degree w over e = (lists_words ideal.weights st.are_weights d w).1 (over, e)
 
@@ -86,12 +87,15 @@ module _ (ideal : Ideal) (st : IsSetting ideal) (d : ℕ) (G : List (List Term))
 
   -- the columns of the rows: they have the degree, and the words of the rows are among them
   module _ (rows : List (List Term)) (are : AreRows ideal G d rows) (columns : List (List ℕ)) (are_columns : AreColumns G (words_of rows) columns) where
+    -- each column is one of the words of degree d
     pub column_word : (w : List ℕ) → Contains columns w → Contains (words_of_degree ideal.weights d) w
     column_word w m = closure_word rows are w ((are_columns.exactly w).0 m)
 
+    -- each column is in the letters of the ideal and has degree d
     pub column_says : (w : List ℕ) → Contains columns w → IsOver (length ideal.weights) w × (degree_of ideal.weights w ≡ d)
     column_says w m = words_of_degree-says ideal.weights st.are_weights d w (column_word w m)
 
+    -- each word of a row is a column
     pub row_column : (f : List Term) → Contains rows f → (t : Term) → Contains f t → Contains columns t.word
     row_column f m t n = (are_columns.exactly t.word).1
         (given t.word (Contains-map (λ (s : Term). s.word) (flat_map (λ g. g) rows) t (Contains-flat_map (λ g. g) rows f t m n)))

@@ -29,17 +29,19 @@ use Rattle.row_laws.proofs.Spread.{spread, spread-absent, spread-at, spread-elem
 use Rattle.row_laws.proofs.Triangle.{IsReducerVector, zero_from_normal}
 
 module _ (K : Field) where
+  -- -1 times a is the negative of a
   pub minus : (a : K.F) → K.mul (K.neg K.one) a ≡ K.neg a
   minus a = K.mul_comm (K.neg K.one) a ∙ mul_neg K a K.one ∙ ap K.neg (K.mul_one a)
 
-  -- m + (f - m) is f, and (s + r) - r is s
+  -- m + (f - m) is f
   less_back : (m f : K.F) → K.add m (K.add f (K.mul (K.neg K.one) m)) ≡ f
   less_back m f = ap (λ (n : K.F). K.add m (K.add f n)) (minus m) ∙ add_left_comm K m f (K.neg m) ∙ ap (K.add f) (K.add_neg m) ∙ K.add_zero f
 
+  -- (s + r) - r is s
   pub back_less : (s r : K.F) → K.add (K.add s r) (K.mul (K.neg K.one) r) ≡ s
   back_less s r = ap (K.add (K.add s r)) (minus r) ∙ K.add_assoc s r (K.neg r) ∙ ap (K.add s) (K.add_neg r) ∙ K.add_zero s
 
--- the vector of f - h
+-- the vector of f - h is that of f less that of h
 pub vector_of-less : (p : ℕ) (fm : IsFieldModulus p) (f h : List Term) (y : List ℕ)
     → vectors.vector_of p fm (f ++ scaled (p - 1) h) y ≡ (vectors.K p fm).add (vectors.vector_of p fm f y)
     ((vectors.K p fm).mul ((vectors.K p fm).neg (vectors.K p fm).one) (vectors.vector_of p fm h y))
@@ -92,6 +94,7 @@ module _ (ideal : Ideal) (st : IsSetting ideal) (d : ℕ) (G : List (List Term))
     abbrev pub left : List Term
     left = f ++ scaled (ideal.modulus - 1) (element_on contested c)
 
+    -- what a row has beside its contested row is a sum of multiples of reducers
     pub left_spanned : IsInSpan K (List ℕ) IsOwnReducer (vec left)
     left_spanned = record {
       parts = map (vector_part ideal st d) h.rest.parts;
@@ -99,6 +102,7 @@ module _ (ideal : Ideal) (st : IsSetting ideal) (d : ℕ) (G : List (List Term))
       sum = λ w. same_vectors ideal.modulus st.modulus left _ h.rest.sum w ∙ vector_of-parts ideal st d h.rest.parts w;
     }
 
+    -- the row is its contested row, at the words of the contested columns, and what it has beside it
     pub row_sum : (y : List ℕ) → vec f y ≡ K.add (spread ideal.modulus st.modulus contested (vector ideal.modulus st.modulus c) y) (vec left y)
     row_sum y =
         let element = element_on contested c in
@@ -143,6 +147,7 @@ module _ (ideal : Ideal) (st : IsSetting ideal) (d : ℕ) (G : List (List Term))
         sym (spread-at ideal.modulus st.modulus contested (vector ideal.modulus st.modulus a) k falling lt) ∙ both
         ∙ spread-at ideal.modulus st.modulus contested (vector ideal.modulus st.modulus b) k falling lt
 
+    -- two lists of residues that one row leaves at the contested columns are equal
     pub one_row : a ≡ b
     one_row = ext_get_or 0 a b (ha.is_row.size ∙ sym hb.is_row.size) (λ k within.
         let lt : k < length contested = omega (arith, within, ha.is_row.size) in

@@ -87,6 +87,7 @@ module _ (ideal : Ideal) (st : IsSetting ideal) (d : ℕ) where
     some_one o a b e f = cc
 
     module _ (rows : List (List Term)) (are : AreRows ideal G d rows) where
+      -- each row of the degree is a polynomial with residues that is a member of the degree
       pub row_member : (f : List Term) → Contains rows f → IsMemberRow f
       row_member f m = elim (Contains-append_cases (of_degree ideal.weights d ideal.relations) are.overlap_rows f
           (subst (λ (fs : List (List Term)). Contains fs f) are.joined m)) [

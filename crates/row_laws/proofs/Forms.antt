@@ -57,6 +57,7 @@ module _ (K : Field) (X : Type 0) where
     ]
   ]
 
+  -- the leading column of each row is one of the columns
   pub lead_in_columns : (xs : List X) (es : List Led) → IsReduced K X xs es → (e : Led) → Contains es e → Contains xs e.0
   lead_in_columns xs es done e m = absurd (Contains-none e m)
   lead_in_columns xs es (skip x ys es' z r) e m = Contains-more x ys e.0 (lead_in_columns ys es r e m)

@@ -13,7 +13,7 @@ use Rattle.back_reduce.specs.Rref.{IsRref}
 use Rattle.row_laws.proofs.Forms.{first_led, lead_in_columns, leads_ordered, row_before, row_one, row_zero}
 
 module _ {X Y : Type 0} (f : X → Y) where
-  -- rows and their leading columns one by one
+  -- of as many leading columns as rows, each row's image has one beside it
   pub with_lead : (ls : List ℕ) (rs : List X) → length ls ≡ length rs → (r : X) → Contains rs r → (l : ℕ) × Contains (zip ls (map f rs)) (l, f r)
   with_lead [] [] e r m = absurd (Contains-none r m)
   with_lead [] (s ∷ rs) e r m = absurd (omega (arith, e))
@@ -23,6 +23,7 @@ module _ {X Y : Type 0} (f : X → Y) where
     | inr n ↦ let q = with_lead ls rs (omega (arith, e)) r n in (q.0, Contains-more (l, f s) (zip ls (map f rs)) (q.0, f r) q.1)
   ]
 
+  -- what stands beside a leading column is the image of one of the rows
   pub of_lead : (ls : List ℕ) (rs : List X) (e : ℕ × Y) → Contains (zip ls (map f rs)) e → (r : X) × Contains rs r × (e.1 ≡ f r)
   of_lead [] rs e m = absurd (Contains-none e m)
   of_lead (l ∷ ls) [] e m = absurd (Contains-none e m)
@@ -68,15 +69,19 @@ module _ (p m : ℕ) (fm : IsFieldModulus p) (cells echelon : List (List ℕ)) (
     | inr k ↦ inside_at es h.1 e k
   ]
 
+  -- each row of the form is in the span of the given rows
   pub row_combined : (e : ℕ × N) → Contains led_rows e → IsInRowSpan p fm cells e.1
   row_combined e n = inside_at led_rows basis.inside e n
 
+  -- the leading columns of the form rise
   pub leads_rising : AllPairs (λ (d e : ℕ × N). d.0 < e.0) led_rows
   leads_rising = leads_ordered Kn ℕ (λ i j. i < j) before_itself before_trans (range_with_len 0 m) led_rows basis.reduced (range-rising 0 m)
 
+  -- each leading column is one of the m columns
   pub lead_within : (e : ℕ × N) → Contains led_rows e → e.0 < m
   lead_within e n = omega (arith, (range-bounds 0 m e.0 (lead_in_columns Kn ℕ (range_with_len 0 m) led_rows basis.reduced e n)).1)
 
+  -- a row of the form is 0 at each leading column other than its own
   pub zero_at_others : (e d : ℕ × N) → Contains led_rows e → Contains led_rows d → d.0 ≢ e.0 → e.1 d.0 ≡ Kn.zero
   zero_at_others = row_zero Kn ℕ (range_with_len 0 m) led_rows basis.reduced
 
@@ -85,12 +90,14 @@ module _ (p m : ℕ) (fm : IsFieldModulus p) (cells echelon : List (List ℕ)) (
     entry : (k : ℕ) → k < m → get_or r k 0 < p
     entry k lt = is_row.residues k 0 (omega (arith, lt, is_row.size))
 
+    -- a row of the form has the residue 1 at its leading column
     pub one_there : get_or r l 0 ≡ 1
     one_there =
         let at : row_vector r l ≡ Kn.one = row_one Kn ℕ (range_with_len 0 m) led_rows basis.reduced (l, row_vector r) n in
         sym (mod-eq_of_lt (entry l (lead_within (l, row_vector r) n))) ∙ ap (λ (x : Residue p). x.0) at
         ∙ mod-eq_of_lt {n = 1} {m = p} (omega (arith, fm.two_or_more))
 
+    -- a row of the form has the residue 0 at each column before its leading one
     pub none_before : (k : ℕ) → k < l → get_or r k 0 ≡ 0
     none_before k lt =
         let within : k < m = omega (arith, lt, lead_within (l, row_vector r) n) in

@@ -84,7 +84,7 @@ module _ (K : Field) (X : Type 0) (Leads : X → Vector K X → Type 0) where
           | inr ahead ↦ trans y x h.column ahead behind
         ])) v s
 
-    -- by the columns from the first on
+    -- a sum of leaders that is 0 at their columns before one where none leads is 0 at this one and before it
     pub zero_up_to : (xs : List X) → AllPairs Before xs → (v : V) → Sp xs v → (w : X) → Contains xs w → ((u : V) → Leads w u → ⊥)
         → ((x : X) (u : V) → Leads x u → Before x w → v x ≡ K.zero) → (y : X) → ((y ≡ w) ⊎ Before y w) → v y ≡ K.zero
     zero_up_to [] ordered v s w m free none y from = absurd (Contains-none w m)

@@ -61,10 +61,15 @@ module _ (ideal : Ideal) (st : IsSetting ideal) (d : ℕ) (G : List (List Term))
 
   -- a combination of contested rows, and a sum of multiples of reducers
   pub record IsMixed (v : V) : Type 0 where
+    -- an entry for each contested column
     pub entries : N
+    -- the entries are a combination of the contested rows
     pub combined : IsInRowSpan ideal.modulus st.modulus cells entries
+    -- what is beside them
     pub rest : V
+    -- it is a sum of multiples of reducers
     pub spanned : IsInSpan K (List ℕ) IsOwnReducer rest
+    -- v is the entries at the words of their columns, and the rest
     pub sum : (y : List ℕ) → v y ≡ K.add (onto entries y) (rest y)
 
   row_mixed : (f : List Term) → Contains rows f → IsMixed (vec f)
@@ -134,6 +139,7 @@ module _ (ideal : Ideal) (st : IsSetting ideal) (d : ℕ) (G : List (List Term))
       ∙ ap (λ (n : Residue ideal.modulus). K.add n (vec (flat_map part_terms parts) y)) (vector_of-scaled ideal.modulus st.modulus c.factor c.element y)))
       (more_mixed (vectors.of ideal.modulus st.modulus c.factor) (vec c.element) (vec (flat_map part_terms parts)) (generator_mixed c.element h.1) rest)
 
+  -- each member of the ideal of degree d is a combination of contested rows and a sum of multiples of reducers
   pub ideal_mixed : (f : List Term) → IsInIdeal ideal d f → IsMixed (vec f)
   ideal_mixed f i =
       let s = (overlaps_suffice ideal st d G lower f i.element).0 i in
@@ -158,6 +164,7 @@ module _ (ideal : Ideal) (st : IsSetting ideal) (d : ℕ) (G : List (List Term))
       (row_member ideal st d G lower rows closed.are_rows f b.1.left).member
       (IsInSpan-scaled K (List ℕ) IsProductV (K.neg K.one) rest rest_member))
 
+  -- each combination of contested rows is, at the words of their columns, a member of the degree
   pub combined_member : (e : N) → IsInRowSpan ideal.modulus st.modulus cells e → IsMember ideal st d (onto e)
   combined_member e s = spread-member ideal.modulus st.modulus contested IsCell IsProductV (λ g h.
       let c = one_contained ideal.modulus 0 st.modulus cells g h in

@@ -9,6 +9,7 @@ use Rattle.words.proofs.Members.{Contains-first}
 use Rattle.free_poly.specs.declared.term.Term.{Term}
 use Rattle.free_poly.specs.Poly.{lead_of}
 use Rattle.free_poly.proofs.FromWords.{listed}
+use Rattle.free_poly.proofs.NormalForms.{above_lead}
 use Rattle.linear_algebra.specs.Fields.{Field}
 use Rattle.linear_algebra.specs.Mod.{Residue}
 use Rattle.linear_algebra.proofs.Algebra.{zero_add}
@@ -26,7 +27,6 @@ use Rattle.row_laws.proofs.ContestedRows.{zero_at_reducible}
 use Rattle.row_laws.proofs.DegreeRows.{term_there}
 use Rattle.row_laws.proofs.Leaders.{IsLedBy, first_leads}
 use Rattle.row_laws.proofs.Mixtures.{ideal_mixed}
-use Rattle.row_laws.proofs.Reducers.{above_lead}
 use Rattle.row_laws.proofs.Spread.{spread, spread-absent, spread-at}
 use Rattle.row_laws.proofs.Triangle.{zero_from_normal}
 
@@ -56,8 +56,8 @@ module _ (ideal : Ideal) (st : IsSetting ideal) (d : ℕ) (G : List (List Term))
   same_word : (i k : ℕ) (w : List ℕ) → i ≡ k → get_or contested k [] ≡ w → get_or contested i [] ≡ w
   same_word i k w e word = ap (λ (n : ℕ). get_or contested n []) e ∙ word
 
-  -- by the member that it leads: above the word the member is 0, so its sum of reducers is, and the rest leads at the
-  -- word
+  -- a normal leading word of degree d is the word of a leading column of the form: above it the member that it leads is 0, so the
+  -- member's sum of reducers is, and the rest leads at the word
   pub normal_led : (w : List ℕ) → IsLeadingWord ideal d w → IsNormal G w → IsLedBy ideal.modulus (length contested) st.modulus cells echelon rref contested w
   normal_led w l normal = by_first l.member l.inside l.lead
     where

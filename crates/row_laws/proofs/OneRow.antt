@@ -76,6 +76,7 @@ module _ (ideal : Ideal) (st : IsSetting ideal) (d : ℕ) (G : List (List Term))
         },
       )
 
+-- over the reduced elements of lower degrees each row of a degree leaves exactly one list of residues at the contested columns
 pub leaves_one_row : LeavesOneRow
 leaves_one_row ideal st d G lower rows columns reducers closed f m =
     let r = left_row ideal st d G lower rows columns reducers closed f m in

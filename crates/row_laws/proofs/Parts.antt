@@ -30,8 +30,11 @@ module _ (p : ℕ) (fm : IsFieldModulus p) where
 
   -- the parts that a sum of multiples of reducers stands for
   pub record HasParts (rs : List (Option (List Term))) (v : V) : Type 0 where
+    -- factors with elements
     pub parts : List Part
+    -- each factor is a residue, and each element is one of the reducers
     pub each : All (λ c. (c.factor < p) × Contains (reducers_in rs) c.element) parts
+    -- v is the vector of the sum of the parts
     pub sum : (w : List ℕ) → v w ≡ vec (flat_map part_terms parts) w
 
   parts_from : (rs : List (Option (List Term))) (cs : List (Residue p × V)) → All (λ c. IsListedReducer rs c.1) cs → HasParts rs (sum_of K (List ℕ) cs)
@@ -52,5 +55,6 @@ module _ (p : ℕ) (fm : IsFieldModulus p) where
             ∙ ap (λ (n : Residue p). K.add n (vec (flat_map part_terms r.parts) w)) (vector_of-scaled p fm c.0.0 h.0 w));
       }
 
+  -- each sum of multiples of vectors of reducers has such parts
   pub has_parts : (rs : List (Option (List Term))) (v : V) → IsInSpan K (List ℕ) (IsListedReducer rs) v → HasParts rs v
   has_parts rs v s = let r = parts_from rs s.parts s.each in record { parts = r.parts; each = r.each; sum = λ w. s.sum w ∙ r.sum w }

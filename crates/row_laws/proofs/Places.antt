@@ -3,7 +3,7 @@ use Rattle.std.proofs.Common.{ap₂, ◌≡◌, ◌+◌, ◌≤◌, ℕ, List, [
 use Rattle.std.proofs.lemmas.List.{append_assoc, drop-drop, take-append-drop, take-take}
 use Rattle.words.specs.Words.{IsFactor, OccursAt}
 
--- the letters before, the factor, and the letters behind
+-- a word in which a factor stands is the letters before it, the factor, and the letters behind it
 pub joined_at : (u w : List ℕ) (k : ℕ) → OccursAt u w k → w ≡ take k w ++ u ++ drop (k + length u) w
 joined_at u w k o =
     sym (append_assoc (take k w) u (drop (k + length u) w) ∙ ap (λ (r : List ℕ). take k w ++ r)

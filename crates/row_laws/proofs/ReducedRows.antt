@@ -100,6 +100,7 @@ module _ (ideal : Ideal) (st : IsSetting ideal) (d : ℕ) (columns : List (List 
         leads = row_lead ideal st d columns falling cells echelon rref members l r n is_row;
       }
 
+  -- each row of the form has a leading column, and the word of this column is the leading word of the row's element
   pub led_of : (r : List ℕ) → Contains echelon r → (l : ℕ) × IsLedRow l r
   led_of r k = let l = with_lead vec rref.leads echelon rref.count r k in (l.0, led_row l.0 r l.1 k)
 
@@ -132,6 +133,7 @@ module _ (ideal : Ideal) (st : IsSetting ideal) (d : ℕ) (columns : List (List 
   module _ (G : List (List Term)) (lower : AreLower ideal d G)
       (among : (w : List ℕ) → Contains columns w → IsLeadingWord ideal d w → IsLedBy ideal.modulus m st.modulus cells echelon rref columns w)
       (normal : (w : List ℕ) → IsLeadingWord ideal d w → IsNormal G w → IsLedBy ideal.modulus m st.modulus cells echelon rref columns w) where
+    -- the element of a row is reduced where its leading column has a normal word
     pub row_is_reduced : (l : ℕ) (r : List ℕ) → IsLedRow l r → IsNormal G (get_or columns l []) → IsReduced ideal d (element_on columns r)
     row_is_reduced l r led h =
         let says = lead_says ideal st d columns falling cells echelon rref members l r led.among led.is_row in
@@ -147,6 +149,7 @@ module _ (ideal : Ideal) (st : IsSetting ideal) (d : ℕ) (columns : List (List 
       pub normal_lead : IsNormal G (get_or columns lead [])
       pub is : f ≡ element_on columns row
 
+    -- each reduced element of the degree is the element of a row whose leading column has a normal word
     pub reduced_of_row : (f : List Term) → IsReduced ideal d f → IsOfRow f
     reduced_of_row f h =
         let x = monic-led f h.monic in

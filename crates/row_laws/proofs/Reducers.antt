@@ -1,6 +1,6 @@
 -- Reducers over the reduced elements of lower degrees: one at most for each word. Each is a product of an element, so it
 -- is in the ideal, 1 at its word and 0 at greater words.
-use Rattle.std.proofs.Common.{◌≡◌, ◌≢◌, ◌+◌, ◌<◌, ℕ, true, false, List, [], ◌∷◌, length, take, drop, refl, sym, ap, ◌∙◌, inl, inr, arith}
+use Rattle.std.proofs.Common.{◌≡◌, ◌+◌, ◌<◌, ℕ, List, [], ◌∷◌, length, take, drop, sym, ap, ◌∙◌, inl, inr, arith}
 use Rattle.std.proofs.Common.{AllPairs, subst, Some, bytes_eq}
 use Rattle.std.specs.List.{Contains}
 use Rattle.std.proofs.lemmas.Bool.{cases_Bool, cases_lt}
@@ -10,11 +10,10 @@ use Rattle.words.specs.Words.{IsFactor, IsOver, degree_of}
 use Rattle.words.specs.Order.{IsLetterwiseGreater}
 use Rattle.words.proofs.Members.{AllPairs-first, AllPairs-rest, Contains-cases, Contains-none}
 use Rattle.free_poly.specs.declared.term.Term.{Term}
-use Rattle.free_poly.specs.Terms.{product, total_at}
-use Rattle.free_poly.specs.Poly.{IsPolynomial, lead_of}
-use Rattle.free_poly.proofs.NormalForms.{above_all}
+use Rattle.free_poly.specs.Terms.{product}
+use Rattle.free_poly.specs.Poly.{lead_of}
 use Rattle.free_poly.proofs.Products.{degree_of-round}
-use Rattle.free_poly.proofs.Totals.{here, letterwise-apart}
+use Rattle.free_poly.proofs.Totals.{letterwise-apart, not_equal}
 use Rattle.linear_algebra.specs.Fields.{Field}
 use Rattle.linear_algebra.specs.Mod.{Residue}
 use Rattle.ideal_laws.specs.Ideal.{Ideal, IsInIdeal, IsMinimal}
@@ -45,12 +44,8 @@ one_in_falling (e ∷ fs) h f g w m n lf lg = elim (Contains-cases e fs f m) [
     apart : {a b : List Term} → HasGreaterLead a b → lead_of a ≡ Some w → lead_of b ≡ Some w → ⊥
     apart r la lb = letterwise-apart r.of_f r.of_g r.greater (some_same r.of_f r.of_g (sym r.leads_f ∙ la ∙ sym lb ∙ r.leads_g))
 
--- at a word that is greater than the leading word a polynomial has nothing
-pub above_lead : (f : List Term) (w y : List ℕ) → IsPolynomial f → lead_of f ≡ Some w → IsLetterwiseGreater y w → total_at f y ≡ 0
-above_lead [] w y h e g = refl
-above_lead (t ∷ f) w y h e g = let is : t.word ≡ w = cc e in above_all y t f h (subst (IsLetterwiseGreater y) (sym is) g)
-
 module _ (ideal : Ideal) (st : IsSetting ideal) where
+  -- the leading word of a reduced element of degree n has degree n
   pub lead_degree : (n : ℕ) (f : List Term) (w : List ℕ) → IsReduced ideal n f → lead_of f ≡ Some w → degree_of ideal.weights w ≡ n
   lead_degree n [] w r e = cc e
   lead_degree n (t ∷ f) w r e = let is : t.word ≡ w = cc e in ap (degree_of ideal.weights) (sym is)
@@ -67,11 +62,8 @@ module _ (ideal : Ideal) (st : IsSetting ideal) where
   minimal_one : (v w : List ℕ) → IsMinimal ideal v → IsMinimal ideal w → IsFactor v w → v ≡ w
   minimal_one v w hv hw i = elim (cases_Bool (bytes_eq v w)) [
     | inl is ↦ (bytes_eq-Decides v w).0 is
-    | inr other ↦ absurd (hw.none_inside v (record { inside = i; other = apart other }) hv.leading)
+    | inr other ↦ absurd (hw.none_inside v (record { inside = i; other = not_equal v w other }) hv.leading)
   ]
-    where
-      apart : bytes_eq v w ≡ false → v ≢ w
-      apart f e = let t : bytes_eq v w ≡ true = here v w e in cc
 
   module _ (d : ℕ) (G : List (List Term)) (lower : AreLower ideal d G) where
     -- elements whose leading words stand at one place are one
@@ -125,11 +117,14 @@ module _ (ideal : Ideal) (st : IsSetting ideal) where
             is = ap (vectors.vector_of ideal.modulus st.modulus) r.is;
           }
 
+      -- the reducer is in the ideal, in degree d
       pub reducer_inside : IsInIdeal ideal d f
       reducer_inside = subst (IsInIdeal ideal d) (sym r.is) (lower_inside ideal st d d w vector lower_product)
 
+      -- its coefficient at the word is 1
       pub reducer_there : vector w ≡ K.one
       reducer_there = lower_one ideal st d d w vector lower_product
 
+      -- its coefficient at each greater word is 0
       pub reducer_above : (y : List ℕ) → IsLetterwiseGreater y w → vector y ≡ K.zero
       reducer_above y g = lower_above ideal st d d w y vector lower_product g

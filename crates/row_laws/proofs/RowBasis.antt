@@ -63,6 +63,7 @@ module _ (ideal : Ideal) (st : IsSetting ideal) (d : ℕ) (G : List (List Term))
       let r = reduced_of_row ideal st d contested falling cells echelon rref members G lower among led_by g h in
       subst (Contains (map (element_on contested) echelon)) (sym r.is) (Contains-map (element_on contested) echelon r.row r.listed)
 
+  -- the reduced elements of the degree are exactly the elements of the rows of the form, and these stand by falling leading word
   pub row_basis : IsReducedBasis ideal d (map (element_on contested) echelon)
   row_basis = record {
     exactly = λ g. (listed_reduced g, reduced_listed g);
@@ -70,5 +71,6 @@ module _ (ideal : Ideal) (st : IsSetting ideal) (d : ℕ) (G : List (List Term))
         (λ r s h. h) echelon (rows_fall ideal st d contested falling cells echelon rref members);
   }
 
+-- over the reduced elements of lower degrees the elements of the echelon form of the contested rows are the reduced basis of the degree
 pub rows_give_basis : RowsGiveBasis
 rows_give_basis = row_basis

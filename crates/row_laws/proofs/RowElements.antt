@@ -60,6 +60,7 @@ module _ (ideal : Ideal) (st : IsSetting ideal) (d : ℕ) (columns : List (List 
     firsts = element_on-first columns r l within (none_before ideal.modulus m st.modulus cells echelon rref l r n is_row)
         (one_there ideal.modulus m st.modulus cells echelon rref l r n is_row)
 
+    -- the leading word of the row's element is the word of its leading column
     pub row_lead : lead_of f ≡ Some w
     row_lead = firsts.0
 
@@ -112,6 +113,7 @@ module _ (ideal : Ideal) (st : IsSetting ideal) (d : ℕ) (columns : List (List 
           ∙ spread-at ideal.modulus st.modulus columns (vec r) q.row.0 falling (lead_within ideal.modulus m st.modulus cells echelon rref q.row q.among)
           ∙ zero_at_others ideal.modulus m st.modulus cells echelon rref (l, vec r) q.row n q.among apart))
 
+      -- the row's element is reduced where no proper factor of its leading word is a leading word
       pub row_reduced : ((v : List ℕ) → IsProperFactor v w → IsLeadingWord ideal (degree_of ideal.weights v) v → ⊥) → IsReduced ideal d f
       row_reduced none_inside = record {
         inside = inside;

@@ -1,14 +1,14 @@
 -- Vectors over numbered columns as vectors over words.
-use Rattle.std.proofs.Common.{ap₂, ◌≡◌, ◌<◌, ◌==◌, ℕ, zero, suc, Bool, true, false, cond, List, [], ◌∷◌, AllPairs, map, length, get_or, refl, sym, ap}
-use Rattle.std.proofs.Common.{◌∙◌, inl, inr, arith, subst, bytes_eq, add-zero}
+use Rattle.std.proofs.Common.{ap₂, ◌≡◌, ◌<◌, ℕ, zero, suc, Bool, true, false, cond, List, [], ◌∷◌, AllPairs, map, length, get_or, refl, sym, ap}
+use Rattle.std.proofs.Common.{◌∙◌, arith, subst, bytes_eq}
 use Rattle.std.specs.List.{Contains}
 use Rattle.std.proofs.Math.Nat.{mod-eq_of_lt}
-use Rattle.std.proofs.lemmas.Bool.{cases_Bool, eqb-true}
 use Rattle.std.proofs.lemmas.List.Elements.{All-cons, All-map, All-nil}
 use Rattle.words.specs.Order.{IsLetterwiseGreater}
 use Rattle.words.proofs.Members.{AllPairs-first, AllPairs-rest, Contains-first, Contains-more}
 use Rattle.field_table.specs.Residues.{IsFieldModulus}
-use Rattle.free_poly.specs.Terms.{term_at, total_at}
+use Rattle.free_poly.specs.Terms.{term_at}
+use Rattle.free_poly.proofs.Merges.{total_at-term_at}
 use Rattle.free_poly.proofs.Totals.{letterwise-apart, not_here, here}
 use Rattle.linear_algebra.specs.Fields.{Field}
 use Rattle.linear_algebra.specs.Spans.{sum_of, IsInSpan}
@@ -37,6 +37,7 @@ module _ (p : ℕ) (fm : IsFieldModulus p) where
   spread [] u w = K.zero
   spread (x ∷ xs) u w = K.add (cond (bytes_eq x w) (u zero) K.zero) (spread xs (λ k. u (suc k)) w)
 
+  -- where all entries are 0, the vector over words is 0
   pub spread-zero : (xs : List (List ℕ)) (u : N) → ((k : ℕ) → u k ≡ K.zero) → (w : List ℕ) → spread xs u w ≡ K.zero
   spread-zero [] u h w = refl
   spread-zero (x ∷ xs) u h w = ap₂ K.add (by_test (bytes_eq x w)) (spread-zero xs (λ k. u (suc k)) (λ k. h (suc k)) w) ∙ K.add_zero K.zero
@@ -45,6 +46,7 @@ module _ (p : ℕ) (fm : IsFieldModulus p) where
       by_test true = h zero
       by_test false = refl
 
+  -- at a word of no column the vector over words is 0
   pub spread-absent : (xs : List (List ℕ)) (u : N) (w : List ℕ) → (Contains xs w → ⊥) → spread xs u w ≡ K.zero
   spread-absent [] u w h = refl
   spread-absent (x ∷ xs) u w h =
@@ -52,7 +54,7 @@ module _ (p : ℕ) (fm : IsFieldModulus p) where
       (not_here x w (λ e. h (subst (Contains (x ∷ xs)) e (Contains-first x xs))))
       ∙ zero_add K _ ∙ spread-absent xs (λ k. u (suc k)) w (λ m. h (Contains-more x xs w m))
 
-  -- at the word of a column it has the entry there
+  -- where the words fall, the vector over words has at the word of a column the entry there
   pub spread-at : (xs : List (List ℕ)) (u : N) (k : ℕ) → AllPairs IsLetterwiseGreater xs → k < length xs → spread xs u (get_or xs k []) ≡ u k
   spread-at [] u k h lt = absurd (omega (arith, lt))
   spread-at (x ∷ xs) u zero h lt =
@@ -66,17 +68,7 @@ module _ (p : ℕ) (fm : IsFieldModulus p) where
       (AllPairs-first IsLetterwiseGreater x xs h k [] (omega (arith, lt)))))
       ∙ zero_add K _ ∙ spread-at xs (λ k. u (suc k)) k (AllPairs-rest IsLetterwiseGreater x xs h) (omega (arith, lt))
 
-  total_at-term : (x : List ℕ) (a : ℕ) (w : List ℕ) → total_at (term_at x a) w ≡ cond (bytes_eq x w) a 0
-  total_at-term x a w = elim (cases_Bool (a == 0)) [
-    | inl none ↦ rw none (sym (none_there (bytes_eq x w) (eqb-true a 0 none)))
-    | inr some ↦ rw some (add-zero _)
-  ]
-    where
-      none_there : (b : Bool) → a ≡ 0 → cond b a 0 ≡ 0
-      none_there true e = e
-      none_there false e = refl
-
-  -- the vector of the element with these residues
+  -- the vector of the element with these residues is the vector over words that they have
   pub spread-element : (xs : List (List ℕ)) (row w : List ℕ) → vectors.vector_of p fm (element_on xs row) w ≡ spread xs (vector p fm row) w
   spread-element [] row w = same_residue p _ _ refl
   spread-element (x ∷ xs) [] w = same_residue p _ _ refl ∙ sym (spread-zero (x ∷ xs) (vector p fm []) (λ k. nothing k) w)
@@ -86,7 +78,7 @@ module _ (p : ℕ) (fm : IsFieldModulus p) where
       nothing (suc k) = same_residue p _ _ refl
   spread-element (x ∷ xs) (a ∷ row) w =
       vector_of-append p fm (term_at x a) (element_on xs row) w
-      ∙ ap₂ K.add (ap (vectors.of p fm) (total_at-term x a w) ∙ by_test (bytes_eq x w)) (spread-element xs row w)
+      ∙ ap₂ K.add (ap (vectors.of p fm) (total_at-term_at x a w) ∙ by_test (bytes_eq x w)) (spread-element xs row w)
     where
       by_test : (b : Bool) → vectors.of p fm (cond b a 0) ≡ cond b (vector p fm (a ∷ row) zero) K.zero
       by_test true = same_residue p _ _ refl
@@ -96,6 +88,7 @@ module _ (p : ℕ) (fm : IsFieldModulus p) where
   pub swapped : (a b c e : Residue p) → K.add (K.add a b) (K.add c e) ≡ K.add (K.add a c) (K.add b e)
   swapped a b c e = K.add_assoc a b (K.add c e) ∙ ap (K.add a) (add_left_comm K b c e) ∙ sym (K.add_assoc a c (K.add b e))
 
+  -- the vector over words of a * u + v is a times that of u, and that of v
   pub spread-linear : (xs : List (List ℕ)) (a : Residue p) (u v : N) (w : List ℕ) →
       spread xs (λ k. K.add (K.mul a (u k)) (v k)) w ≡ K.add (K.mul a (spread xs u w)) (spread xs v w)
   spread-linear [] a u v w = sym (ap (λ (n : Residue p). K.add n K.zero) (mul_zero K a) ∙ K.add_zero K.zero)
@@ -133,12 +126,14 @@ module _ (p : ℕ) (fm : IsFieldModulus p) where
   residues_of [] u = []
   residues_of (x ∷ xs) u = (u zero).0 ∷ residues_of xs (λ k. u (suc k))
 
+  -- the entries as numbers are a row of residues with one for each column
   pub residues_of-row : (xs : List (List ℕ)) (u : N) → IsRow p (length xs) (residues_of xs u)
   residues_of-row [] u = record { size = refl; residues = All-nil (λ a. a < p) }
   residues_of-row (x ∷ xs) u =
       let r = residues_of-row xs (λ k. u (suc k)) in
       record { size = ap suc r.size; residues = All-cons (λ a. a < p) (u zero).0 (residues_of xs (λ k. u (suc k))) (u zero).1 r.residues }
 
+  -- the entries as numbers have the same vector over words as the entries
   pub spread-residues : (xs : List (List ℕ)) (u : N) (w : List ℕ) → spread xs (vector p fm (residues_of xs u)) w ≡ spread xs u w
   spread-residues [] u w = refl
   spread-residues (x ∷ xs) u w =

@@ -48,6 +48,7 @@ module _ (ideal : Ideal) (st : IsSetting ideal) (d : ℕ) (G : List (List Term))
   abbrev pub IsReducerVector : V → Type 0
   IsReducerVector = IsLeader K (List ℕ) IsReducerAt (words_of_degree ideal.weights d)
 
+  -- a sum of multiples of reducers that is 0 at the reducible words above a normal word of degree d is 0 at it and at all greater words
   pub zero_from_normal : (v : V) → IsInSpan K (List ℕ) IsReducerVector v → (w : List ℕ) → Contains (words_of_degree ideal.weights d) w → IsNormal G w
       → ((x : List ℕ) (g : List Term) → IsReducer G x g → IsLetterwiseGreater x w → v x ≡ K.zero) → (y : List ℕ) →
       ((y ≡ w) ⊎ IsLetterwiseGreater y w) → v y ≡ K.zero
