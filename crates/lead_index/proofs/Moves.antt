@@ -33,6 +33,7 @@ module _ (nodes : List Node) (letters : ℕ) (moves : List Move) (h : IsAutomato
       subst (IsMove nodes n x) (sym is) (subst (λ (m : ℕ). IsMove nodes m x (get_or moves i here)) (div-mul-add n letters x in_letters)
       (subst (λ (y : ℕ). IsMove nodes (i / letters) y (get_or moves i here)) (mod-mul-add n letters x in_letters) (h.each i here move_within)))
 
+  -- the table is still the automaton's after a move of this state by this letter is set in its place
   pub move_set : (move : Move) → IsMove nodes n x move → IsAutomaton nodes letters (set moves (n * letters + x) move)
   move_set move is =
       let at : ℕ = n * letters + x in
@@ -73,6 +74,7 @@ automaton_unset nodes letters count unset moves some above size kind falls is = 
 })
 
 module _ (nodes : List Node) (rising : IsRising nodes) where
+  -- the state of the first node, that falls to it and has depth 0, is one of the tree
   pub state_first : (state : State) → 0 < length nodes → state.node ≡ 0 → state.fall ≡ 0 → state.depth ≡ 0 → IsState nodes state
   state_first state some node fall depth = record {
     within = omega (arith, some, node);
@@ -142,6 +144,7 @@ module _ (nodes : List Node) (rising : IsRising nodes) where
       ends = λ f. cc;
     }
 
+    -- where the step by the letter goes to a node, the move to this node is that of the state by the letter
     pub move_goes : (step : Step) (move : Move) → IsStep nodes state.node x step → step ≡ Goes move.to → move.kind ≡ Moves → move.falls ≡ false →
         IsMove nodes state.node x move
     move_goes step move h is kind falls = record {
@@ -156,6 +159,8 @@ module _ (nodes : List Node) (rising : IsRising nodes) where
       ends = λ f k. cc;
     }
 
+    -- where the step by the letter ends with an element, the move that finds it, with as many letters as the state is deep and one more,
+    -- is that of the state by the letter
     pub move_ends : (step : Step) (move : Move) → IsStep nodes state.node x step → step ≡ Ends move.to → move.kind ≡ Finds → move.falls ≡ false →
         move.len ≡ state.depth + 1 → IsMove nodes state.node x move
     move_ends step move h is kind falls len = record {
