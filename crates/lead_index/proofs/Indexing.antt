@@ -1,5 +1,5 @@
 -- An index of the leading words of a basis, element after element.
-use Rattle.std.proofs.Common.{◌≡◌, ◌≢◌, ◌↔◌, ◌+◌, ◌<◌, ◌≤◌, ℕ, List, [], ◌∷◌, ◌++◌, length, get_or, refl, sym, ap, ◌∙◌, inl, inr, arith, subst, Some, None}
+use Rattle.std.proofs.Common.{◌≡◌, ◌≢◌, ◌↔◌, ◌+◌, ◌<◌, ◌≤◌, ℕ, List, [], ◌∷◌, ◌++◌, length, get_or, sym, ap, ◌∙◌, inl, inr, arith, subst, Some, None}
 use Rattle.std.specs.List.{Contains}
 use Rattle.std.proofs.lemmas.Bool.{cases_lt}
 use Rattle.std.proofs.lemmas.List.Elements.{Contains-append_left, Contains-append_right, Contains-push_cases}
@@ -93,14 +93,3 @@ module _ (G : List (List Term)) where
     λ m. let r = (h l).0 m in (get_or G l.element [], slice_get-get_or G l.element [] (omega (arith, r.0, is)), r.1),
     λ r. (h l).1 (omega (arith, slice_get_within G l.element r.0 r.1, is), ap lead_of (get_or_from_slice_get G l.element r.0 [] r.1) ∙ r.2),
   )
-
--- the index with one more element that has a leading word has this word, with the place of the element, at its end
-pub with_lead-some : (leads : List Lead) (f : List Term) (n : ℕ) (w : List ℕ) → Some w ≡ lead_of f →
-    with_lead leads f n ≡ leads ++ record { word = w; element = n } ∷ []
-with_lead-some leads [] n w e = cc e
-with_lead-some leads (t ∷ f) n w e = let is : t.word ≡ w = some_same t.word w (sym e) in λ i. leads ++ record { word = is i; element = n } ∷ []
-
--- the index with one more element that has no leading word is the index
-pub with_lead-none : (leads : List Lead) (f : List Term) (n : ℕ) → None ≡ lead_of f → with_lead leads f n ≡ leads
-with_lead-none leads [] n e = refl
-with_lead-none leads (t ∷ f) n e = cc e

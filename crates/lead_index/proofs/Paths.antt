@@ -3,7 +3,7 @@ use Rattle.std.proofs.Common.{◌≡◌, ◌+◌, ◌<◌, ℕ, zero, suc, List,
 use Rattle.std.specs.List.{slice_get}
 use Rattle.std.proofs.lemmas.Bool.{cases_lt}
 use Rattle.lead_index.specs.declared.tree.Node.{Node}
-use Rattle.lead_index.specs.Tree.{HasPath, IsOnPath}
+use Rattle.lead_index.specs.Tree.{IsOnPath}
 
 -- the first nodes of the path are there
 pub record IsBegun (old new : List Node) (letters : List ℕ) (element i : ℕ) : Type 0 where
@@ -43,12 +43,3 @@ begun_more old new more letters element i node h on e = subst (λ (xs : List Nod
     )
   ];
 })
-
--- the first nodes of a path are the whole of it, if there are as many as letters
-pub begun_all : (old new : List Node) (letters : List ℕ) (element i : ℕ) → i ≡ length letters → IsBegun old new letters element i →
-    HasPath old new letters element
-begun_all old new letters element i e h = record {
-  count = let c = h.count in omega arith;
-  kept = h.kept;
-  path = λ k lt. h.path k (omega arith);
-}

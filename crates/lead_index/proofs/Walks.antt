@@ -3,7 +3,7 @@ use Rattle.std.proofs.Common.{◌≡◌, ◌+◌, ◌<◌, ◌≤◌, ℕ, List,
 use Rattle.std.proofs.Common.{append_assoc, length-drop}
 use Rattle.std.specs.List.{slice_get}
 use Rattle.std.proofs.lemmas.List.{drop_more, nil_from_length}
-use Rattle.std.proofs.lemmas.Option.{slice_get_past, slice_get_read}
+use Rattle.std.proofs.lemmas.Option.{slice_get_read}
 use Rattle.lead_index.specs.declared.tree.Node.{Node}
 use Rattle.lead_index.specs.Tree.{IsMissed, IsRising, IsSpelled, Leads, Meets}
 use Rattle.lead_index.specs.Tree.Leads.{below, beside, ends}
@@ -22,12 +22,7 @@ pub record IsWalk (nodes : List Node) (letters : List ℕ) (node place : ℕ) : 
   pub spelled : IsSpelled nodes node (drop place letters) letters
   pub missed : IsMissed nodes node (drop place letters) → IsMissed nodes 0 letters
 
--- no word is found where nothing stands, and none is empty
-missed_nothing : (nodes : List Node) (n : ℕ) (word : List ℕ) (element : ℕ) → Leads nodes n word element → slice_get nodes n ≡ None → ⊥
-missed_nothing nodes n word element (ends m node x e at l is) none = cc
-missed_nothing nodes n word element (below m child node x w e at l is h) none = cc
-missed_nothing nodes n word element (beside m sibling node x w e at l is h) none = cc
-
+-- no word that is found is empty
 missed_empty : (nodes : List Node) (n : ℕ) (word rest : List ℕ) (element : ℕ) → Leads nodes n word element → [] ≡ word ++ rest → ⊥
 missed_empty nodes n word rest element (ends m node x e at l is) none = cc
 missed_empty nodes n word rest element (below m child node x w e at l is h) none = cc
@@ -144,15 +139,3 @@ pub walk_all : (nodes : List Node) (letters : List ℕ) (n place : ℕ) → IsWa
 walk_all nodes letters n place walk le =
     let none : drop place letters ≡ [] = nil_from_length (drop place letters) (omega (arith, length-drop place letters)) in
     walk.missed (λ word rest element h joined. missed_empty nodes n word rest element h (sym none ∙ joined))
-
--- a tree with no node
-pub missed_none : (nodes : List Node) (letters : List ℕ) → length nodes ≡ 0 → IsMissed nodes 0 letters
-missed_none nodes letters none word rest element h joined = missed_nothing nodes 0 word element h (slice_get_past nodes 0 (omega (arith, none)))
-
--- a walk starts from the first node and place 0, if there is a node
-pub walk_starts : (nodes : List Node) (letters : List ℕ) → 0 < length nodes → IsWalk nodes letters 0 0
-walk_starts nodes letters some = record {
-  within = some;
-  spelled = λ before labelled. ap (λ (xs : List ℕ). xs ++ letters) (sym labelled.first);
-  missed = λ h. h;
-}

@@ -1,5 +1,5 @@
 -- The way along the links of a prefix tree to the end of a path.
-use Rattle.std.proofs.Common.{◌≡◌, ◌+◌, ◌<◌, ℕ, List, ◌∷◌, ◌++◌, length, drop, get_or, sym, ap, ◌∙◌, subst, set, Some, None}
+use Rattle.std.proofs.Common.{◌≡◌, ◌+◌, ◌<◌, ℕ, List, ◌∷◌, length, drop, get_or, sym, ap, ◌∙◌, subst, set, Some, None}
 use Rattle.std.specs.List.{slice_get}
 use Rattle.std.proofs.lemmas.List.{drop_more}
 use Rattle.lead_index.specs.declared.tree.Node.{Node}
@@ -74,11 +74,3 @@ module _ (nodes : List Node) (letters : List ℕ) (n place : ℕ) (here : Node) 
       (spelled_here nodes n place letters node lt letter way.spelled)
       (subst (λ (xs : List ℕ). IsOnTheWay nodes n xs letters) (drop_more letters place 0 lt
       ∙ ap (λ (x : ℕ). x ∷ drop (place + 1) letters) (sym letter)) way.leads)
-
--- a walk to the end of a path starts from the first node and place 0, if there is a node
-pub way_starts : (nodes : List Node) (letters : List ℕ) → 0 < length nodes → IsWay nodes letters 0 0
-way_starts nodes letters some = record {
-  within = some;
-  spelled = λ before labelled. ap (λ (xs : List ℕ). xs ++ letters) (sym labelled.first);
-  leads = λ after ext element h. h;
-}
