@@ -1,5 +1,5 @@
 -- A task ends with its series, or without it.
-use Rattle.std.proofs.Common.{◌≡◌, ◌-◌, ℕ, Bool, true, false, List, [], ◌++◌, refl, sym, inl, inr, arith, subst}
+use Rattle.std.proofs.Common.{◌≡◌, ◌-◌, ℕ, Bool, true, List, ◌++◌, refl, sym, inl, inr, arith, subst}
 use Rattle.std.proofs.KnownBytes.{Appends-trans}
 use Rattle.ideal_laws.specs.Laws.{IsSetting}
 use Rattle.poly_writer.specs.Outputs.{IsSeriesText}
@@ -14,9 +14,6 @@ use Rattle.job_steps.proofs.Reaches.{part_upto, some_upto}
 
 shown : (shows : Bool) (P : List ℕ → Type 0) (x : List ℕ) → shows ≡ true → P x → IsPart shows P x
 shown shows P x is h = subst (λ (b : Bool). IsPart b P x) (sym is) h
-
-hidden : (shows : Bool) (P : List ℕ → Type 0) → shows ≡ false → IsPart shows P []
-hidden shows P is = subst (λ (b : Bool). IsPart b P []) (sym is) refl
 
 module _ (t : Task) (text : List ℕ) (so_far : IsBasisSoFar t t.bound text) where
   -- the lines of all degrees stand before what comes of the series
