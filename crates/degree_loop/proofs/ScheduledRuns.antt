@@ -104,7 +104,7 @@ module _ (laws : ClaimedPivotsLaw) (counts : StepCounts) (problem : Problem) (cr
             ));
       }
 
-      -- the step makes those that are left fewer
+      -- after the step fewer of the most steps are left
       pub fewer_left : most_steps problem crew - steps_made after.state < most_steps problem crew - steps_made core.state
       fewer_left =
           let one : steps_made after.state ≡ steps_made core.state + 1 = ap steps_made own_state
