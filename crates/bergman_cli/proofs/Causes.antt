@@ -8,7 +8,7 @@ use Rattle.bg_io.specs.Ends.{Rose}
 use Rattle.command_words.specs.declared.job.Command.{Command}
 use Rattle.command_words.specs.declared.job.Job.{Job}
 use Rattle.command_words.specs.declared.job.UsageFault.{UsageFault}
-use Rattle.command_words.specs.JobOf.{HasOneAnswer, IsJob, IsUsageFault}
+use Rattle.command_words.specs.JobOf.{HasOneAnswer, IsUsageFault}
 use Rattle.job_steps.specs.declared.status.InputProblem.TheVariants.{TooLong, Text}
 use Rattle.job_steps.specs.declared.status.Status.{Status}
 use Rattle.job_steps.specs.declared.status.Status.TheVariants.{Usage, Input, ReadFault, WriteFault, NoMemory}
@@ -89,13 +89,6 @@ module _ (job : Job) (unread rest : SourceState) (before after : SinkState) wher
   abbrev Ends : Status → Type 0
   Ends = IsJobEnd job unread rest before after
 
-  -- a job does not end with a usage fault
-  pub job_reads : (status : Status) → Ends status → ReadsNothing status → ⊥
-  job_reads status (inl h) none = ungiven_not job.modulus unread rest job.command status h.0 (not_both_input status none) (λ is. subst ReadsNothing is none)
-  job_reads status (inr h) none =
-      never job h.letters h.relations before after job.command status (not_both status none)
-      (λ is. subst ReadsNothing is none) (λ is. subst ReadsNothing is none) h.holds
-
   -- where a job ends by itself, the text of an outcome with this status was gained
   pub job_own : (status : Status) → Ends status → IsOwn status → OfGiven job unread.left rest.left
       (λ letters relations. HasGained before after (IsOutcome job letters relations status))
@@ -142,18 +135,9 @@ module _ (words : List (List ℕ)) (unread rest : SourceState) (before after : S
   JobEnds job = IsJobEnd job unread rest before after
 
   -- but for a usage fault, a run ends as its job does
-  as_job : (status : Status) → (ReadsNothing status → ⊥) →
-      (OfJob words (λ job. JobEnds job status) → End status) × (End status → OfJob words (λ job. JobEnds job status))
-  as_job (Usage fault) some = absurd (some tt)
-  as_job status some = (λ h. h, λ h. h)
-
-  -- a status of a job is one of the run
-  pub end_of_job : (status : Status) (job : Job) → IsJob words job → JobEnds job status → End status
-  end_of_job status job is h = (as_job status (job_reads job unread rest before after status h)).0 (job, is, h)
-
-  -- and back
   pub job_of_end : (status : Status) → End status → (ReadsNothing status → ⊥) → OfJob words (λ job. JobEnds job status)
-  job_of_end status end some = (as_job status some).1 end
+  job_of_end (Usage fault) end some = absurd (some tt)
+  job_of_end status end some = end
 
   module _ (status : Status) (end : End status) where
     -- where a run ends by itself, the text of an outcome of its job was gained

@@ -23,20 +23,11 @@ pub make_or_reads : (command : Command) → (command ≡ commands.Make) ⊎ Read
 make_or_reads commands.Make = inl refl
 make_or_reads command = inr tt
 
--- make is no command that reads its source
-pub make_reads_nothing : (command : Command) → command ≡ commands.Make → ReadsSource command → ⊥
-make_reads_nothing command is reads = subst ReadsSource is reads
-
 module _ (job : Job) (left now : Option (List ℕ)) (text : List ℕ) where
   -- with a command that reads its source the given text is the input
   pub given_input : (command : Command) → ReadsSource command → IsGivenTo command job left now text → IsInput left now text
   given_input commands.Make reads h = absurd reads
   given_input command reads h = h
-
-  -- and back
-  pub input_given : (command : Command) → ReadsSource command → IsInput left now text → IsGivenTo command job left now text
-  input_given commands.Make reads h = absurd reads
-  input_given command reads h = h
 
   -- and the text that is told is what the source has left, at most 1,048,576 bytes
   pub told_input : (command : Command) → ReadsSource command → IsToldTo command job left text → (left ≡ Some text) × (length text ≤ 1048576)
@@ -48,11 +39,6 @@ module _ (p : ℕ) (unread rest : SourceState) (status : Status) where
   pub ungiven_input : (command : Command) → ReadsSource command → IsUngivenTo command p unread rest status → IsInputEnd p unread rest status
   ungiven_input commands.Make reads h = absurd reads
   ungiven_input command reads h = h
-
-  -- and back
-  pub input_ungiven : (command : Command) → ReadsSource command → IsInputEnd p unread rest status → IsUngivenTo command p unread rest status
-  input_ungiven commands.Make reads h = absurd reads
-  input_ungiven command reads h = h
 
 -- a text that is told is the one that was read to the end
 told_text : (xs text : List ℕ) (now : Option (List ℕ)) → IsInput (Some xs) now text → xs ≡ text

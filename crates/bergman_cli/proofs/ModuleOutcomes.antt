@@ -1,5 +1,5 @@
 -- What module answers is an outcome of its job.
-use Rattle.std.proofs.Common.{◌≡◌, ◌⊎◌, ◌<◌, ◌≤◌, ℕ, List, [], All, get_or, length, refl, sym, arith, subst, inl, inr}
+use Rattle.std.proofs.Common.{◌≡◌, ◌⊎◌, ◌≤◌, ℕ, List, [], All, get_or, length, refl, sym, arith, subst, inl, inr}
 use Rattle.ideal_laws.specs.Ideal.{ideal_of, ideal_over}
 use Rattle.ideal_laws.specs.declared.limits.LimitKind.{LimitKind}
 use Rattle.ideal_laws.specs.declared.limits.LimitKind.TheVariants.{NormalWords}
@@ -7,13 +7,12 @@ use Rattle.ideal_laws.specs.declared.presentation.Presentation.{Presentation}
 use Rattle.ideal_laws.specs.Laws.{IsSetting}
 use Rattle.ideal_laws.specs.Limits.{standard_limits}
 use Rattle.ideal_laws.specs.Quantities.{IsFirstRefused, NonePassesUpto}
-use Rattle.right_modules.specs.Answered.{AreModuleNumbers, AreModuleOutside, AreShaped, IsFirstLarge, IsFirstOther, free_letters}
+use Rattle.right_modules.specs.Answered.{AreModuleNumbers, AreModuleOutside, AreShaped, IsFirstLarge, free_letters}
 use Rattle.right_modules.specs.ModuleDimension.{IsModuleCoefficient}
 use Rattle.right_modules.proofs.ModuleCounts.{counts_module}
 use Rattle.command_words.specs.declared.job.Job.{Job}
 use Rattle.job_steps.specs.declared.answer.Answer.{Answer}
-use Rattle.job_steps.specs.declared.status.InputProblem.TheVariants.{TooFewNames, Shape}
-use Rattle.job_steps.specs.declared.status.Status.TheVariants.{Done, Input, Limit}
+use Rattle.job_steps.specs.declared.status.Status.TheVariants.{Done, Limit}
 use Rattle.bergman_cli.specs.Engines.{limits_of}
 use Rattle.bergman_cli.specs.Module.{IsCrowded, IsFirstLargeModule, IsModuleOutcome, IsModuleText}
 use Rattle.bergman_cli.proofs.OwnLimits.{own_none, own_refused}
@@ -21,16 +20,6 @@ use Rattle.bergman_cli.proofs.OwnLimits.{own_none, own_refused}
 module _ (job : Job) (given : Presentation) (answer : Answer) where
   abbrev Outcome : Answer → Type 0
   Outcome a = IsModuleOutcome job given.alphabet given.relations a.status a.text
-
-  -- fewer names than generators
-  pub names_outcome : (names : ℕ) → answer ≡ record { status = Input (TooFewNames names); text = [] } → names < job.gens →
-      names ≡ length given.alphabet.weights → Outcome answer
-  names_outcome names is few same = subst Outcome (sym is) ((few, same), refl)
-
-  -- a relation of neither kind
-  pub shape_outcome : (relation : ℕ) → answer ≡ record { status = Input (Shape relation); text = [] } →
-      job.gens ≤ length given.alphabet.weights → IsFirstOther (free_letters given job.gens) given.relations relation → Outcome answer
-  shape_outcome relation is names other = subst Outcome (sym is) ((names, other), refl)
 
   module _ (names : job.gens ≤ length given.alphabet.weights) (shaped : AreShaped given job.gens) (limits : List (LimitKind × ℕ))
       (same : limits ≡ limits_of job.engine) (p : ℕ) (field : p ≡ job.modulus)

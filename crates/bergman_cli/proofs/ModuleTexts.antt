@@ -1,12 +1,12 @@
 -- The texts of a right module, from what is told of it.
-use Rattle.std.proofs.Common.{◌≡◌, ◌+◌, ◌<◌, ◌≤◌, ℕ, List, [], ◌++◌, All, append_assoc, drop, get_or, length, map, refl, sym, ap, ◌∙◌, arith, subst}
-use Rattle.std.proofs.lemmas.List.{append-nil, drop_all, drop_more, get_or-map, length-map}
+use Rattle.std.proofs.Common.{◌≡◌, ◌+◌, ◌<◌, ◌≤◌, ℕ, List, [], ◌++◌, All, drop, get_or, length, map, refl, sym, ap, ◌∙◌, arith, subst}
+use Rattle.std.proofs.lemmas.List.{append-nil, drop_all, get_or-map, length-map}
 use Rattle.words.proofs.Members.{All-from_members}
 use Rattle.free_poly.specs.declared.term.Term.{Term}
 use Rattle.free_poly.specs.Poly.{IsMonic}
 use Rattle.ideal_laws.specs.declared.presentation.Presentation.{Presentation}
 use Rattle.ideal_laws.specs.Ideal.{IsElement, ideal_of}
-use Rattle.poly_writer.specs.Texts.{basis_text, degree_text, degree_texts}
+use Rattle.poly_writer.specs.Texts.{basis_text, degree_texts}
 use Rattle.right_modules.specs.declared.module.ModuleDegree.{ModuleDegree}
 use Rattle.right_modules.specs.Answered.{AreModuleDegrees, AreModuleNumbers, IsModuleBasisOf, free_letters}
 use Rattle.command_words.specs.declared.job.Job.{Job}
@@ -25,18 +25,7 @@ module _ (names : List (List ℕ)) (p : ℕ) (degrees : List ModuleDegree) (whol
   abbrev pub IsTextBefore : ℕ → List ℕ → Type 0
   IsTextBefore k so_far = so_far ++ degree_texts names p (k + 1) (lists_of (drop k degrees)) ≡ whole
 
-  -- the lines of one more degree
-  pub text_more : (text : List ℕ) (k : ℕ) (m : ModuleDegree) (lines : List ℕ) → k < length degrees → (get_or degrees k m).degree ≡ k + 1
-      → lines ≡ degree_text names p (get_or degrees k m).degree (get_or degrees k m).elements → IsTextBefore k text → IsTextBefore (k + 1) (text ++ lines)
-  text_more text k m lines within degree is h =
-      let rest = degree_texts names p (k + 1 + 1) (lists_of (drop (k + 1) degrees)) in
-      let first = is ∙ ap (λ (d : ℕ). degree_text names p d (get_or degrees k m).elements) degree in
-      append_assoc text lines rest
-      ∙ ap (λ (t : List ℕ). text ++ t) (ap (λ (t : List ℕ). t ++ rest) first
-      ∙ sym (ap (λ (ds : List ModuleDegree). degree_texts names p (k + 1) (lists_of ds)) (drop_more degrees k m within)))
-      ∙ h
-
-  -- and behind the last degree nothing is left
+  -- behind the last degree nothing is left
   pub text_end : (text : List ℕ) (k : ℕ) → length degrees ≤ k → IsTextBefore k text → text ≡ whole
   text_end text k end h = sym (append-nil text) ∙ ap (λ (ds : List ModuleDegree). text ++ degree_texts names p (k + 1) (lists_of ds))
       (sym (drop_all k degrees end)) ∙ h
@@ -89,10 +78,6 @@ module _ (job : Job) (given : Presentation) (p : ℕ) (field : p ≡ job.modulus
     is_series = subst (λ (s : Show). IsPart (shows_series s) SeriesText series) (sym is) b;
     joined = joined;
   }
-
-  -- the basis alone
-  pub basis_shown : job.show ≡ shows.Basis → (text : List ℕ) → BasisText p text → IsModuleText job given.alphabet given.relations text
-  basis_shown is text h = shown shows.Basis is text [] text (own_basis text h) refl (sym (append-nil text))
 
   -- the series alone
   pub series_shown : job.show ≡ shows.Series → (numbers text : List ℕ) → AreModuleNumbers p given job.gens job.bound numbers →

@@ -1,5 +1,5 @@
 -- What normal answers is an outcome of its job.
-use Rattle.std.proofs.Common.{◌≡◌, ◌+◌, ◌-◌, ◌<◌, ◌≤◌, ℕ, List, [], All, drop, length, length-drop, take, refl, sym, ap, ◌∙◌, inl, inr, arith, subst}
+use Rattle.std.proofs.Common.{◌≡◌, ◌+◌, ◌-◌, ◌≤◌, ℕ, List, [], All, drop, length, length-drop, take, refl, sym, ap, ◌∙◌, inl, inr, arith, subst}
 use Rattle.std.proofs.lemmas.List.{take_all}
 use Rattle.std.proofs.lemmas.List.Elements.{All-drop, All-take}
 use Rattle.words.specs.Names.{Letters}
@@ -8,14 +8,14 @@ use Rattle.ideal_laws.specs.Ideal.{ideal_over}
 use Rattle.ideal_laws.specs.declared.limits.LimitKind.{LimitKind}
 use Rattle.ideal_laws.specs.Quantities.{IsFirstRefused, NonePassesUpto}
 use Rattle.command_words.specs.declared.job.Job.{Job}
-use Rattle.job_steps.specs.declared.status.InputProblem.TheVariants.{TooFewRelations, AboveBound}
+use Rattle.job_steps.specs.declared.status.InputProblem.TheVariants.{AboveBound}
 use Rattle.job_steps.specs.declared.status.Status.{Status}
 use Rattle.job_steps.specs.declared.status.Status.TheVariants.{Done, Input, Limit}
 use Rattle.job_steps.specs.Progress.{refused}
 use Rattle.job_steps.specs.Statuses.{IsTaskStatus}
 use Rattle.bergman_cli.specs.Engines.{limits_of}
 use Rattle.bergman_cli.specs.Normal.{IsAbove, IsAnsweredBy, IsAskable, IsFirstPlace, IsNormalOutcome, above, answered, defining_relations, ideal_size}
-use Rattle.bergman_cli.specs.Normal.{normal_task, questions_of, stopped, too_few, too_many}
+use Rattle.bergman_cli.specs.Normal.{normal_task, questions_of, stopped, too_many}
 use Rattle.bergman_cli.proofs.OwnLimits.{own_none, own_refused}
 
 -- what holds of all relations holds of a part of them
@@ -30,10 +30,6 @@ questions-part job whole rs is =
     ∙ ap (λ (l : List (List Term)). drop (length l - job.ask) l) is
 
 module _ (job : Job) (letters : Letters) (relations : List (List Term)) where
-  -- fewer relations than questions are asked
-  pub few_outcome : (n : ℕ) → n ≡ length relations → length relations < job.ask → IsNormalOutcome job letters relations (Input (TooFewRelations n)) []
-  few_outcome n count less = (too_few, less, ap (λ (m : ℕ). Input (TooFewRelations m)) count, refl)
-
   -- a question above the bound
   pub above_outcome : (n place : ℕ) → n ≡ ideal_size job relations + place + 1 → job.ask ≤ length relations →
       IsFirstPlace (IsAbove letters.weights job.bound) (questions_of job relations) place → IsNormalOutcome job letters relations (Input (AboveBound n)) []

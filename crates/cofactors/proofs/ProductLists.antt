@@ -188,9 +188,13 @@ module _ (p : ℕ) (fm : IsFieldModulus p) (relations : List (List Term)) where
 
   -- coefficients of the triples that make up a sum of multiples
   pub record HasCoefficients (qs : List Product) (ms : List Multiple) : Type 0 where
+    -- a coefficient of each triple
     pub coefficients : List ℕ
+    -- they are as many as the triples
     pub count : length coefficients ≡ length qs
+    -- each is a residue
     pub residues : All (λ c. c < p) coefficients
+    -- the multiples and the triples with these coefficients have the same sum
     pub same : (w : List ℕ) → vec (flat_map terms_of ms) w ≡ vec (weighted relations coefficients qs) w
 
   positive : 0 < p

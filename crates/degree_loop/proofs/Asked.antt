@@ -19,6 +19,7 @@ module _ (Q : Quantities) where
   first_behind [] ms kind value none h = h
   first_behind (l ∷ ls) ms kind value none h = inr (none.0.0, none.0.1, none.0.2, first_behind ls ms kind value none.1 h)
 
+  -- if no quantity passes its limit in either of two lists of limits, none does in one after the other
   pub none_together : (ls ms : List (LimitKind × ℕ)) → NonePasses Q ls → NonePasses Q ms → NonePasses Q (ls ++ ms)
   none_together [] ms none more = more
   none_together (l ∷ ls) ms none more = (none.0, none_together ls ms none.1 more)
@@ -30,6 +31,7 @@ module _ (Q : Quantities) where
     first_moved (l ∷ ls) kind value (inl h) = inl (h.0, moved l.0 h.0 h.1, h.2, h.3, h.4)
     first_moved (l ∷ ls) kind value (inr h) = inr (h.0, moved l.0 h.0 h.1, h.2, first_moved ls kind value h.3)
 
+    -- if no quantity passes its limit, and the quantities are others, too, none of the others does
     pub none_moved : (ls : List (LimitKind × ℕ)) → NonePasses Q ls → NonePasses R ls
     none_moved [] none = tt
     none_moved (l ∷ ls) none = ((none.0.0, moved l.0 none.0.0 none.0.1, none.0.2), none_moved ls none.1)
@@ -44,9 +46,11 @@ module _ (Q : Quantities) (d : ℕ) (ls ms : List (LimitKind × ℕ)) {T U : Typ
   given_fault : (other : EngineFault) → r ≡ Err other → given ≡ Err other
   given_fault other e = is ∙ ap Err (same_fault r fault other handed e)
 
+  -- a fault that is handed on, and names what passes first among the first limits, names what passes first among all
   pub handed_first : NamesFirst Q d ls given → NamesFirst Q d (ls ++ ms) r
   handed_first h kind degree value e = let k = h kind degree value (given_fault (Limit kind degree value) e) in (k.0, first_before Q ls ms kind value k.1)
 
+  -- if nothing passes the first limits, one that names what passes first among the later ones names what passes first among all
   pub handed_behind : NonePasses Q ls → NamesFirst Q d ms given → NamesFirst Q d (ls ++ ms) r
   handed_behind none h kind degree value e = let k = h kind degree value (given_fault (Limit kind degree value) e) in
       (k.0, first_behind Q ls ms kind value none k.1)

@@ -48,15 +48,18 @@ module _ (problem : Problem) (crew : ℕ) (s : State) (rule : ClaimedPivots prob
   abbrev calls : List Call
   calls = merged (logs_of s)
 
+  -- each call is in range and tells what its column holds
   pub told : All (IsTrueCall problem s) calls
   told = each_call problem crew s rule (IsTrueCall problem s)
       (λ i lt. All-weaker (IsCall problem s i (view_at problem s i).clock) (IsTrueCall problem s)
       (λ k is. record { own = refl; column = is.column; row = is.row; stamp = omega arith; answered = is.answered })
       (view_at problem s i).calls (rule.calls_and_counts.each i lt))
 
+  -- the stamp in the answer of a lost call is below the stamp of the call
   pub all_above : All IsAboveAnswer calls
   all_above = All-weaker (IsTrueCall problem s) IsAboveAnswer (λ k is row stamp e. (let h = subst (IsAnswered problem s k) e is.answered in h.3)) calls told
 
+  -- two calls of one seat are on two columns
   pub once : AllPairs (λ k l. k.seat ≡ l.seat → k.column ≢ l.column) calls
   once = calls_of-pairs (λ k l. k.column ≢ l.column) calls (λ i. elim (cases_lt i crew) [
     | inl lt ↦ subst (AllPairs (λ (k l : Call). k.column ≢ l.column)) (sym (merge.logs i lt)) (rule.calls_and_counts.columns i lt)
@@ -70,6 +73,7 @@ module _ (problem : Problem) (crew : ℕ) (s : State) (rule : ClaimedPivots prob
   won_holds : (k : Call) → IsTrueCall problem s k → IsWon k → IsHeld problem s k.column × (holder_of problem s k.column ≡ k.row)
   won_holds k is won = let h = subst (IsAnswered problem s k) won is.answered in (h.0, h.1)
 
+  -- two won calls have two rows
   pub rows_apart : AllPairs (λ k l. IsWon k → IsWon l → k.row ≢ l.row) calls
   rows_apart i j d below within k_won l_won same =
       let k : Call = get_or calls i d in
@@ -83,6 +87,7 @@ module _ (problem : Problem) (crew : ℕ) (s : State) (rule : ClaimedPivots prob
   pub won_held : (k : Call) → Contains calls k → IsWon k → IsHeld problem s k.column
   won_held k there won = (won_holds k (All-contains (IsTrueCall problem s) calls k told there) won).0
 
+  -- a held column was won by one of the calls
   pub held_won : (c : ℕ) → IsHeld problem s c → (k : Call) × Contains calls k × IsWon k × (k.column ≡ c)
   held_won c h =
       let none : Call = record { seat = 0; stamp = 0; column = 0; row = 0; answer = answer.Won } in
@@ -118,6 +123,7 @@ module _ (ideal : Ideal) (st : IsSetting ideal) (d : ℕ) (G : List (List Term))
   led_word : (r : List ℕ) (c : ℕ) → c < problem.m → LeadsAt c r → lead_of (element_on contested r) ≡ Some (get_or contested c [])
   led_word r c lt h = (element_on-first contested r c (omega (arith, lt, matrix.width)) h.before h.one).0
 
+  -- each leading word of the reduced basis of the degree is the word of a held column
   pub lead_held : (w : List ℕ) → IsLeadOf elements w → (c : ℕ) × IsHeld problem s c × (get_or contested c [] ≡ w)
   lead_held w h =
       let there = (own_basis.exactly h.0).1 ((basis.exactly h.0).0 h.1) in
@@ -128,6 +134,7 @@ module _ (ideal : Ideal) (st : IsSetting ideal) (d : ℕ) (G : List (List Term))
         some_same (get_or contested l.0 []) w (sym (led_word q.0 l.0 l.1.below l.2) ∙ ap lead_of q.2 ∙ h.2),
       )
 
+  -- the word of each held column is a leading word of the reduced basis of the degree
   pub held_lead : (c : ℕ) → IsHeld problem s c → IsLeadOf elements (get_or contested c [])
   held_lead c h =
       let r = held_leads problem (holders problem s) (values problem s) pivots modulus echelon form c
@@ -140,6 +147,8 @@ account_is : (account : Account) (n : ℕ) (words : List (List ℕ)) (ks : List 
     account.calls ≡ ks → account ≡ record { rows = n; columns = words; calls = ks }
 account_is account n words ks r c k = λ i. record { rows = r i; columns = c i; calls = k i }
 
+-- by the laws of the machine, of the one echelon form and of the rows of a degree, the account of an ended run
+-- tells the matrix and the claims, of which the won ones name exactly the leading words of the degree
 pub run_accounts_tell : ClaimedPivotsLaw → HeldRowsArePivots → OneLegalHistory → HistoryMergesLogs → HaveOneRref → RowsGiveBasis → RunAccountsTell
 run_accounts_tell rules pivot_law histories merges form_law basis_law workers ideal st some few d G lower account run elements basis =
     let problem = run.problem in

@@ -27,22 +27,27 @@ module _ (ideal : Ideal) (st : IsSetting ideal) (d : ℕ) (G : List (List Term))
     term_says f m t n = words_of_degree-says ideal.weights st.are_weights d t.word
         (member_word ideal st d f (row_member ideal st d G lower rows are f m) t n)
 
+    -- all terms of the rows have the degree
     pub rows_degree : All (HasDegree ideal.weights d) rows
     rows_degree = All-from_members (HasDegree ideal.weights d) rows (λ f m. All-from_members (λ t. degree_of ideal.weights t.word ≡ d) f
         (λ t n. (term_says f m t n).1))
 
+    -- all letters of the rows are letters of the ideal
     pub rows_letters : All (UsesLetters (length ideal.weights)) rows
     rows_letters = All-from_members (UsesLetters (length ideal.weights)) rows
         (λ f m. All-from_members (λ t. IsOver (length ideal.weights) t.word) f (λ t n. (term_says f m t n).0))
 
+    -- all coefficients of the rows are residues by the modulus
     pub rows_residues : All (HasResidues ideal.modulus) rows
     rows_residues = All-from_members (HasResidues ideal.modulus) rows (λ f m. (row_member ideal st d G lower rows are f m).residues)
 
     module _ (columns : List (List ℕ)) (are_columns : AreColumns G (words_of rows) columns) where
+      -- all words of the rows are columns of the closure
       pub rows_on_columns : All (IsOnColumns columns) rows
       rows_on_columns = All-from_members (IsOnColumns columns) rows
           (λ f m. All-from_members (λ t. Contains columns t.word) f (row_column ideal st d G lower rows are columns are_columns f m))
 
+    -- all coefficients of the reducers are residues by the modulus
     pub reducer_residues : (closed : ClosedColumns) → IsClosed G (words_of rows) closed → All (HasResidues ideal.modulus) (reducers_in closed.reducers)
     reducer_residues closed h = All-from_members (HasResidues ideal.modulus) (reducers_in closed.reducers)
         (λ g m. let r = reducer_says G closed.columns closed.reducers h.are_reducers g m in

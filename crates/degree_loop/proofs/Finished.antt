@@ -27,11 +27,13 @@ module _ (ideal : Ideal) (G : List (List Term)) (d : ℕ) (closed : ClosedColumn
   abbrev contested : List (List ℕ)
   contested = contested_words closed.columns closed.reducers
 
+  -- the echelon form of the problem is one by the modulus of the ideal, with as many columns as contested words
   pub form_of : (echelon : List (List ℕ)) → IsRref problem.modulus problem.m (rows_of problem) echelon
       → IsRref ideal.modulus (length contested) (rows_of problem) echelon
   form_of echelon f = subst (λ (n : ℕ). IsRref ideal.modulus n (rows_of problem) echelon) h.width
       (subst (λ (n : ℕ). IsRref n problem.m (rows_of problem) echelon) h.modulus f)
 
+  -- the polynomials of the rows of an echelon form of the problem are the reduced basis of the degree, by the law of the rows
   pub basis_of : (law : RowsGiveBasis) (st : IsSetting ideal) (lower : AreLower ideal d G) (echelon : List (List ℕ))
       → IsRref problem.modulus problem.m (rows_of problem) echelon
       → (elements : List (List Term)) → elements ≡ map (element_on contested) echelon → IsReducedBasis ideal d elements
@@ -53,6 +55,7 @@ basis_monic ideal d basis h = All-from_members IsMonic basis (λ f m. ((h.exactl
 -- the terms pass their limit, or do not
 module _ (ideal : Ideal) (below : Elements) (d most count : ℕ) (elements : List (List Term)) (basis : IsReducedBasis ideal d elements)
     (few : most < 2 ^ 32) (is : count ≡ min (terms_in below.elements + terms_in elements) (2 ^ 64 - 1)) where
+  -- if the terms of all elements pass their limit, the fault that says so names the degree and the first quantity that passes
   pub terms_pass : most < count → (kind : LimitKind) (degree value : ℕ) → {T : Type 0} (r : Result T EngineFault) →
       r ≡ Err (Limit Terms d count) → r ≡ Err (Limit kind degree value)
       → (degree ≡ d) × IsFirstPassing (IsQuantity ideal below d) ((Terms, most) ∷ []) kind value
@@ -62,8 +65,10 @@ module _ (ideal : Ideal) (below : Elements) (d most count : ℕ) (elements : Lis
       let is_value : value ≡ count = cc e in
       (is_degree, inl (terms_in below.elements + terms_in elements, (elements, basis, refl), omega (arith, lt, is, few), is_kind, omega (arith, is_value, is)))
 
+  -- if the terms of all elements are within their limit, none passes
   pub terms_within : count ≤ most → NonePasses (IsQuantity ideal below d) ((Terms, most) ∷ [])
   terms_within le = ((terms_in below.elements + terms_in elements, (elements, basis, refl), omega (arith, le, is, few)), tt)
 
+  -- if the terms of all elements are within their limit, and the elements of the degree no more than their terms, they are within it, too
   pub elements_few : count ≤ most → length elements ≤ terms_in elements → length elements ≤ most
   elements_few le some = omega (arith, le, is, few, some)

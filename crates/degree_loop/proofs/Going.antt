@@ -25,12 +25,15 @@ module _ (p : ℕ → Bool) where
       sym (ap (filter p) (map-id (range_with_len 0 (n + 1)))) ∙ filter_of_map_range_with_len_more p (λ (i : ℕ). i) 0 n n (omega arith)
       ∙ ap (λ (l : List ℕ). filter p l ++ cond (p n) (n ∷ []) []) (map-id (range_with_len 0 n))
 
+  -- one number more that passes the test stands at the end of those that pass
   pub passing-one : (n : ℕ) → p n ≡ true → passing (n + 1) ≡ passing n ++ n ∷ []
   passing-one n e = passing_more n ∙ ap (λ (b : Bool). passing n ++ cond b (n ∷ []) []) e
 
+  -- one number more that does not pass the test leaves those that pass as they are
   pub passing-none : (n : ℕ) → p n ≡ false → passing (n + 1) ≡ passing n
   passing-none n e = passing_more n ∙ ap (λ (b : Bool). passing n ++ cond b (n ∷ []) []) e ∙ append-nil (passing n)
 
+  -- no more numbers pass than there are below the bound
   pub passing_few : (n : ℕ) → length (passing n) ≤ n
   passing_few n = omega (arith, length-filter_both p (λ i. not (p i)) (λ i. refl) (range_with_len 0 n), length-range_with_len 0 n)
 
@@ -39,6 +42,7 @@ module _ (p : ℕ → Bool) where
     pub at : get_or ns (length (passing n)) 0 ≡ n
     pub within : length (passing n) < length ns
 
+  -- a number that passes the test stands, among those below a greater bound, behind those below it
   pub placed : (n : ℕ) → p n ≡ true → (m k : ℕ) → n + 1 + k ≡ m → IsPlaced n (passing m)
   placed n e m zero is =
       let same : n + 1 ≡ m = omega (arith, is) in

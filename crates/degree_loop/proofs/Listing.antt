@@ -28,9 +28,11 @@ module _ (weights : List ℕ) (d : ℕ) (fs : List (List Term)) (k : ℕ) (f : L
       ∙ of_degree-append weights d (take k fs) (get_or fs k f ∷ [])
       ∙ ap (λ (gs : List (List Term)). of_degree weights d (take k fs) ++ gs) (ap (λ (g : List Term). of_degree weights d (g ∷ [])) (sym is) ∙ has)
 
+  -- if the next relation has the degree, it stands at the end of those of the degree
   pub of_degree-listed : b ≡ true → of_degree weights d (take (k + 1) fs) ≡ of_degree weights d (take k fs) ++ f ∷ []
   of_degree-listed e = of_degree-more ∙ ap (λ (c : Bool). of_degree weights d (take k fs) ++ cond c (f ∷ []) []) e
 
+  -- if the next relation does not have the degree, those of the degree stay the same
   pub of_degree-left : b ≡ false → of_degree weights d (take (k + 1) fs) ≡ of_degree weights d (take k fs)
   of_degree-left e = of_degree-more ∙ ap (λ (c : Bool). of_degree weights d (take k fs) ++ cond c (f ∷ []) []) e
       ∙ append-nil (of_degree weights d (take k fs))

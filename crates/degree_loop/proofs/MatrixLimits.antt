@@ -42,6 +42,7 @@ module _ (ideal : Ideal) (below : Elements) (d : ℕ) (limits : Limits) where
   later_limits = closing_limits limits ++ cell_limit
 
   module _ (rows : List (List Term)) (are : AreRows ideal below.elements d rows) (few : NonePasses Q row_limit) where
+    -- if the rows are within their limit, what passes first in the closure of the rows passes first in the matrix
     pub close_passes : (kind : LimitKind) (value : ℕ) → IsFirstPassing (IsClosedQuantity below.elements rows) (closing_limits limits) kind
         value → IsFirstPassing Q (matrix_limits limits) kind value
     close_passes kind value h =
@@ -54,6 +55,7 @@ module _ (ideal : Ideal) (below : Elements) (d : ℕ) (limits : Limits) where
       own_within : NonePasses Q (closing_limits limits)
       own_within = none_moved (IsClosedQuantity below.elements rows) Q (closed_quantity ideal below d rows are) (closing_limits limits) within
 
+      -- if the rows and their closure are within the limits, cells that pass their limit are what passes first in the matrix
       pub cells_pass : (kind : LimitKind) (value : ℕ) → IsFirstPassing (IsCellQuantity rows closed) cell_limit kind value →
           IsFirstPassing Q (matrix_limits limits) kind value
       cells_pass kind value h =
@@ -61,6 +63,7 @@ module _ (ideal : Ideal) (below : Elements) (d : ℕ) (limits : Limits) where
           (first_behind Q (closing_limits limits) cell_limit kind value own_within
           (first_moved (IsCellQuantity rows closed) Q (cell_quantity ideal below d rows are closed is_closed) cell_limit kind value h))
 
+      -- if the cells are also within their limit, no limit of the matrix is passed
       pub matrix_within : NonePasses (IsCellQuantity rows closed) cell_limit → NonePasses Q (matrix_limits limits)
       matrix_within cells =
           none_together Q row_limit later_limits few

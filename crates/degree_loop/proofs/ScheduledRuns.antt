@@ -87,6 +87,7 @@ module _ (laws : ClaimedPivotsLaw) (counts : StepCounts) (problem : Problem) (cr
       reached_next = own_state ∙ ap (λ (s : State). after_event problem s e) h.reached
           ∙ sym (after_events-append problem (opening problem crew) h.events (e ∷ []))
 
+      -- the event that the next number chooses takes the machine one step further on the schedule
       pub next_so_far : after.problem ≡ core.problem → after.crew ≡ core.crew → IsSoFar problem crew schedule after found
       next_so_far problem_is crew_is = record {
         setting = h.setting;
@@ -103,6 +104,7 @@ module _ (laws : ClaimedPivotsLaw) (counts : StepCounts) (problem : Problem) (cr
             ));
       }
 
+      -- after the step fewer of the most steps are left
       pub fewer_left : most_steps problem crew - steps_made after.state < most_steps problem crew - steps_made core.state
       fewer_left =
           let one : steps_made after.state ≡ steps_made core.state + 1 = ap steps_made own_state
@@ -112,6 +114,7 @@ module _ (laws : ClaimedPivotsLaw) (counts : StepCounts) (problem : Problem) (cr
           (counts problem crew h.setting (h.events ++ e ∷ [])).all_steps in
           omega (arith, one, most)
 
+    -- when every view has ended, the problem and the logs are those of a run that the schedule chooses
     pub ended_schedule : HasEnded core.problem core.state → (f : Finished) → f.problem ≡ core.problem → f.logs ≡ logs_of core.state →
         IsScheduledRun problem crew schedule f
     ended_schedule ended f problem_is logs = record {

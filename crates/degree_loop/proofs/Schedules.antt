@@ -39,6 +39,7 @@ same_state problem s number e f h k =
     made_next problem s e h.kind ∙ ap (λ (seat : ℕ). with_step problem s seat (made_by problem s seat)) (h.seat ∙ sym k.seat)
     ∙ sym (made_next problem s f k.kind)
 
+-- two runs that one schedule chooses from a state lead to one state
 pub leads_to_one_state : LeadsToOneState
 leads_to_one_state problem s number [] [] h k = refl
 leads_to_one_state problem s number [] (f ∷ fs) h k = absurd (none_chosen problem s (next_number number) f h k.0)

@@ -87,8 +87,11 @@ module _ (weights : List ℕ) (leads : List Lead) where
 
   -- what is held after one more degree
   pub record IsNextHeld (d : ℕ) (held : List WordsOfDegree) : Type 0 where
+    -- they are the normal words of the last degrees
     pub are_held : AreHeld weights leads held
+    -- the next degree is d
     pub is_next : next_of held ≡ d
+    -- they are of at most 8 degrees
     pub few : length held ≤ 8
 
   -- at first nothing is held

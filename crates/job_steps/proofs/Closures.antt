@@ -37,11 +37,17 @@ module _ (G : List (List Term)) (words : List (List ℕ)) (lower : (w v : List �
 
   -- the words of the closure in a list that falls, where those of pending are in it and bring further ones
   pub record ClosedFrom (ws pending : List (List ℕ)) : Type 0 where
+    -- the words
     pub columns : List (List ℕ)
+    -- each is one of the list
     pub among : (w : List ℕ) → Contains columns w → Contains ws w
+    -- each is in the closure
     pub inside : AreInside columns
+    -- each word of pending that is one of the list is there
     pub complete : (w : List ℕ) → Contains pending w → Contains ws w → Contains columns w
+    -- with a word there is each word of its reducers that is one of the list
     pub closed : (w v : List ℕ) (r : List Term) → Contains columns w → IsReducer G w r → Contains (words_in r) v → Contains ws v → Contains columns v
+    -- each is letterwise greater than the later ones
     pub falling : AllPairs IsLetterwiseGreater columns
 
   closed_none : (pending : List (List ℕ)) → ClosedFrom [] pending

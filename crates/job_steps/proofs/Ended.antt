@@ -1,7 +1,5 @@
 -- A task ends with its series, or without it.
-use Rattle.std.proofs.Common.{◌≡◌, ◌-◌, ℕ, Bool, true, false, List, [], ◌++◌, refl, sym, inl, inr, arith, subst}
-use Rattle.std.proofs.lemmas.Bool.{both_ways}
-use Rattle.std.proofs.lemmas.List.{append-nil}
+use Rattle.std.proofs.Common.{◌≡◌, ◌-◌, ℕ, Bool, true, List, ◌++◌, refl, sym, inl, inr, arith, subst}
 use Rattle.std.proofs.KnownBytes.{Appends-trans}
 use Rattle.ideal_laws.specs.Laws.{IsSetting}
 use Rattle.poly_writer.specs.Outputs.{IsSeriesText}
@@ -17,25 +15,7 @@ use Rattle.job_steps.proofs.Reaches.{part_upto, some_upto}
 shown : (shows : Bool) (P : List ℕ → Type 0) (x : List ℕ) → shows ≡ true → P x → IsPart shows P x
 shown shows P x is h = subst (λ (b : Bool). IsPart b P x) (sym is) h
 
-hidden : (shows : Bool) (P : List ℕ → Type 0) → shows ≡ false → IsPart shows P []
-hidden shows P is = subst (λ (b : Bool). IsPart b P []) (sym is) refl
-
 module _ (t : Task) (text : List ℕ) (so_far : IsBasisSoFar t t.bound text) where
-  -- no series is shown
-  pub done_with_basis : (a c : SinkState) → t.shows_series ≡ false → GainsAll a c text → HasPrinted t whole a c
-  done_with_basis a c hides w = record {
-    is_reach = (so_far.passes_none, λ shows. absurd (both_ways t.shows_series hides shows));
-    text = text;
-    is_text = record {
-      basis = text;
-      series = [];
-      is_basis = so_far.is_basis;
-      is_series = hidden t.shows_series (IsSeriesText t.modulus t.letters t.relations t.bound) hides;
-      joined = sym (append-nil text);
-    };
-    appended = w.appended;
-  }
-
   -- the lines of all degrees stand before what comes of the series
   all_lines : (gained : List ℕ) → IsBeginning text gained → HasLinesBelow t t.bound gained
   all_lines gained begins = record { degree = t.bound; lines = text; so_far = so_far; begins = begins; upto = omega arith }

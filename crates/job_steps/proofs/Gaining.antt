@@ -111,10 +111,6 @@ pub some_front : (a b c : SinkState) (x y : List ℕ) (appended : Appends a.held
 unfolding some_behind
 some_front a b c x y appended part = beginning_front x part.gained
 
--- with no write the empty prefix of each text is gained
-pub some_none : (a : SinkState) (x : List ℕ) → GainsSome a a x
-some_none a x = record { gained = []; appended = Appends-nil a.held; beginning = record { rest = x; joined = refl } }
-
 -- a text was gained whole, and then nothing
 pub appended_none : (a b c : Option (List ℕ)) (x : List ℕ) → Appends a b x → Appends b c [] → Appends a c x
 appended_none a b c x p q = subst (Appends a c) (append-nil x) (Appends-trans a b c x [] p q)

@@ -80,10 +80,15 @@ so_far_start t = record {
 
 -- a basis that is reduced up to degree d, below the bound, with the text so far
 pub record Stands (t : Task) (d : ℕ) (below : Elements) (text : List ℕ) : Type 0 where
+  -- it is done up to degree d
   pub done : below.done ≡ d
+  -- its weights are those of the letters
   pub weights : below.weights ≡ t.letters.weights
+  -- its elements are kept
   pub kept : IsKept below
+  -- it is reduced up to its last degree
   pub reduced : IsReducedUpto t.modulus t.relations below
+  -- the text is that of the basis up to degree d, which is at most the bound
   pub so_far : IsBasisSoFar t d text
 
 -- a basis of no degree stands at degree 0 with an empty text

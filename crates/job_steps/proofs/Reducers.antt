@@ -47,9 +47,12 @@ module _ (G : List (List Term)) (w : List ℕ) where
 
   -- the least place at which a leading word stands
   record IsLeast : Type 0 where
+    -- the place
     pub at : ℕ
     pub before : NoneBefore at
+    -- an element whose leading word stands there
     pub element : List Term
+    -- it is one of the basis
     pub among : Contains G element
     pub stands : StandsAt at element
 

@@ -20,6 +20,8 @@ stands_at word u rest at within joined = record {
   same = ap (take (length u)) joined ∙ take-append_seam u rest;
 }
 
+-- what the tree of an index answers on the letters from a place is true of its list: where it has no answer no word of the list stands
+-- at this place, and where it answers an element, the word of this element stands there, and no other one
 pub answered : (nodes : List Node) (leads : List Lead) (word letters : List ℕ) (at : ℕ) → IsIndex leads → IsTree nodes leads →
     at ≤ length word → letters ≡ drop at word → (answer : Option ℕ)
     → MatchOption answer (IsMissed nodes 0 letters) (λ element. Meets nodes letters element) →
@@ -46,6 +48,7 @@ IsIndex-nil leads e = subst IsIndex (sym e) (record {
 no_node : (n : ℕ) (node : Node) → slice_get {X = Node} [] n ≡ Some node → ⊥
 no_node n node e = cc
 
+-- no nodes are the tree of no words
 pub IsTree-nil : (nodes : List Node) (leads : List Lead) → nodes ≡ [] → leads ≡ [] → IsTree nodes leads
 IsTree-nil nodes leads e f = subst (λ (xs : List Node). IsTree xs leads) (sym e) (subst (λ (ls : List Lead). IsTree [] ls) (sym f) (record {
   rising = record { children = λ n c node h is. absurd (no_node n node h); siblings = λ n c node h is. absurd (no_node n node h) };

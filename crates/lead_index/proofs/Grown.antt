@@ -61,9 +61,11 @@ empty_rest letters place le = nil_from_length (drop place letters) (omega (arith
 module _ (old mid new : List Node) (before : ℕ → List ℕ) (front : List ℕ) (n : ℕ) (node linked : Node)
     (stands : slice_get old n ≡ Some node) (made : mid ≡ set old n linked) (rest : List ℕ) (element : ℕ)
     (path : HasPath mid new rest element) (letter : linked.letter ≡ node.letter) (same_element : linked.element ≡ node.element) where
+  -- there are as many nodes as before
   pub size : length mid ≡ length old
   size = ap length made ∙ length-set old n linked
 
+  -- the node with the link stands in its place after the path is added
   pub at_linked : slice_get new n ≡ Some linked
   at_linked =
       let within = slice_get_within old n node stands in
@@ -72,6 +74,7 @@ module _ (old mid new : List Node) (before : ℕ → List ℕ) (front : List ℕ
   at_other : (k : ℕ) → k < length old → (k ≡ n → ⊥) → slice_get new k ≡ slice_get old k
   at_other k lt other = path.kept k (omega (arith, size, lt)) ∙ ap (λ (xs : List Node). slice_get xs k) made ∙ slice_get-set_other old n k linked other
 
+  -- if it keeps the links of the node, the old nodes are there with their letters, elements and links
   pub linked_extends : ((c : ℕ) → node.child ≡ Some c → linked.child ≡ Some c) → ((c : ℕ) → node.sibling ≡ Some c → linked.sibling ≡ Some c)
       → IsExtended old new
   linked_extends child sibling = record {
@@ -88,6 +91,8 @@ module _ (old mid new : List Node) (before : ℕ → List ℕ) (front : List ℕ
     ];
   }
 
+  -- if each of its links is one of the node, or leads to the first new node after the right letters,
+  -- then at each old place stands the node from before, with a link more at most
   pub linked_stays : ((c : ℕ) → linked.child ≡ Some c → (node.child ≡ Some c) ⊎ ((c ≡ length old) × (front ≡ before n ++ node.letter ∷ [])))
       → ((c : ℕ) → linked.sibling ≡ Some c → (node.sibling ≡ Some c) ⊎ ((c ≡ length old) × (front ≡ before n)))
       → (k : ℕ) (later : Node) → k < length old → slice_get new k ≡ Some later → IsLater old before front k later

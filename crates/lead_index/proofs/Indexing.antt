@@ -1,5 +1,5 @@
 -- An index of the leading words of a basis, element after element.
-use Rattle.std.proofs.Common.{◌≡◌, ◌≢◌, ◌↔◌, ◌+◌, ◌<◌, ◌≤◌, ℕ, List, [], ◌∷◌, ◌++◌, length, get_or, refl, sym, ap, ◌∙◌, inl, inr, arith, subst, Some, None}
+use Rattle.std.proofs.Common.{◌≡◌, ◌≢◌, ◌↔◌, ◌+◌, ◌<◌, ◌≤◌, ℕ, List, [], ◌∷◌, ◌++◌, length, get_or, sym, ap, ◌∙◌, inl, inr, arith, subst, Some, None}
 use Rattle.std.specs.List.{Contains}
 use Rattle.std.proofs.lemmas.Bool.{cases_lt}
 use Rattle.std.proofs.lemmas.List.Elements.{Contains-append_left, Contains-append_right, Contains-push_cases}
@@ -20,6 +20,7 @@ pub record IsFit (w : List ℕ) : Type 0 where
   pub some : w ≢ []
   pub small : length w ≤ 64
 
+-- the leading word of a kept element is not empty and has at most 64 letters, if weights are at least 1 and degrees go up to 64 at most
 pub kept_fit : (weights : List ℕ) (done : ℕ) → AreWeights weights → done ≤ 64 → (f : List Term) → IsKeptElement weights done f →
     (w : List ℕ) → lead_of f ≡ Some w → IsFit w
 kept_fit weights done aw le [] k w e = cc e
@@ -35,9 +36,12 @@ module _ (G : List (List Term)) where
   abbrev pub IsIndexUpto : ℕ → List Lead → Type 0
   IsIndexUpto n leads = (l : Lead) → Contains leads l ↔ ((l.element < n) × (lead_of (get_or G l.element []) ≡ Some l.word))
 
+  -- the empty list has exactly the leading words of the first 0 elements
   pub none_indexed : IsIndexUpto 0 []
   none_indexed l = (λ m. absurd (Contains-none l m), λ h. absurd (omega (arith, h.0)))
 
+  -- if no leading word is a factor of another, an index of those of the first n elements can take that of the next one,
+  -- where it is not empty and has at most 64 letters
   pub fresh_lead : IsFactorFree G → (n : ℕ) → n < length G → (leads : List Lead) → IsIndexUpto n leads → (w : List ℕ) →
       lead_of (get_or G n []) ≡ Some w → IsFit w → IsFresh leads w
   fresh_lead free n within leads h w e fit = record {
@@ -89,12 +93,3 @@ module _ (G : List (List Term)) where
     λ m. let r = (h l).0 m in (get_or G l.element [], slice_get-get_or G l.element [] (omega (arith, r.0, is)), r.1),
     λ r. (h l).1 (omega (arith, slice_get_within G l.element r.0 r.1, is), ap lead_of (get_or_from_slice_get G l.element r.0 [] r.1) ∙ r.2),
   )
-
-pub with_lead-some : (leads : List Lead) (f : List Term) (n : ℕ) (w : List ℕ) → Some w ≡ lead_of f →
-    with_lead leads f n ≡ leads ++ record { word = w; element = n } ∷ []
-with_lead-some leads [] n w e = cc e
-with_lead-some leads (t ∷ f) n w e = let is : t.word ≡ w = some_same t.word w (sym e) in λ i. leads ++ record { word = is i; element = n } ∷ []
-
-pub with_lead-none : (leads : List Lead) (f : List Term) (n : ℕ) → None ≡ lead_of f → with_lead leads f n ≡ leads
-with_lead-none leads [] n e = refl
-with_lead-none leads (t ∷ f) n e = cc e

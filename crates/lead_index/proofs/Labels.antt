@@ -28,13 +28,16 @@ label_high n start old new (inr le) h = refl
 
 module _ (old new : List Node) (leads : List Lead) (front rest letters : List ℕ) (element : ℕ) (tree : IsTree old leads)
     (grown : IsGrown old new tree.before front rest letters element) where
+  -- the letters before each node: those of the old tree, and along the path the front and the first letters of the rest
   pub before : ℕ → List ℕ
   before n = label n (length old) (tree.before n) (front ++ take (n - length old) rest) (cases_lt n (length old))
 
+  -- before an old node they are those of the old tree
   pub low : (n : ℕ) → n < length old → before n ≡ tree.before n
   unfolding before
   low n lt = label_low n (length old) (tree.before n) (front ++ take (n - length old) rest) (cases_lt n (length old)) lt
 
+  -- before the node at place i of the path they are the front and the first i letters of the rest
   pub high : (i : ℕ) → before (length old + i) ≡ front ++ take i rest
   unfolding before
   high i =
@@ -54,6 +57,7 @@ module _ (old new : List Node) (leads : List Lead) (front rest letters : List �
   abbrev pub IsNew : ℕ → Node → Type 0
   IsNew n later = (i : ℕ) × (i < length rest) × (n ≡ length old + i) × IsOnPath (length old + i + 1) rest element i later
 
+  -- each node of the grown tree is an old one, with a link more at most, or one of the path
   pub kinds : (n : ℕ) (later : Node) → slice_get new n ≡ Some later → ((n < length old) × IsLater old tree.before front n later) ⊎ IsNew n later
   kinds n later e = elim (cases_lt n (length old)) [
     | inl lt ↦ inl (lt, grown.stays n later lt e)
@@ -76,6 +80,7 @@ module _ (old new : List Node) (leads : List Lead) (front rest letters : List �
     | inr last ↦ absurd (let q : None ≡ Some c = sym (on.last_child last) ∙ e in cc)
   ]
 
+  -- links of the grown tree lead to nodes of greater numbers
   pub rising : IsRising new
   rising = record {
     children = λ n c later e h. elim (kinds n later e) [
@@ -108,6 +113,7 @@ module _ (old new : List Node) (leads : List Lead) (front rest letters : List �
     ];
   }
 
+  -- before the first node of the grown tree there are no letters, before a child one more, and before a sibling the same
   pub labelled : IsLabelled new before
   labelled = record {
     first = elim (cases_lt 0 (length old)) [

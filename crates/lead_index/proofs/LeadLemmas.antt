@@ -71,6 +71,7 @@ free_behind : (leads : List Lead) → IsIndex leads → (w : List ℕ) (at : ℕ
 free_behind leads h w at le = All-from_members (λ l. OccursAt l.word w at → ⊥) leads
     (λ l c o. All-contains (λ m. m.word ≡ [] → ⊥) leads l h.some c (nil_from_length l.word (omega (arith, o.within, le))))
 
+-- if no word of an index stands at a place before the end of a word, none stands in it
 pub free_from_places : (leads : List Lead) → IsIndex leads → (w : List ℕ) → ((at : ℕ) → at < length w → IsFreeAt leads w at) → IsFree leads w
 free_from_places leads h w each at = elim (cases_lt at (length w)) [
   | inl lt ↦ each at lt
@@ -94,11 +95,13 @@ pub found_lead : (leads items : List Lead) → IsIndex leads → items ≡ leads
 found_lead leads items h e w at i l u lt is same o =
     starts_here leads h w at l (subst (λ (xs : List Lead). Contains xs l) e (i, lt, sym is)) (subst (λ (v : List ℕ). OccursAt v w at) same o)
 
+-- if none of the first i words stands at a place, and the next one does not, then none of the first i + 1 stands there
 pub none_more : (items : List Lead) (w : List ℕ) (at i : ℕ) (l : Lead) (u : List ℕ) → i < length items → l ≡ get_or items i l → u ≡ l.word →
     (OccursAt u w at → ⊥) → IsFreeAt (take i items) w at → IsFreeAt (take (i + 1) items) w at
 none_more items w at i l u lt is same not h =
     All-more (λ m. OccursAt m.word w at → ⊥) items i l lt h (λ o. not
     (subst (λ (v : List ℕ). OccursAt v w at) (ap (λ (m : Lead). m.word) (sym is) ∙ sym same) o))
 
+-- if none of the first i words stands at a place, and there are no more than i, then no word of the index stands there
 pub none_at_all : (leads items : List Lead) → items ≡ leads → (w : List ℕ) (at i : ℕ) → length items ≤ i → IsFreeAt (take i items) w at → IsFreeAt leads w at
 none_at_all leads items e w at i le h = subst (λ (xs : List Lead). IsFreeAt xs w at) (take_all i items le ∙ e) h

@@ -11,6 +11,7 @@ end_of_end [] x b y e le = (b, e)
 end_of_end (p ∷ a) x [] y e le = absurd (omega (arith, le, ap length e, length-append a x))
 end_of_end (p ∷ a) x (q ∷ b) y e le = let t : a ++ x ≡ b ++ y = cc in end_of_end a x b y t le
 
+-- a word of the list that begins with u and v after it begins with u
 pub begins_front : (leads : List Lead) (u v : List ℕ) → Begins leads (u ++ v) → Begins leads u
 begins_front leads u v b = record { lead = b.lead; rest = v ++ b.rest; among = b.among; is = b.is ∙ append_assoc u v b.rest }
 
@@ -88,6 +89,7 @@ module _ (leads : List Lead) where
         ∙ sym (append_assoc h.front e.front e.word);
   }
 
+  -- the word of an element that ends the letters after the first ends all of them
   pub end_behind_first : (w : List ℕ) (element len : ℕ) → IsEnd leads (drop 1 w) element len → IsEnd leads w element len
   end_behind_first w element len e = record {
     front = take 1 w ++ e.front;

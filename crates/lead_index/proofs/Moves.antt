@@ -1,20 +1,19 @@
 -- The moves of an automaton in its table, and how those of a state come from the tree and from a state that is filled.
 use Rattle.std.proofs.Common.{◌≡◌, ◌+◌, ◌*◌, ◌/◌, ◌%◌, ◌<◌, ℕ, List, [], ◌∷◌, ◌++◌, length, drop, get_or, refl, sym, ap, ◌∙◌, inl, inr, arith, subst}
-use Rattle.std.proofs.Common.{Some, append_assoc, false, length-append, replicate, set, true}
-use Rattle.std.specs.List.{slice_get}
+use Rattle.std.proofs.Common.{append_assoc, false, length-append, set, true}
 use Rattle.std.proofs.lemmas.Bool.{cases_eq}
-use Rattle.std.proofs.lemmas.List.{append-nil, drop-append-le, get_or-replicate, get_or-set_other, get_or-set_same}
-use Rattle.std.proofs.lemmas.List.{length-replicate, length-set, nil_from_length}
+use Rattle.std.proofs.lemmas.List.{append-nil, drop-append-le, get_or-set_other, get_or-set_same}
+use Rattle.std.proofs.lemmas.List.{length-set, nil_from_length}
 use Rattle.std.proofs.lemmas.Nat.{div-mul-add, mod-mul-add, mul-add-lt}
 use Rattle.std.proofs.Math.Nat.{mul_comm}
-use Rattle.lead_index.specs.declared.automaton.Kind.TheVariants.{Finds, Moves, Unset}
+use Rattle.lead_index.specs.declared.automaton.Kind.TheVariants.{Finds, Moves}
 use Rattle.lead_index.specs.declared.automaton.Move.{Move}
 use Rattle.lead_index.specs.declared.automaton.State.{State}
 use Rattle.lead_index.specs.declared.lead.Lead.{Lead}
 use Rattle.lead_index.specs.declared.steps.Step.{Step}
 use Rattle.lead_index.specs.declared.steps.Step.TheVariants.{Ends, Goes, Stops}
 use Rattle.lead_index.specs.declared.tree.Node.{Node}
-use Rattle.lead_index.specs.Automaton.{Begins, IsAutomaton, IsBehind, IsEnd, IsLongestEnd, IsMove, IsMoveBy, IsState}
+use Rattle.lead_index.specs.Automaton.{Begins, IsAutomaton, IsBehind, IsEnd, IsLongestEnd, IsMove, IsState}
 use Rattle.lead_index.specs.Steps.{IsStep}
 use Rattle.lead_index.specs.Tree.{IsMissed, IsRising, IsTree}
 use Rattle.lead_index.proofs.LongestEnds.{end_behind_first, end_more, longest_behind, longest_itself, longest_more}
@@ -33,6 +32,7 @@ module _ (nodes : List Node) (letters : ℕ) (moves : List Move) (h : IsAutomato
       subst (IsMove nodes n x) (sym is) (subst (λ (m : ℕ). IsMove nodes m x (get_or moves i here)) (div-mul-add n letters x in_letters)
       (subst (λ (y : ℕ). IsMove nodes (i / letters) y (get_or moves i here)) (mod-mul-add n letters x in_letters) (h.each i here move_within)))
 
+  -- the table is still the automaton's after a move of this state by this letter is set in its place
   pub move_set : (move : Move) → IsMove nodes n x move → IsAutomaton nodes letters (set moves (n * letters + x) move)
   move_set move is =
       let at : ℕ = n * letters + x in
@@ -52,38 +52,7 @@ module _ (nodes : List Node) (letters : ℕ) (moves : List Move) (h : IsAutomato
         ];
       }
 
-unset_by : (nodes : List Node) (along : (ℕ → List ℕ) → List ℕ) (move : Move) → move.kind ≡ Unset → IsMoveBy nodes along move
-unset_by nodes along move e = record { within = λ k. cc; moves = λ k. cc; finds = λ k. cc }
-
--- a table in which nothing is set
-pub automaton_unset : (nodes : List Node) (letters count : ℕ) (unset : Move) (moves : List Move) → 0 < length nodes →
-    ((n : ℕ) (node : Node) → slice_get nodes n ≡ Some node → node.letter < letters) → count ≡ length nodes * letters → unset.kind ≡ Unset →
-    unset.falls ≡ false → moves ≡ replicate count unset → IsAutomaton nodes letters moves
-automaton_unset nodes letters count unset moves some above size kind falls is = subst (IsAutomaton nodes letters) (sym is) (record {
-  some = some;
-  above = above;
-  count = length-replicate count unset ∙ size;
-  each = λ i d lt. subst (IsMove nodes (i / letters) (i % letters)) (sym (get_or-replicate count i unset d (omega (arith, lt, length-replicate count unset))))
-      (record {
-        by = unset_by nodes (λ before. before (i / letters) ++ (i % letters) ∷ []) unset kind;
-        falls = λ k. cc;
-        goes = λ f k. cc;
-        ends = λ f k. cc;
-      });
-})
-
 module _ (nodes : List Node) (rising : IsRising nodes) where
-  pub state_first : (state : State) → 0 < length nodes → state.node ≡ 0 → state.fall ≡ 0 → state.depth ≡ 0 → IsState nodes state
-  state_first state some node fall depth = record {
-    within = omega (arith, some, node);
-    fall_within = omega (arith, some, fall);
-    depth = λ leads tree. ap length (ap tree.before node ∙ tree.labelled.first) ∙ sym depth;
-    falls = λ leads tree. longest_itself leads (drop 1 (tree.before state.node)) (tree.before state.fall)
-        (ap (drop 1) (ap tree.before node ∙ tree.labelled.first) ∙ sym (ap tree.before fall ∙ tree.labelled.first));
-    missed = λ leads tree rest h. subst (λ (xs : List ℕ). IsMissed nodes 0 (xs ++ rest)) (sym (ap tree.before node ∙ tree.labelled.first))
-        (subst (λ (n : ℕ). IsMissed nodes n rest) node h);
-  }
-
   module _ (state : State) (s : IsState nodes state) (x : ℕ) where
     behind_first : (move : Move) → state.depth ≡ 0 → move.kind ≡ Moves → move.to ≡ 0 → IsBehind nodes state.node x move
     behind_first move depth kind to = record {
@@ -142,6 +111,7 @@ module _ (nodes : List Node) (rising : IsRising nodes) where
       ends = λ f. cc;
     }
 
+    -- where the step by the letter goes to a node, the move to this node is that of the state by the letter
     pub move_goes : (step : Step) (move : Move) → IsStep nodes state.node x step → step ≡ Goes move.to → move.kind ≡ Moves → move.falls ≡ false →
         IsMove nodes state.node x move
     move_goes step move h is kind falls = record {
@@ -156,6 +126,8 @@ module _ (nodes : List Node) (rising : IsRising nodes) where
       ends = λ f k. cc;
     }
 
+    -- where the step by the letter ends with an element, the move that finds it, with as many letters as the state is deep and one more,
+    -- is that of the state by the letter
     pub move_ends : (step : Step) (move : Move) → IsStep nodes state.node x step → step ≡ Ends move.to → move.kind ≡ Finds → move.falls ≡ false →
         move.len ≡ state.depth + 1 → IsMove nodes state.node x move
     move_ends step move h is kind falls len = record {

@@ -3,25 +3,31 @@ use Rattle.std.proofs.Common.{◌≡◌, ◌+◌, ◌<◌, ℕ, zero, suc, List,
 use Rattle.std.specs.List.{slice_get}
 use Rattle.std.proofs.lemmas.Bool.{cases_lt}
 use Rattle.lead_index.specs.declared.tree.Node.{Node}
-use Rattle.lead_index.specs.Tree.{HasPath, IsOnPath}
+use Rattle.lead_index.specs.Tree.{IsOnPath}
 
 -- the first nodes of the path are there
 pub record IsBegun (old new : List Node) (letters : List ℕ) (element i : ℕ) : Type 0 where
+  -- there are i nodes more than before
   pub count : length new ≡ length old + i
+  -- the old nodes stand where they stood
   pub kept : (n : ℕ) → n < length old → slice_get new n ≡ slice_get old n
+  -- behind them stand the nodes of the first i places of the path
   pub path : (k : ℕ) → k < i → (node : Node) × (slice_get new (length old + k) ≡ Some node) × IsOnPath (length old + k + 1) letters element k node
 
+-- at a place within the first of two lists, their join has what the first has
 pub slice_get-append : {X : Type 0} (xs ys : List X) (n : ℕ) → n < length xs → slice_get (xs ++ ys) n ≡ slice_get xs n
 slice_get-append [] ys n lt = absurd (omega (arith, lt))
 slice_get-append (x ∷ xs) ys zero lt = refl
 slice_get-append (x ∷ xs) ys (suc n) lt = slice_get-append xs ys n (omega (arith, lt))
 
+-- at the place behind a list, the list with one more entry has this entry
 pub slice_get-push : {X : Type 0} (xs : List X) (y : X) (n : ℕ) → n ≡ length xs → slice_get (xs ++ y ∷ []) n ≡ Some y
 slice_get-push [] y zero e = refl
 slice_get-push [] y (suc n) e = absurd (omega (arith, e))
 slice_get-push (x ∷ xs) y zero e = absurd (omega (arith, e))
 slice_get-push (x ∷ xs) y (suc n) e = slice_get-push xs y n (omega (arith, e))
 
+-- the first i nodes of a path, with the node of place i pushed behind them, are its first i + 1 nodes
 pub begun_more : (old new more : List Node) (letters : List ℕ) (element i : ℕ) (node : Node) → IsBegun old new letters element i →
     IsOnPath (length old + i + 1) letters element i node → more ≡ new ++ node ∷ []
     → IsBegun old more letters element (i + 1)
@@ -37,11 +43,3 @@ begun_more old new more letters element i node h on e = subst (λ (xs : List Nod
     )
   ];
 })
-
-pub begun_all : (old new : List Node) (letters : List ℕ) (element i : ℕ) → i ≡ length letters → IsBegun old new letters element i →
-    HasPath old new letters element
-begun_all old new letters element i e h = record {
-  count = let c = h.count in omega arith;
-  kept = h.kept;
-  path = λ k lt. h.path k (omega arith);
-}

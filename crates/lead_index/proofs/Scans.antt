@@ -35,6 +35,7 @@ found_letters nodes letters above n word element (beside m sibling node x w e at
     found_letters nodes letters above sibling (x ∷ w) e h
 
 module _ (nodes : List Node) (leads : List Lead) (index : IsIndex leads) (tree : IsTree nodes leads) where
+  -- before the first letter a scan is in the first state
   pub scan_starts : (word : List ℕ) → IsScan leads word 0 (tree.before 0)
   scan_starts word = record {
     longest = longest_itself leads [] (tree.before 0) (sym tree.labelled.first);
@@ -87,6 +88,7 @@ module _ (nodes : List Node) (leads : List Lead) (index : IsIndex leads) (tree :
       ];
     }
 
+    -- by one more letter a scan comes to the state of the longest end of the last state's letters and this letter
     pub scan_on : (n m : ℕ) → IsScan leads word i (tree.before n) → m < length nodes → IsLongestEnd leads (tree.before n ++ x ∷ []) (tree.before m) →
         IsScan leads word (i + 1) (tree.before m)
     scan_on n m h lt to = scan_to n m h lt (longest_more leads (take i word) (tree.before n) (tree.before m) x h.longest to)
@@ -140,6 +142,7 @@ module _ (nodes : List Node) (leads : List Lead) (index : IsIndex leads) (tree :
         subst (λ (k : ℕ). IsFirstReducer leads word k element) (omega (arith, size, f.count))
         (record { starts = starts_here leads index word at (record { word = own; element = element }) f.among here; least = least })
 
+  -- if a scan has read all letters, no word of the list stands in the word
   pub scan_free : (word : List ℕ) (i : ℕ) (last : List ℕ) → length word ≤ i → IsScan leads word i last → IsFree leads word
   scan_free word i last le h at = All-from_members (λ l. OccursAt l.word word at → ⊥) leads
       (λ l among o. omega (arith, le, h.free l at among o, o.within))

@@ -28,6 +28,7 @@ ends_says None None k is = cc
 
 -- what a step says of the words that are found from its node, and of the letters before the next one
 module _ (nodes : List Node) where
+  -- where the step by a letter stops, no word that is found from the node begins this letter and a rest
   pub missed_by_stop : (n x : ℕ) (step : Step) → IsStep nodes n x step → step ≡ Stops → (rest : List ℕ) → IsMissed nodes n (x ∷ rest)
   missed_by_stop n x step (here m node y stands same) is rest =
       let s = stops_says node.element node.child is in
@@ -39,6 +40,7 @@ module _ (nodes : List Node) where
   missed_by_stop n x step (nowhere m node y stands other none) is rest =
       missed_other nodes n node x rest stands other (λ s e. let both : None ≡ Some s = sym none ∙ e in cc both)
 
+  -- where it goes to a child, and no word that is found from the child begins a rest, none that is found from the node begins the letter and this rest
   pub missed_by_go : (n x child : ℕ) (step : Step) → IsStep nodes n x step → step ≡ Goes child → (rest : List ℕ) → IsMissed nodes child rest →
       IsMissed nodes n (x ∷ rest)
   missed_by_go n x child step (here m node y stands same) is rest h =
@@ -51,12 +53,14 @@ module _ (nodes : List Node) where
       subst (λ (i : ℕ). IsMissed nodes i (x ∷ rest)) k (missed_by_go sibling x child step h is rest g))
   missed_by_go n x child step (nowhere m node y stands other none) is rest h = cc
 
+  -- if links lead to nodes of greater numbers, a step goes to a node of the tree
   pub goes_within : IsRising nodes → (n x child : ℕ) (step : Step) → IsStep nodes n x step → step ≡ Goes child → child < length nodes
   goes_within rising n x child step (here m node y stands same) is =
       (rising.children n child node stands (goes_says node.element node.child child is).1).1
   goes_within rising n x child step (beside m sibling node y st stands other next h) is = goes_within rising sibling x child step h is
   goes_within rising n x child step (nowhere m node y stands other none) is = cc
 
+  -- the letters before the node to which a step goes are those before the node from which it goes, and the letter
   pub goes_before : (before : ℕ → List ℕ) → IsLabelled nodes before → (n x child : ℕ) (step : Step) → IsStep nodes n x step → step ≡ Goes child →
       before child ≡ before n ++ x ∷ []
   goes_before before labelled n x child step (here m node y stands same) is =
@@ -65,6 +69,7 @@ module _ (nodes : List Node) where
       goes_before before labelled sibling x child step h is ∙ ap (λ (xs : List ℕ). xs ++ x ∷ []) (labelled.siblings n sibling node stands next)
   goes_before before labelled n x child step (nowhere m node y stands other none) is = cc
 
+  -- where a step ends with an element, the letters before the node and the letter are the word of this element in the list
   pub ends_among : (leads : List Lead) (tree : IsTree nodes leads) (n x element : ℕ) (step : Step) → IsStep nodes n x step → step ≡ Ends element →
       Contains leads (record { word = tree.before n ++ x ∷ []; element = element })
   ends_among leads tree n x element step (here m node y stands same) is =
@@ -77,11 +82,13 @@ module _ (nodes : List Node) where
 
 -- what a step says of a walk that has come to its node
 module _ (nodes : List Node) (letters : List ℕ) (place : ℕ) (rising : IsRising nodes) (lt : place < length letters) where
+  -- where the step by the letter at the place stops, no word of the tree begins the letters
   pub step_stops : (n x : ℕ) (step : Step) → IsStep nodes n x step → x ≡ get_or letters place 0 → step ≡ Stops →
       IsWalk nodes letters n place → IsMissed nodes 0 letters
   step_stops n x step h e is walk = walk.missed (missed_on nodes n letters place lt
       (subst (λ (z : ℕ). IsMissed nodes n (z ∷ drop (place + 1) letters)) e (missed_by_stop nodes n x step h is (drop (place + 1) letters))))
 
+  -- where it goes to a child, the walk has come to this child and the next place
   pub step_goes : (n x child : ℕ) (step : Step) → IsStep nodes n x step → x ≡ get_or letters place 0 → step ≡ Goes child →
       IsWalk nodes letters n place → IsWalk nodes letters child (place + 1)
   step_goes n x child step h e is walk = record {
@@ -94,6 +101,7 @@ module _ (nodes : List Node) (letters : List ℕ) (place : ℕ) (rising : IsRisi
         (subst (λ (z : ℕ). IsMissed nodes n (z ∷ drop (place + 1) letters)) e (missed_by_go nodes n x child step h is (drop (place + 1) letters) g)));
   }
 
+  -- where it ends with an element, the letters begin with the word of a node that has the element
   pub step_ends : (n x element : ℕ) (step : Step) → IsStep nodes n x step → x ≡ get_or letters place 0 → step ≡ Ends element →
       IsWalk nodes letters n place → Meets nodes letters element
   step_ends n x element step (here m node y stands same) e is walk =

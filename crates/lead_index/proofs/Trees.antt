@@ -120,6 +120,7 @@ module _ (old new : List Node) (leads : List Lead) (front rest letters : List â„
     ]
   ]
 
+  -- the grown tree agrees with the list that has the new word at its end
   pub IsTree-grown : IsTree new (leads ++ record { word = letters; element = element } âˆ· [])
   IsTree-grown = record {
     rising = rising old new leads front rest letters element tree grown;

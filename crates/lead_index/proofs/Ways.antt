@@ -1,5 +1,5 @@
 -- The way along the links of a prefix tree to the end of a path.
-use Rattle.std.proofs.Common.{◌≡◌, ◌+◌, ◌<◌, ℕ, List, ◌∷◌, ◌++◌, length, drop, get_or, sym, ap, ◌∙◌, subst, set, Some, None}
+use Rattle.std.proofs.Common.{◌≡◌, ◌+◌, ◌<◌, ℕ, List, ◌∷◌, length, drop, get_or, sym, ap, ◌∙◌, subst, set, Some, None}
 use Rattle.std.specs.List.{slice_get}
 use Rattle.std.proofs.lemmas.List.{drop_more}
 use Rattle.lead_index.specs.declared.tree.Node.{Node}
@@ -37,6 +37,7 @@ way_off nodes n place letters lt h = subst (λ (xs : List ℕ). IsOnTheWay nodes
 
 module _ (nodes : List Node) (letters : List ℕ) (n place : ℕ) (here : Node) (rising : IsRising nodes) (way : IsWay nodes letters n place)
     (lt : place < length letters) (stands : slice_get nodes n ≡ Some here) where
+  -- where the node has another letter and a sibling, the walk has come to the sibling and the same place
   pub way_sibling : (here.letter ≡ get_or letters place 0 → ⊥) → (sibling : ℕ) → here.sibling ≡ Some sibling → IsWay nodes letters sibling place
   way_sibling other sibling is = record {
     within = (rising.siblings n sibling here stands is).1;
@@ -45,6 +46,7 @@ module _ (nodes : List Node) (letters : List ℕ) (n place : ℕ) (here : Node) 
         (way_over nodes n here sibling (get_or letters place 0) (drop (place + 1) letters) letters stands other is (way_on nodes n place letters lt way.leads));
   }
 
+  -- where it has the letter of the place and a child, the walk has come to the child and the next place
   pub way_child : here.letter ≡ get_or letters place 0 → (child : ℕ) → here.child ≡ Some child → IsWay nodes letters child (place + 1)
   way_child same child is = record {
     within = (rising.children n child here stands is).1;
@@ -52,6 +54,7 @@ module _ (nodes : List Node) (letters : List ℕ) (n place : ℕ) (here : Node) 
     leads = way_down nodes n here child (get_or letters place 0) (drop (place + 1) letters) letters stands same is (way_on nodes n place letters lt way.leads);
   }
 
+  -- where it has another letter and no sibling, a link to the next new node as its sibling attaches the path from this place on
   pub attached_beside : (here.letter ≡ get_or letters place 0 → ⊥) → here.sibling ≡ None → (items : List Node) (next : ℕ) (node : Node) →
       items ≡ nodes → next ≡ length nodes → slice_get nodes n ≡ Some node
       → IsAttached nodes (set items n (record node { sibling = Some next })) letters place
@@ -60,6 +63,7 @@ module _ (nodes : List Node) (letters : List ℕ) (n place : ℕ) (here : Node) 
       as_sibling n node e (ap (λ (x : Node). x.sibling) (sym k) ∙ none) (λ i. set (same i) n (record node { sibling = Some (count i) }))
       (λ q. other (ap (λ (x : Node). x.letter) k ∙ q)) lt way.spelled way.leads
 
+  -- where it has the letter of the place and no child, a link to the next new node as its child attaches the path from the next place on
   pub attached_below : here.letter ≡ get_or letters place 0 → here.child ≡ None → (items : List Node) (next : ℕ) (node : Node) →
       items ≡ nodes → next ≡ length nodes → slice_get nodes n ≡ Some node
       → IsAttached nodes (set items n (record node { child = Some next })) letters (place + 1)
@@ -70,10 +74,3 @@ module _ (nodes : List Node) (letters : List ℕ) (n place : ℕ) (here : Node) 
       (spelled_here nodes n place letters node lt letter way.spelled)
       (subst (λ (xs : List ℕ). IsOnTheWay nodes n xs letters) (drop_more letters place 0 lt
       ∙ ap (λ (x : ℕ). x ∷ drop (place + 1) letters) (sym letter)) way.leads)
-
-pub way_starts : (nodes : List Node) (letters : List ℕ) → 0 < length nodes → IsWay nodes letters 0 0
-way_starts nodes letters some = record {
-  within = some;
-  spelled = λ before labelled. ap (λ (xs : List ℕ). xs ++ letters) (sym labelled.first);
-  leads = λ after ext element h. h;
-}

@@ -139,9 +139,13 @@ module _ (b : Elements) (kept : IsKept b) (free : IsFactorFree b.elements) where
 
     -- the two leading words of an obstruction
     pub record HasLeads (o : Overlap) : Type 0 where
+      -- the left element is one of the basis
       pub left_within : o.left < length G
+      -- so is the right element
       pub right_within : o.right < length G
+      -- the leading word of the left element is the letters before the shared ones, and these
       pub left_lead : lead_word G o.left ≡ o.before ++ o.shared
+      -- that of the right element is the shared letters, and those behind them
       pub right_lead : lead_word G o.right ≡ o.shared ++ o.behind
 
     -- the parts of an obstruction make up the leading words of its two elements

@@ -11,11 +11,17 @@ module _ {X : Type 0} (R : X → X → Type 0) (trans : (x y z : X) → R x y �
 
   -- x among the members of a list, in order
   record IsInserted (x : X) (xs : List X) : Type 0 where
+    -- the list with x
     pub list : List X
+    -- it has one member more
     pub size : length list ≡ suc (length xs)
+    -- each member is x or one of those before
     pub says : (z : X) → Contains list z → (x ≡ z) ⊎ Contains xs z
+    -- x is a member
     pub has : Contains list x
+    -- so is each of those before
     pub more : (z : X) → Contains xs z → Contains list z
+    -- each member comes before the later ones
     pub ordered : AllPairs R list
 
   insert : (x : X) (xs : List X) → AllPairs R xs → All (Compares x) xs → IsInserted x xs

@@ -33,6 +33,7 @@ known_letter-below names x some = elim (cases_Bool (is_among x names)) [
 -- a term with letters below m, and at most 256 k of them
 pub record IsSmall (m k : ℕ) (t : Term) : Type 0 where
   pub letters : IsOver m t.word
+  -- it has at most 256 k of them
   pub few : length t.word ≤ 256 * k
 
 IsSmall-more : (m k l : ℕ) → k ≤ l → (t : Term) → IsSmall m k t → IsSmall m l t

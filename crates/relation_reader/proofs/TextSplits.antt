@@ -229,8 +229,11 @@ token-there text at within breaks =
 
 -- some tokens and what ends them
 pub record Split (text : List ℕ) (from : ℕ) : Type 0 where
+  -- the tokens
   pub tokens : List Token
+  -- the fault that ends them, if one does
   pub stop : Option InputFault
+  -- the text splits into them from this place
   pub splits : SplitsFrom text from tokens stop
 
 -- what stands outside comments is not broken

@@ -33,8 +33,11 @@ module _ (weights : List ℕ) (free : ℕ) (leads : List Lead) where
 
   -- the numbers of the degrees below d, none of which is above the limit
   pub record AreNumbersBelow (most d : ℕ) (numbers : List ℕ) : Type 0 where
+    -- there are d numbers
     pub size : length numbers ≡ d
+    -- the number of a degree counts its normal words
     pub each : (e : ℕ) → e < d → (words : List (List ℕ)) × AreNormal weights free leads e words × (get_or numbers e 0 ≡ length words)
+    -- none is above the limit
     pub few : All (λ n. n ≤ most) numbers
 
   -- no degree is counted
