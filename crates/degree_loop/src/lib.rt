@@ -26,4 +26,5 @@ pub use finder::PivotFinder;
 pub use laws::{claim_history_law, schedule_law};
 pub use matrix::{Matrix, matrix_of};
 pub use race_engine::RaceEngine;
+pub use rows::obstruction_rows;
 pub use seq_engine::SeqEngine;

@@ -48,7 +48,7 @@ pub fn matrix_of<R: Threads + Sync>(
         (matrix_limits limits.now) kind value }
 {
     next_degree_law(field, presentation, below, d);
-    let rows = rows_of_degree(alloc, field, presentation, below, d, limits.rows)?;
+    let rows = rows_of_degree(rt, alloc, field, presentation, below, d, limits.rows)?;
     let rows = rows.as_slice();
     let index = index_of(alloc, below)?;
     let closed = close(alloc, field, below, &index, rows, d, limits)?;

@@ -9,16 +9,20 @@ ghost use Rattle.ideal_laws.specs.Quantities.{AreRows, IsFirstPassing, IsQuantit
 ghost use Rattle.overlaps.specs.Listed.{AreListed, IsOf, IsRowFor};
 
 use crate::relations::{count_of_degree, relations_of_degree};
+use crate::terms::terms_below;
 use field_table::Field;
 use free_poly::Poly;
 use ideal_laws::{Basis, EngineFault, LimitKind, Presentation};
-use overlaps::{Obstruction, OverlapFault, obstruction_rows, obstructions};
+use overlaps::{Obstruction, OverlapFault, obstructions};
+use rayon::prelude::*;
 use std::alloc::Global;
+use std::thread::Threads;
 use words::NoMemory;
 
 /// The relations of degree d, and then the rows of its obstructions. More than the limit are refused before a row is
 /// made.
-pub(crate) fn rows_of_degree(
+pub(crate) fn rows_of_degree<R: Threads + Sync>(
+    rt: &R,
     alloc: Global,
     field: &Field,
     presentation: &Presentation,
@@ -43,7 +47,7 @@ pub(crate) fn rows_of_degree(
     let given = count_of_degree(presentation, d);
     let found = obstructions_within(alloc, below, d, given, most)?;
     let mut rows = relations_of_degree(alloc, presentation, d)?;
-    let mut others = obstruction_rows(alloc, field, below, found.as_slice())?;
+    let mut others = obstruction_rows(rt, alloc, field, below, found.as_slice())?;
     rows.append(&mut others)?;
     Ok(rows)
 }
@@ -86,4 +90,37 @@ fn too_many(d: u32, most: u32) -> EngineFault
         degree: d,
         value: u64::from(most) + 1,
     }
+}
+
+/// The rows of these obstructions, in their order. They are made side by side.
+pub fn obstruction_rows<R: Threads + Sync>(
+    rt: &R,
+    alloc: Global,
+    field: &Field,
+    below: &Basis,
+    found: &[Obstruction],
+) -> Result<Vec<Poly>, NoMemory>
+    requires obstructions { All (IsOf below.now.weights below.now.elements) found.now }
+    requires residues { All (HasResidues field.now) below.now.elements }
+    ensures { IfOk result (λ rows. AllZip (IsRowFor field.now below.now.weights below.now.elements) found.now
+        rows.items) }
+{
+    found
+        .par_iter()
+        .with_min_len(rows_a_part(below))
+        .map(
+            move |obstruction: &Obstruction| -> Result<Poly, NoMemory>
+                requires { IsOf below.now.weights below.now.elements obstruction.now
+                    × All (HasResidues field.now) below.now.elements }
+                ensures { IfOk result (IsRowFor field.entry.now below.entry.now.weights below.entry.now.elements
+                    obstruction.now) }
+            { obstruction.row(alloc, field, below) },
+        )
+        .collect::<Result<Vec<Poly>, NoMemory>>(rt, alloc)?
+}
+
+/// How many rows a thread is to have at least. Where elements have few terms, rows are made before threads have begun.
+fn rows_a_part(below: &Basis) -> usize {
+    let terms = terms_below(below) / u64::from(below.len().max(1));
+    (32_768 / terms.max(1)).max(1) as usize
 }

@@ -12,7 +12,7 @@ pub(crate) fn terms_with(below: &Basis, elements: &[Poly]) -> u64
 }
 
 /// How many terms the elements of the basis have, where 2^64 - 1 stands for more, too.
-fn terms_below(below: &Basis) -> u64
+pub(crate) fn terms_below(below: &Basis) -> u64
     ensures { result ≡ min (terms_in below.now.elements) (2 ^ 64 - 1) }
 {
     let mut count: u64 = 0;

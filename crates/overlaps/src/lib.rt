@@ -8,5 +8,5 @@ mod obstruction;
 mod place;
 
 pub use listing::{OverlapFault, obstructions};
-pub use obstruction::{Obstruction, obstruction_rows};
+pub use obstruction::Obstruction;
 pub use place::{first_place, lead_at};

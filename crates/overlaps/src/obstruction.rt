@@ -1,5 +1,4 @@
 ghost use Rattle.std.specs.Prelude.{All, IfOk};
-ghost use Rattle.std.specs.List.{AllZip};
 ghost use Rattle.free_poly.specs.Terms.{HasResidues};
 ghost use Rattle.overlaps.specs.Listed.{IsOf, IsRowFor};
 
@@ -36,24 +35,4 @@ impl Obstruction {
         let second = basis.element(self.right).times(alloc, before, &[])?;
         first.add_scaled(alloc, field, field.modulus() - 1, &second)
     }
-}
-
-/// The rows of these obstructions, in their order.
-pub fn obstruction_rows(
-    alloc: Global,
-    field: &Field,
-    basis: &Basis,
-    found: &[Obstruction],
-) -> Result<Vec<Poly>, NoMemory>
-    requires obstructions { All (IsOf basis.now.weights basis.now.elements) found.now }
-    requires residues { All (HasResidues field.now) basis.now.elements }
-    ensures { IfOk result (λ rows. AllZip (IsRowFor field.now basis.now.weights basis.now.elements) found.now
-        rows.items) }
-{
-    let mut rows = Vec::with_capacity(alloc, found.len())?;
-    for obstruction in found {
-        let row = obstruction.row(alloc, field, basis)?;
-        rows.push(row)?;
-    }
-    Ok(rows)
 }

@@ -12,11 +12,12 @@ use crate::engines::assert_refused;
 use crate::monomials::assert_overlaps;
 use crate::presented::{Algebra, algebra_of, assert_elements, assert_words};
 use crate::problems::assert_rows;
+use degree_loop::obstruction_rows;
 use field_table::Field;
 use free_poly::Poly;
 use ideal_laws::{Basis, LimitKind, Limits, Presentation, next_degree_law};
 use lead_index::index_of;
-use overlaps::{Obstruction, obstruction_rows, obstructions};
+use overlaps::{Obstruction, obstructions};
 use row_store::contested_rows;
 use std::alloc::Global;
 use std::process::Abort;
@@ -56,7 +57,8 @@ fn assert_tails(rt: &impl Abort, closed: &Closed) {
 }
 
 /// The rows of the degree above those of a reduced basis, where no relation has this degree.
-fn rows_above(
+fn rows_above<R: Threads + Sync>(
+    rt: &R,
     alloc: Global,
     field: &Field,
     given: &Presentation,
@@ -72,7 +74,7 @@ fn rows_above(
     ensures letters { IfOk result (λ rows. All (UsesLetters (length basis.now.weights)) rows.items) }
 {
     next_degree_law(field, given, basis, d);
-    let rows = obstruction_rows(alloc, field, basis, found)?;
+    let rows = obstruction_rows(rt, alloc, field, basis, found)?;
     Ok(rows)
 }
 
@@ -188,6 +190,7 @@ fn rows_of_obstructions_close(rt: HostRuntime) -> Result<(), Fail> {
     let found = obstructions(alloc, basis, 4, 2)?;
     assert!(rt; is_quadratic(&algebra.given));
     let rows = rows_above(
+        &rt,
         alloc,
         &algebra.field,
         &algebra.given,

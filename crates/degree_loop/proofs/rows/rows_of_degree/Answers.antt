@@ -14,7 +14,7 @@ use Rattle.std.proofs.lemmas.Slice.Zip.{AllZip-long}
 use Rattle.degree_loop.proofs.rows.rows_of_degree.Goals as goal
 
 pub returns-in_err-found-clause-limit : goal.returns-in_err-found-clause-limit
-returns-in_err-found-clause-limit c = λ kind degree value e.
+returns-in_err-found-clause-limit g c = λ kind degree value e.
     let h = c.in_err-found.ensures.limit kind degree value (ap Err (same_fault c.from_residual.result _ _ c.from_residual.ensures.1 e)) in
     let listed = subst (λ (ws : List ℕ). AreObstructions ws c.args.below.now.elements c.args.d h.3.0) c.requires.weights h.3.1 in
     let many : c.args.most < length (of_degree c.args.presentation.now.alphabet.weights c.args.d c.args.presentation.now.relations) + length
@@ -30,13 +30,13 @@ returns-in_err-found-clause-limit c = λ kind degree value e.
     )
 
 pub obstruction_rows-requires-clause-obstructions : goal.obstruction_rows-requires-clause-obstructions
-obstruction_rows-requires-clause-obstructions c =
+obstruction_rows-requires-clause-obstructions g c = λ κs lives.
     let below = c.args.below.now in
     subst (All (IsOf below.weights below.elements)) (sym c.as_slice.ensures.value)
     (each_is below.weights below.elements c.args.d c.in_ok-found.found.items c.in_ok-found.ensures.listed)
 
 pub returns-clause-rows : goal.returns-clause-rows
-returns-clause-rows c =
+returns-clause-rows g c =
     let p = c.args.field.now in
     let below = c.args.below.now in
     let ideal = ideal_of c.args.field.now c.args.presentation.now in
@@ -50,7 +50,7 @@ returns-clause-rows c =
     (are_rows ideal below.elements c.args.d found c.in_ok-others.others.items listed each)
 
 pub returns-clause-few : goal.returns-clause-few
-returns-clause-few c =
+returns-clause-few g c =
     let p = c.args.field.now in
     let below = c.args.below.now in
     let others = c.in_ok-others.others.items in
@@ -67,7 +67,7 @@ returns-clause-few c =
     )
 
 pub returns-clause-within : goal.returns-clause-within
-returns-clause-within c =
+returns-clause-within g c =
     let below = c.args.below.now in
     let listed = subst (λ (ws : List ℕ). AreListed ws below.elements c.args.d c.in_ok-found.found.items) c.requires.weights c.in_ok-found.ensures.listed in
     let given = of_degree c.args.presentation.now.alphabet.weights c.args.d c.args.presentation.now.relations in

@@ -9,10 +9,11 @@ use Rattle.degree_loop.proofs.DegreeClosure.{rows_degree, rows_letters}
 use Rattle.worked_examples.proofs.rows.rows_above.Goals as goal
 
 pub obstruction_rows-requires-clause-obstructions : goal.obstruction_rows-requires-clause-obstructions
-obstruction_rows-requires-clause-obstructions c = each_is c.args.basis.now.weights c.args.basis.now.elements c.args.d c.args.found.now c.requires.listed
+obstruction_rows-requires-clause-obstructions g c = λ κs lives.
+    each_is c.args.basis.now.weights c.args.basis.now.elements c.args.d c.args.found.now c.requires.listed
 
 pub returns-clause-rows : goal.returns-clause-rows
-returns-clause-rows c =
+returns-clause-rows g c =
     let p = c.args.field.now in
     let G = c.args.basis.now.elements in
     let d = c.args.d in
@@ -24,11 +25,11 @@ returns-clause-rows c =
     (are_rows (ideal_of c.args.field.now c.args.given.now) G d found rows listed each)
 
 pub returns-clause-degree : goal.returns-clause-degree
-returns-clause-degree c =
+returns-clause-degree g c =
     let law = c.next_degree_law.ensures in
-    rw law.below.same_weights (rows_degree _ law.setting _ _ law.lower _ (returns-clause-rows c))
+    rw law.below.same_weights (rows_degree _ law.setting _ _ law.lower _ (returns-clause-rows g c))
 
 pub returns-clause-letters : goal.returns-clause-letters
-returns-clause-letters c =
+returns-clause-letters g c =
     let law = c.next_degree_law.ensures in
-    rw law.below.same_weights (rows_letters _ law.setting _ _ law.lower _ (returns-clause-rows c))
+    rw law.below.same_weights (rows_letters _ law.setting _ _ law.lower _ (returns-clause-rows g c))
