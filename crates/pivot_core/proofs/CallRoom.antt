@@ -19,8 +19,11 @@ use Rattle.pivot_core.proofs.Table.{made_change}
 
 -- what a claim gives, with one call more
 record IsCalled (problem : Problem) (v : Sight) (old : ℕ) : Type 0 where
+  -- what the step gives
   pub stepped : Stepped
+  -- the view's next step on this word gives it
   pub gives : met problem v old ≡ Some stepped
+  -- the view after it has one call more
   pub more : length stepped.sight.calls ≡ length v.calls + 1
 
 called_at : (problem : Problem) (v : Sight) (old row column : ℕ) → v.phase ≡ phase.Claiming row column → IsCalled problem v old
@@ -55,5 +58,6 @@ module _ (problem : Problem) (crew : ℕ) (setting : IsSetting problem crew) (s 
   by_claim (phase.Reading row column holder at) is claims = absurd claims
   by_claim phase.Ended is claims = absurd claims
 
+  -- under the rule of claimed pivots, a view whose next step is a claim has fewer calls than there are rows, and than columns
   pub room_for_call : IsClaiming v.phase → length v.calls < min problem.n problem.m
   room_for_call claims = by_claim v.phase refl claims

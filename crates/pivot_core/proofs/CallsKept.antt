@@ -34,6 +34,7 @@ answers_stay problem s t keeps k (answer.Lost row stamp) h = (
   h.3,
 )
 
+-- a call stays one where the held rows stay and the clock does not fall
 pub call_stays : (problem : Problem) (s t : State) → KeepsHeld problem s t → (seat before after : ℕ) → before ≤ after → (k : Call) →
     IsCall problem s seat before k → IsCall problem t seat after k
 call_stays problem s t keeps seat before after le k h = record {
@@ -114,6 +115,7 @@ module _ {problem : Problem} {crew : ℕ} {s t : State} {seat : ℕ} {w : Sight}
     as_before : {d : ℕ} → IsLater v w v.clock d v.calls → IsCalling
     as_before l = silent l.calls (omega (arith, l.clock))
 
+    -- each move makes one new call, or keeps the view's calls while its clock does not fall
     pub calling : IsMove problem v old w a x → IsCalling
     calling (draws m) = as_before m.later
     calling (ends m) = as_before m.later
@@ -126,6 +128,7 @@ module _ {problem : Problem} {crew : ℕ} {s t : State} {seat : ℕ} {w : Sight}
     calling (reads_last m) = as_before m.later
 
   module _ (keeps : KeepsHeld problem s t) (each : All (IsCall problem s seat v.clock) v.calls) where
+    -- where held rows stay and each call of a view tells what its column holds, so does each call of the view after the move
     pub own_each : IsCalling → All (IsCall problem t seat w.clock) w.calls
     own_each (silent same le) = subst (All (IsCall problem t seat w.clock)) (sym same)
         (All-weaker (IsCall problem s seat v.clock) (IsCall problem t seat w.clock) (call_stays problem s t keeps seat v.clock w.clock le)
@@ -134,11 +137,13 @@ module _ {problem : Problem} {crew : ℕ} {s t : State} {seat : ℕ} {w : Sight}
         (All-push (IsCall problem t seat w.clock) v.calls k (All-weaker (IsCall problem s seat v.clock) (IsCall problem t seat w.clock)
         (call_stays problem s t keeps seat v.clock w.clock (omega (arith, h.later, h.clock))) v.calls each) h.is)
 
+    -- where the calls of a view are on columns apart, so are those of the view after the move
     pub own_columns : IsCalling → AllPairs (λ k l. k.column ≢ l.column) v.calls → AllPairs (λ k l. k.column ≢ l.column) w.calls
     own_columns (silent same le) apart = subst (AllPairs (λ k l. k.column ≢ l.column)) (sym same) apart
     own_columns (called k h) apart = subst (AllPairs (λ k l. k.column ≢ l.column)) (sym h.calls)
         (all_pairs_push (λ k l. k.column ≢ l.column) v.calls k apart (λ i d lt. h.column i d lt))
 
+    -- where the stamps of a view's calls rise, so do those of the view after the move
     pub own_rising : IsCalling → AllPairs (λ k l. k.stamp < l.stamp) v.calls → AllPairs (λ k l. k.stamp < l.stamp) w.calls
     own_rising (silent same le) rising = subst (AllPairs (λ k l. k.stamp < l.stamp)) (sym same) rising
     own_rising (called k h) rising = subst (AllPairs (λ k l. k.stamp < l.stamp)) (sym h.calls)

@@ -16,16 +16,26 @@ use Rattle.pivot_core.proofs.Spots.{same_spot, spot_within}
 
 -- t is s with another view of a seat and another word at a spot
 pub record IsChange (problem : Problem) (crew : ℕ) (s t : State) (seat : ℕ) (w : Sight) (a : Spot) (x : ℕ) : Type 0 where
+  -- the seat is one of the crew
   pub below : seat < crew
+  -- the spot is one of the problem
   pub there : IsSpot problem.m problem.n a
+  -- the seat has its new view
   pub now : view_at problem t seat ≡ w
+  -- each other seat has the view that it had
   pub others : (j : ℕ) → j ≢ seat → view_at problem t j ≡ view_at problem s j
+  -- the spot has its new word
   pub word : word_at problem t a ≡ x
+  -- each other spot has the word that it had
   pub words : (b : Spot) → IsSpot problem.m problem.n b → b ≢ a → word_at problem t b ≡ word_at problem s b
+  -- a sum over all views changes by what it has of the one view
   pub sums : (f : Sight → ℕ) → sum_by f t.views + f (view_at problem s seat) ≡ sum_by f s.views + f w
+  -- there are as many words as before
   pub word_count : length t.words ≡ length s.words
+  -- there are as many views as before
   pub view_count : length t.views ≡ length s.views
 
+-- where a state is in range, its words and views with one of each replaced are a change of it
 pub changed : (problem : Problem) (crew : ℕ) (s : State) (seat : ℕ) (w : Sight) (a : Spot) (x : ℕ) → Ranges problem crew s → seat < crew →
     IsSpot problem.m problem.n a
     → IsChange problem crew s (record { words = set s.words (index_of problem.m a) x; views = set s.views seat w }) seat w a x
@@ -50,6 +60,7 @@ module _ {problem : Problem} {crew : ℕ} {s t : State} {seat : ℕ} {w : Sight}
   pub word_met : {b : Spot} → a ≡ b → word_at problem s b ≡ word_at problem s a
   word_met spot = ap (word_at problem s) (sym spot)
 
+  -- the spot has the word that was left
   pub word_left : {b : Spot} → a ≡ b → word_at problem t b ≡ x
   word_left spot = ap (word_at problem t) (sym spot) ∙ c.word
 

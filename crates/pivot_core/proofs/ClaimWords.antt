@@ -8,16 +8,19 @@ use Rattle.std.proofs.lemmas.Nat.{div-mul-add, mod-mul-add, mul-le}
 use Rattle.back_reduce.specs.declared.problem.Problem.{Problem}
 use Rattle.pivot_core.specs.Words.{IsClaimWord, claim_word, row_in, stamp_in, holder_in, value_in}
 
+-- the stamp in the claim word of a stamp and a row is this stamp, where the row and 1 are below 2^32
 pub stamp_in-claim_word : (stamp row : ℕ) → row + 1 < 2 ^ 32 → stamp_in (claim_word stamp row) ≡ stamp
 stamp_in-claim_word stamp row small =
     let e : claim_word stamp row ≡ stamp * 2 ^ 32 + (row + 1) = omega arith in
     ap (λ (k : ℕ). k / 2 ^ 32) e ∙ div-mul-add stamp (2 ^ 32) (row + 1) small
 
+-- the row in the claim word of a stamp and a row is this row, where the row and 1 are below 2^32
 pub row_in-claim_word : (stamp row : ℕ) → row + 1 < 2 ^ 32 → row_in (claim_word stamp row) ≡ row
 row_in-claim_word stamp row small =
     let e : claim_word stamp row ≡ stamp * 2 ^ 32 + (row + 1) = omega arith in
     ap (λ (k : ℕ). k % 2 ^ 32 - 1) e ∙ ap (λ (k : ℕ). k - 1) (mod-mul-add stamp (2 ^ 32) (row + 1) small) ∙ omega arith
 
+-- the claim word of a claim is not 0
 pub claim_word-other : (stamp row : ℕ) → claim_word stamp row ≢ 0
 claim_word-other stamp row e = omega (arith, e)
 
@@ -33,6 +36,7 @@ pub record IsTold (n word : ℕ) : Type 0 where
   pub some : 0 < stamp_in word
   pub small : stamp_in word < 2 ^ 32
 
+-- where rows are at most 2^26, each claim word other than 0 tells a row below n and a stamp from 1 to 2^32 - 1
 pub told : (n word : ℕ) → n ≤ 67108864 → IsClaimWord n word → word ≢ 0 → IsTold n word
 told n word few (inl none) other = absurd (other none)
 told n word few (inr c) other =
@@ -44,6 +48,7 @@ told n word few (inr c) other =
 pub holder_in-some : (word : ℕ) → word ≢ 0 → holder_in word ≡ Some (row_in word)
 holder_in-some word some = cond-false _ _ _ (ne_eqb word 0 some)
 
+-- where a word tells a holder, it is not 0, and the holder is the row in it
 pub holder_in-row : (word row : ℕ) → holder_in word ≡ Some row → (word ≢ 0) × (row_in word ≡ row)
 holder_in-row word row = cond_both (word == 0) _ _ (λ (o : Option ℕ). o ≡ Some row → (word ≢ 0) × (row_in word ≡ row))
     (λ on e. absurd (none-some row e)) (λ off e. (eqb-false word 0 off, same_Some (row_in word) row e))
@@ -52,6 +57,7 @@ holder_in-row word row = cond_both (word == 0) _ _ (λ (o : Option ℕ). o ≡ S
 pub value_in-before : (word : ℕ) (published : ℕ → ℕ → ℕ) (c j : ℕ) → j < c → value_in word published c j ≡ 0
 value_in-before word published c j lt = cond_both (word == 0) _ _ (λ (k : ℕ). k ≡ 0) (λ on. refl) (λ off. cond-true _ _ _ (lt-ltb j c lt))
 
+-- where no row holds a column, its held row is 0 everywhere
 pub value_in-free : (word : ℕ) (published : ℕ → ℕ → ℕ) (c j : ℕ) → holder_in word ≡ None → value_in word published c j ≡ 0
 value_in-free word published c j = cond_both (word == 0) _ _ (λ (o : Option ℕ). o ≡ None → value_in word published c j ≡ 0)
     (λ on none. cond-true _ _ _ on) (λ off none. absurd (none-some (row_in word) (sym none)))

@@ -62,12 +62,15 @@ module _ (p : ℕ) (modulus : IsFieldModulus p) where
   abbrev Kp : Field
   Kp = K p modulus
 
+  -- the residue of a product of numbers is the product of their residues
   pub res-product : (a b : ℕ) → res p modulus (product_of p a b) ≡ Kp.mul (res p modulus a) (res p modulus b)
   res-product a b = same_residue p _ _ (mod-mod (a * b) p ∙ sym (mul-mod_first a (b % p) p ∙ mul-mod_second a b p))
 
+  -- the residue of a number from 1 to p - 1 is not 0
   pub res-other : (a : ℕ) → 0 < a → a < p → Kp.is_zero (res p modulus a) ≡ false
   res-other a some small = other_tested (a % p) (λ e. omega (arith, e, mod-eq_of_lt {n = a} {m = p} small, some))
 
+  -- the residue of the number that stands for -1 is the negative of 1
   pub res-negative : res p modulus (negative_of p 1) ≡ Kp.neg Kp.one
   res-negative =
       let one : 1 % p ≡ 1 = mod-eq_of_lt {n = 1} {m = p} (omega (arith, modulus.two_or_more)) in

@@ -71,9 +71,11 @@ module _ {core : Inside} {e : Event} {v : View} (turn : IsTurn core e v) where
     seated : e.seat < length s.views
     seated = omega (arith, there, length-map views sight_of)
 
+    -- the step of the event's seat in this state is the one that was made
     pub step_made : step_at problem s e ≡ Some t
     step_made = makes problem s e t seated own_next own_gives
 
+    -- the words after it and the views with the new one are the state after the event
     pub state_made : state_of after (set views e.seat w) ≡ after_event problem s e
     state_made =
         let at : set words (met_at problem v.phase) made.word ≡ set words (met_at problem (view_at problem s e.seat).phase) made.word =

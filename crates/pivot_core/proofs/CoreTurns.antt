@@ -34,9 +34,13 @@ none_after_end kind.Read e = cc e
 
 -- the event's kind is the next of the view of its seat
 pub record IsTurn (core : Inside) (e : Event) (v : View) : Type 0 where
+  -- the machine is in a state of a run
   pub run : IsRun core
+  -- the event's seat is one of the crew
   pub there : e.seat < length core.views.items
+  -- the view is the one of this seat
   pub is : v ≡ get_or core.views.items e.seat v
+  -- the event's kind is the next of its phase
   pub next : is_next e.kind v.phase ≡ true
 
 -- as the code sees it, which has looked twice at the view
@@ -63,15 +67,18 @@ module _ {core : Inside} {e : Event} {v : View} (turn : IsTurn core e v) where
   abbrev pub s : State
   s = state_of words views
 
+  -- the seat of an event whose turn it is is one of the crew
   pub there : e.seat < length views
   there = turn.there
 
   rule : ClaimedPivots problem (length views) s
   rule = subst (ClaimedPivots problem (length views)) (sym turn.run.reached) (claimed_pivots problem (length views) turn.run.setting turn.run.events)
 
+  -- the view of the seat in the machine's state is this view without the room of its lists
   pub own : view_at problem s e.seat ≡ sight_of v
   own = get_or-map sight_of views e.seat v (fresh problem.m e.seat) there ∙ ap sight_of (sym turn.is)
 
+  -- the view has not ended
   pub goes_on : v.phase ≢ phase.Ended
   goes_on ended = none_after_end e.kind (ap (is_next e.kind) (sym ended) ∙ turn.next)
 
@@ -100,5 +107,6 @@ module _ {core : Inside} {e : Event} {v : View} (turn : IsTurn core e v) where
       (room_for_call problem (length views) turn.run.setting s rule e.seat there) claims in
       omega (arith, few, own_room)
 
+  -- with fewer than 2^32 rows and columns, the view may make its next step, and has room for the call of a claim
   pub may_step : problem.n < 2 ^ 32 → problem.m < 2 ^ 32 → MayStep problem words v
   may_step rows columns = record { within = met_within; may = met_may rows columns; count = met_count rows; room = met_room }

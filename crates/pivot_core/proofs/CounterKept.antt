@@ -84,6 +84,7 @@ module _ {problem : Problem} {crew : ℕ} {s t : State} {seat : ℕ} {w : Sight}
   goes_over : {f g : Phase} → v.phase ≡ f → w.phase ≡ g → is_ended f ≡ 0 → is_ended g ≡ 0 → is_ended w.phase ≡ is_ended v.phase
   goes_over was now before after = ap is_ended now ∙ after ∙ sym before ∙ sym (ap is_ended was)
 
+  -- where the counter is the draws and the ended views together, with all rows drawn once a view has ended, so it is after a move
   pub counter_sum_kept : CounterSum problem s → IsMove problem v old w a x → CounterSum problem t
   counter_sum_kept r move = elim (counter_cases c move) [
     | inl (inl m) ↦ draw_counter_sum m r

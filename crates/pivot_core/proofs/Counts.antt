@@ -49,6 +49,7 @@ module _ (problem : Problem) (crew : ℕ) (s : State) (ranges : Ranges problem c
       calls_below_columns i lt = few_by (λ k. k.column) problem.m (view_at problem s i).calls (λ j d within. (each i lt j d within).column)
           (λ j l before within e. columns i lt j l no_call before within e)
 
+      -- a view has at most as many calls as there are rows
       pub calls_below_rows : (i : ℕ) → i < crew → length (view_at problem s i).calls ≤ problem.n
       calls_below_rows i lt =
           let calls = (view_at problem s i).calls in
@@ -73,6 +74,7 @@ module _ (problem : Problem) (crew : ℕ) (s : State) (ranges : Ranges problem c
             | inr few ↦ few
           ]
 
+      -- a crew of at most 64 has at most 2^19 calls in all
       pub call_count-few : crew ≤ 64 → call_count s ≤ 524288
       call_count-few small =
           let le : call_count s ≤ length s.views * 8192 = sum_by-le (λ (z : Sight). length z.calls) 8192 s.views

@@ -77,6 +77,7 @@ module _ {problem : Problem} {crew : ℕ} {s t : State} {seat : ℕ} {w : Sight}
           won_count-free problem crew s ranges each m.column (won_free c m),
         )
 
+    -- where each held column was won once, each column that is held after a move is won once
     pub won_once : ((d : ℕ) → IsHeld problem s d → won_count s d ≡ 1) → IsMove problem v old w a x → (d : ℕ) → IsHeld problem t d → won_count t d ≡ 1
     won_once h move d held = elim (held_before c move d held) [
       | inl won ↦ ap (won_count t) won.1 ∙ newly_won won.0
@@ -99,6 +100,7 @@ module _ {problem : Problem} {crew : ℕ} {s t : State} {seat : ℕ} {w : Sight}
     count_same : w.calls ≡ v.calls → call_count t ≡ call_count s
     count_same same = omega (arith, count_sum, ap length same)
 
+    -- where its clock and all stamps were at most the number of all calls, the clock of the view is so after a move
     pub own_clock : IsMove problem v old w a x → w.clock ≤ call_count t
     own_clock (draws m) = omega (arith, m.later.clock, clock, count_same m.later.calls)
     own_clock (ends m) = omega (arith, m.later.clock, clock, count_same m.later.calls)
@@ -114,6 +116,7 @@ module _ {problem : Problem} {crew : ℕ} {s t : State} {seat : ℕ} {w : Sight}
     own_clock (reads_more m) = omega (arith, m.later.clock, clock, count_same m.later.calls)
     own_clock (reads_last m) = omega (arith, m.later.clock, clock, count_same m.later.calls)
 
+    -- where its clock and all stamps were at most the number of all calls, the stamp in each claim word is so after a move
     pub stamps_kept : IsCalling c → IsMove problem v old w a x → (d : ℕ) → d < problem.m →
         stamp_in (claim_at problem t d) ≤ call_count t
     stamps_kept calling move d lt = elim (claims_cases c move) [
@@ -139,6 +142,7 @@ module _ {problem : Problem} {crew : ℕ} {s t : State} {seat : ℕ} {w : Sight}
     settled_unclaimed y row (goes_on within now current seen) = now_at now tt
     settled_unclaimed y row (given_up past now current seen) = now_at now tt
 
+    -- where a move leaves its view in Putting or Claiming, the view has made no call on its column
     pub own_unclaimed : IsMove problem v old w a x → IsUnclaimed w.phase w.calls
     own_unclaimed (draws m) = settled_unclaimed _ old m.settling
     own_unclaimed (ends m) = now_at m.now tt

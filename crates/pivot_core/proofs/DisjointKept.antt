@@ -71,6 +71,7 @@ module _ {problem : Problem} {crew : ℕ} {s t : State} {seat : ℕ} {w : Sight}
       | inr was ↦ d.both_apart i e lt there (subst (HasRow (view_at problem s i).phase) same was)
     ]
 
+    -- where current rows and holders are drawn rows, none of them in two places, so they are after a move
     pub disjoint_rows_kept : DisjointRows problem crew t
     disjoint_rows_kept = record {
       drawn = λ i r lt h. drawn_row i r lt (row_before c move i r h);

@@ -20,6 +20,7 @@ pub record KeepsHeld (problem : Problem) (s t : State) : Type 0 where
   pub claims : (c : ℕ) → IsHeld problem s c → claim_at problem t c ≡ claim_at problem s c
   pub values : (c j : ℕ) → IsHeld problem s c → j < problem.m → values problem t c j ≡ values problem s c j
 
+-- where held rows stay, a held column is held afterwards
 pub held_after : (problem : Problem) (s t : State) (c : ℕ) → KeepsHeld problem s t → IsHeld problem s c → IsHeld problem t c
 held_after problem s t c k h = record { below = h.below; some = λ e. h.some (sym (k.claims c h) ∙ e) }
 
@@ -28,6 +29,7 @@ pub listed_same : (f g : ℕ → ℕ) (a n : ℕ) → ((j : ℕ) → j < a + n �
 listed_same f g a zero h = refl
 listed_same f g a (suc n) h = ap₂ (λ (x : ℕ) (xs : List ℕ). x ∷ xs) (h a (omega arith)) (listed_same f g (a + 1) n (λ j lt. h j (omega (arith, lt))))
 
+-- where held rows stay, a held column has the same held row afterwards
 pub held_row_after : (problem : Problem) (s t : State) (c : ℕ) → KeepsHeld problem s t → IsHeld problem s c → held_row problem t c ≡ held_row problem s c
 held_row_after problem s t c k h = listed_same (values problem t c) (values problem s c) 0 problem.m (λ j lt. k.values c j h (omega (arith, lt)))
 
@@ -116,6 +118,7 @@ module _ {problem : Problem} {crew : ℕ} {s t : State} {seat : ℕ} {w : Sight}
             (λ is. apart.both_apart seat d c.below h (subst (λ (f : Phase). HasRow f (holder_of problem s d)) (sym m.was) (sym is)))))
       ]
 
+  -- where no row is in two places, a move leaves each held column held by the same row and stamp, with the same held row
   pub keeps_held : DisjointRows problem crew s → IsMove problem v old w a x → KeepsHeld problem s t
   keeps_held apart move = record {
     claims = same_claims move;

@@ -22,6 +22,7 @@ at_most_one (phase.Claiming row column) = omega arith
 at_most_one (phase.Reading row column holder at) = omega arith
 at_most_one phase.Ended = omega arith
 
+-- a phase other than Ended counts 0
 pub none_ended : (f : Phase) → f ≢ phase.Ended → is_ended f ≡ 0
 none_ended phase.Fresh other = refl
 none_ended (phase.Looking row column) other = refl
@@ -38,6 +39,7 @@ ended_by (phase.Claiming row column) e = absurd (omega (arith, e))
 ended_by (phase.Reading row column holder at) e = absurd (omega (arith, e))
 ended_by phase.Ended e = refl
 
+-- among views at most all have ended
 pub at_most_all : (vs : List Sight) → sum_by one_ended vs ≤ length vs
 at_most_all [] = omega arith
 at_most_all (v ∷ vs) = omega (arith, sum_by-cons one_ended v vs, at_most_all vs, at_most_one v.phase)
@@ -58,5 +60,6 @@ module _ (problem : Problem) (s : State) (going : ℕ) (count : going + sum_by o
   pub ended_from_none : going ≡ 0 → HasEnded problem s
   ended_from_none none i lt = all_ended s.views (fresh problem.m i) (omega (arith, count, none)) i lt
 
+  -- where every view has ended, no view goes on
   pub none_from_ended : HasEnded problem s → going ≡ 0
   none_from_ended h = omega (arith, count, ended_all s.views (fresh problem.m) h)

@@ -18,13 +18,16 @@ module _ (problem : Problem) (s : State) (e : Event) where
   pub none_there : length s.views ≤ e.seat → step_at problem s e ≡ None
   none_there le = cond-false _ _ _ (le-ltb e.seat (length s.views) le)
 
+  -- no step is made where the event's kind is not the next of its view
   pub none_next : is_next e.kind own.phase ≡ false → step_at problem s e ≡ None
   none_next not = cond_both (ltb e.seat (length s.views)) (step problem own e.kind old) None (λ (o : Option Stepped). o ≡ None)
       (λ on. cond-false _ _ _ not) (λ off. refl)
 
   module _ (t : Stepped) (there : e.seat < length s.views) (next : is_next e.kind own.phase ≡ true) (gives : met problem own old ≡ Some t) where
+    -- where the seat is there and the kind is its next, the step of the event is what the view's next step gives on the word that it meets
     pub makes : step_at problem s e ≡ Some t
     makes = cond-true _ _ _ (lt-ltb e.seat (length s.views) there) ∙ cond-true _ _ _ next ∙ gives
 
+    -- the state after the event is the one with this step made
     pub makes_state : after_event problem s e ≡ with_step problem s e.seat (Some t)
     makes_state = ap (with_step problem s e.seat) makes

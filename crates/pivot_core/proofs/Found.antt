@@ -43,5 +43,6 @@ module _ {problem : Problem} {words : List ℕ} (h : IsFinished problem words) {
     pub value_is : found ≡ values problem (words_alone words) c j
     value_is = get_or_read words i found (omega (arith, at, index_within)) is 0 ∙ ap (λ (k : ℕ). get_or words k 0) at ∙ told.values j from
 
+    -- it is below the modulus
     pub value_small : found < problem.modulus
     value_small = omega (arith, value_is, told.holder.residues j lt)

@@ -76,12 +76,15 @@ module _ {problem : Problem} {crew : ℕ} {s t : State} {seat : ℕ} {w : Sight}
     pub won_row : held_row problem t m.column ≡ v.current
     won_row = sym (fill_by_all (values problem t m.column) v.current problem.m 0 (view_published.residues m.row refl).size won_place)
 
+    -- the row that wins a column has as many entries as there are columns, all residues
     pub won_is_row : IsRow problem.modulus problem.m v.current
     won_is_row = view_published.residues m.row refl
 
+    -- the row that wins a column is 1 there
     pub won_one : get_or v.current m.column 0 ≡ 1
     won_one = view_published.one m.row refl
 
+  -- where held rows are of residues, 1 at their columns, and in the span of the problem's rows, so they are after a move
   pub held_in_span_kept : Ranges problem crew s → DisjointRows problem crew s → PublishedPrefix problem crew s →
       CurrentModuloHeld problem crew s → HeldInSpan problem s → IsMove problem v old w a x → HeldInSpan problem t
   held_in_span_kept ranges apart published modulo h move = record {

@@ -16,6 +16,7 @@ use Rattle.pivot_core.specs.Runs.{State, IsHeld, claim_at, held_row, held_rows, 
 use Rattle.pivot_core.specs.Rule.{HeldInSpan}
 use Rattle.pivot_core.proofs.Effects.{KeepsHeld, held_after, held_row_after}
 
+-- the entry of a held row at a column is its value there
 pub held_row-at : (problem : Problem) (s : State) (c j : ℕ) → j < problem.m → get_or (held_row problem s c) j 0 ≡ values problem s c j
 held_row-at problem s c j lt = get_or-map-range_with_len (values problem s c) 0 problem.m j j 0 lt (omega arith)
 
@@ -23,6 +24,7 @@ held_row-at problem s c j lt = get_or-map-range_with_len (values problem s c) 0 
 pub values-before : (problem : Problem) (s : State) (c j : ℕ) → j < c → values problem s c j ≡ 0
 values-before problem s c j lt = value_in-before (claim_at problem s c) (published_at problem s) c j lt
 
+-- from its column on a held row has what its holder has published
 pub values-from : (problem : Problem) (s : State) (c j : ℕ) → IsHeld problem s c → c ≤ j →
     values problem s c j ≡ word_at problem s (row_word (holder_of problem s c) j)
 values-from problem s c j h le = value_in-from (claim_at problem s c) (published_at problem s) c j h.some le
@@ -31,6 +33,7 @@ values-from problem s c j h le = value_in-from (claim_at problem s c) (published
 pub holders-held : (problem : Problem) (s : State) (c : ℕ) → IsHeld problem s c → holders problem s c ≡ Some (holder_of problem s c)
 holders-held problem s c h = holder_in-some (claim_at problem s c) h.some
 
+-- a column with a holder is held, by this row
 pub held_holders : (problem : Problem) (s : State) (c r : ℕ) → c < problem.m → holders problem s c ≡ Some r → IsHeld problem s c × (holder_of problem s c ≡ r)
 held_holders problem s c r lt e = let is = holder_in-row (claim_at problem s c) r e in (record { below = lt; some = is.0 }, is.1)
 

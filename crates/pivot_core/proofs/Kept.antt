@@ -28,6 +28,7 @@ module _ (problem : Problem) (crew : ℕ) (setting : IsSetting problem crew) whe
   Rule s = ClaimedPivots problem crew s
 
   module _ (s t : State) (h : Rule s) (k : IsTaken problem crew s t) where
+    -- under the rule of claimed pivots a move leaves held columns held by the same row and stamp, with the same held row
     pub held_kept : KeepsHeld problem s t
     held_kept = keeps_held k.change h.disjoint_rows k.move
 
@@ -68,6 +69,7 @@ module _ (problem : Problem) (crew : ℕ) (setting : IsSetting problem crew) whe
               h.read_prefix (h.calls_and_counts.steps k.seat k.change.below) k.move) (λ i lt other. h.calls_and_counts.steps i lt);
         }
 
+    -- where the rule of claimed pivots holds in a state, it holds after a move
     pub rule_kept : Rule t
     rule_kept = record {
       ranges = ranges_kept k.change h.ranges (λ won. clock_small k.seat k.change.below) k.move;
@@ -89,9 +91,11 @@ module _ (problem : Problem) (crew : ℕ) (setting : IsSetting problem crew) whe
   pub event_keeps : (s : State) (e : Event) → Rule s → Rule (after_event problem s e)
   event_keeps s e h = taken problem crew s e h.ranges Rule h (λ t k. rule_kept s t h k)
 
+  -- where the rule of claimed pivots holds in a state, it holds after any events
   pub events_keep : (s : State) (es : List Event) → Rule s → Rule (after_events problem s es)
   events_keep s [] h = h
   events_keep s (e ∷ es) h = events_keep (after_event problem s e) es (event_keeps s e h)
 
+  -- the rule of claimed pivots holds in the state after any run
   pub claimed_pivots : (es : List Event) → Rule (state_after problem crew es)
   claimed_pivots es = events_keep (opening problem crew) es (opens_claimed problem crew)

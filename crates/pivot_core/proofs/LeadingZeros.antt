@@ -19,6 +19,7 @@ part_to_end from k row rest is =
 pub part_whole : (from k : ℕ) (row : List ℕ) → k ≡ length row - from → take k (drop from row) ≡ drop from row
 part_whole from k row is = take_all k (drop from row) (omega (arith, length-drop from row, is))
 
+-- the part of a row from a place up to the end is as long as the row less this place
 pub length-part : (from k : ℕ) (row : List ℕ) → k ≡ length row - from → length (take k (drop from row)) ≡ length row - from
 length-part from k row is = ap length (part_whole from k row is) ∙ length-drop from row
 

@@ -49,6 +49,7 @@ module _ (problem : Problem) (crew : ℕ) (s : State) (h : ClaimedPivots problem
   pub log_at : (i : ℕ) → i < crew → get_or logs i [] ≡ (view_at problem s i).calls
   log_at i lt = get_or-map (λ (v : Sight). v.calls) s.views i (fresh problem.m i) [] (omega (arith, lt, h.ranges.count))
 
+  -- there are as many logs as seats
   pub length-logs : length logs ≡ crew
   length-logs = length-map s.views (λ (v : Sight). v.calls) ∙ h.ranges.count
 
@@ -76,6 +77,7 @@ module _ (problem : Problem) (crew : ℕ) (s : State) (h : ClaimedPivots problem
       (subst (IsHeld problem s) is (call_held problem s (get_or calls j d).seat (get_or calls j d).stamp (get_or calls j d)
       (told j d within)))))
 
+  -- under the rule of claimed pivots the calls by (stamp, seat) are a history of the one-thread object, in which each stands once
   pub legal_history : IsLegalHistory problem crew s
   legal_history = record {
     replays = replays_sorted problem s calls told (sorted_calls-in_order (joined_calls logs)) (λ c held. summed (is_won_at c) ∙ h.calls_and_counts.won c held);
@@ -93,5 +95,6 @@ module _ (problem : Problem) (crew : ℕ) (s : State) (h : ClaimedPivots problem
           (sorted_calls-moves (joined_calls logs)) there) (view_at problem s i).calls
           (subst (All (Contains (joined_calls logs))) (log_at i lt) (joined_calls-contains logs i [] (omega (arith, lt, length-logs))))
 
+-- in the state after any run the calls by (stamp, seat) are a history of the one-thread object, in which each stands once
 pub one_legal_history : OneLegalHistory
 one_legal_history problem crew setting events = legal_history problem crew (state_after problem crew events) (claimed_pivots problem crew setting events)

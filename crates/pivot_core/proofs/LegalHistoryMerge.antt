@@ -55,6 +55,7 @@ module _ (problem : Problem) (crew : ℕ) (s : State) (h : ClaimedPivots problem
         | inr from ↦ absurd (omega (arith, le, own (omega (arith, from, not_after_seat k l order le))))
       ]
 
+  -- under the rule of claimed pivots the calls by (stamp, seat) have those of each seat as its log has them, and no others
   pub merge_of_logs : IsMergeOfLogs problem crew s
   merge_of_logs = record {
     logs = own_log;
@@ -63,5 +64,6 @@ module _ (problem : Problem) (crew : ℕ) (s : State) (h : ClaimedPivots problem
         (calls_of-pairs IsBefore calls each_rising a b d lt within);
   }
 
+-- in the state after any run the calls by (stamp, seat) have those of each seat as its log has them, and no others
 pub history_merges_logs : HistoryMergesLogs
 history_merges_logs problem crew setting events = merge_of_logs problem crew (state_after problem crew events) (claimed_pivots problem crew setting events)

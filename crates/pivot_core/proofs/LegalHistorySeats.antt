@@ -35,6 +35,7 @@ module _ (i : ℕ) where
       calls_of-own k ks (ap (λ (n : ℕ). n == i) (All-head (λ l. l.seat ≡ i) k ks h) ∙ eq-eqb i i refl)
       ∙ ap (λ (ls : List Call). k ∷ ls) (calls_of-all ks (All-tail (λ l. l.seat ≡ i) k ks h))
 
+  -- where all calls are of other seats, none is the seat's
   pub calls_of-none : (ks : List Call) → All IsElsewhere ks → calls_of i ks ≡ []
   calls_of-none [] h = refl
   calls_of-none (k ∷ ks) h =
@@ -91,6 +92,7 @@ module _ (i : ℕ) where
   joined_calls-none : (logs : List (List Call)) → All (All IsElsewhere) logs → calls_of i (joined_calls logs) ≡ []
   joined_calls-none logs h = calls_of-none (joined_calls logs) (All-joined_calls IsElsewhere logs h)
 
+  -- where one log has calls of the seat alone and no other log has any, the seat's calls among the joined ones are this log
   pub joined_calls-one : (logs : List (List Call)) (at : ℕ) → All (λ k. k.seat ≡ i) (get_or logs at [])
       → ((j : ℕ) → j < length logs → j ≢ at → All IsElsewhere (get_or logs j [])) → calls_of i (joined_calls logs) ≡ get_or logs at []
   joined_calls-one [] at own others = refl

@@ -121,6 +121,7 @@ module _ (problem : Problem) (crew : ℕ) (setting : IsSetting problem crew) (s 
   pub counter_small : v.phase ≡ phase.Fresh → problem.n < 2 ^ 32 → word_at problem s (spot_of v.phase) < 2 ^ 64 - 1
   counter_small is rows = omega (arith, counter_few, ap (λ (f : Phase). word_at problem s (spot_of f)) is, rows)
 
+  -- under the rule of claimed pivots, with fewer than 2^32 rows and columns, a view that has not ended may meet the word of its next step
   pub may_meet : problem.n < 2 ^ 32 → problem.m < 2 ^ 32 → v.phase ≢ phase.Ended → MayMeet problem v (word_at problem s (spot_of v.phase))
   may_meet rows columns next = record {
     next = next;

@@ -22,17 +22,21 @@ module _ (problem : Problem) (v : Sight) (old : ℕ) where
       → IsMet problem v old (t y).sight (t y).reply
   by_row t is row taken = record { word = _; gives = ap (λ (f : Phase). by_phase problem counted f old) is ∙ row ∙ ap (λ x. Some (t x)) taken }
 
+  -- a fresh view that meets n or more in the counter draws no row, and ends
   pub meets_end : v.phase ≡ phase.Fresh → problem.n ≤ old → IsMet problem v old (record counted { phase = phase.Ended }) (reply.Drew None)
   meets_end is none = by_row (λ t. t) is refl (cond-false _ _ _ (le-ltb old problem.n none))
 
+  -- a fresh view that meets a number below n in the counter draws the row of this number, and goes on with it
   pub meets_draw : v.phase ≡ phase.Fresh → old < problem.n → IsMet problem v old
       (settle problem (record counted { drawn = v.drawn + 1 }) (given_row problem old) old) (reply.Drew (Some old))
   meets_draw is some = by_row (λ t. t) is refl (cond-true _ _ _ (lt-ltb old problem.n some))
 
+  -- a look that meets 0 finds the column free, and the view begins to put its row from this column on
   pub meets_free : {row column : ℕ} → v.phase ≡ phase.Looking row column → old ≡ 0 →
       IsMet problem v old (record counted { phase = phase.Putting row column column }) reply.Free
   meets_free is free = by_row (λ t. t) is refl (cond-true _ _ _ (eq-eqb old 0 free))
 
+  -- a look that meets a claim word other than 0 tells its row and stamp, takes this into the clock, and the view begins to read that row
   pub meets_held : {row column : ℕ} → v.phase ≡ phase.Looking row column → old ≢ 0
       → IsMet problem v old (begin problem (record counted { clock = max v.clock (stamp_in old) }) row column (row_in old))
       (reply.Held (row_in old) (stamp_in old))
@@ -42,18 +46,22 @@ module _ (problem : Problem) (v : Sight) (old : ℕ) where
   abbrev put_row : ℕ → Phase → Stepped
   put_row at f = record { sight = record counted { phase = f }; word = slice_index v.current at; reply = reply.Stored }
 
+  -- a put before the last column is followed by one at the next column
   pub meets_put : {row column at : ℕ} → v.phase ≡ phase.Putting row column at → at + 1 < problem.m →
       IsMet problem v old (record counted { phase = phase.Putting row column (at + 1) }) reply.Stored
   meets_put {at = at} is more = by_row (put_row at) is refl (cond-true _ _ _ (lt-ltb (at + 1) problem.m more))
 
+  -- a put at the last column is followed by a claim
   pub meets_last_put : {row column at : ℕ} → v.phase ≡ phase.Putting row column at → problem.m ≤ at + 1 →
       IsMet problem v old (record counted { phase = phase.Claiming row column }) reply.Stored
   meets_last_put {at = at} is last = by_row (put_row at) is refl (cond-false _ _ _ (le-ltb (at + 1) problem.m last))
 
+  -- a claim that meets 0 is won
   pub meets_won : {row column : ℕ} → v.phase ≡ phase.Claiming row column → old ≡ 0 →
       IsMet problem v old (after_won problem counted row column) (reply.Claimed answer.Won)
   meets_won is free = by_row (λ t. t) is refl (cond-true _ _ _ (eq-eqb old 0 free))
 
+  -- a claim that meets a word other than 0 is lost to the row and stamp in it
   pub meets_lost : {row column : ℕ} → v.phase ≡ phase.Claiming row column → old ≢ 0 →
       IsMet problem v old (after_lost problem counted row column old) (reply.Claimed (answer.Lost (row_in old) (stamp_in old)))
   meets_lost is held = by_row (λ t. t) is refl (cond-false _ _ _ (ne_eqb old 0 held))
@@ -66,10 +74,12 @@ module _ (problem : Problem) (v : Sight) (old : ℕ) where
   abbrev read_row : Sight → Stepped
   read_row w = record { sight = w; word = old; reply = reply.Got old }
 
+  -- a read before the last column sees its word, and is followed by one at the next column
   pub meets_read : {row column holder at : ℕ} → v.phase ≡ phase.Reading row column holder at → at + 1 < problem.m
       → IsMet problem v old (record (seen_one at) { phase = phase.Reading row column holder (at + 1) }) (reply.Got old)
   meets_read {at = at} is more = by_row read_row is refl (cond-true _ _ _ (lt-ltb (at + 1) problem.m more))
 
+  -- after a read at the last column the row goes on as its current entries less those that were seen
   pub meets_last_read : {row column holder at : ℕ} → v.phase ≡ phase.Reading row column holder at → problem.m ≤ at + 1
       → IsMet problem v old (settle problem (seen_one at) (difference problem.modulus v.current (set v.seen at old)) row) (reply.Got old)
   meets_last_read {at = at} is last = by_row read_row is refl (cond-false _ _ _ (le-ltb (at + 1) problem.m last))

@@ -44,10 +44,12 @@ module _ {problem : Problem} {crew : ℕ} {s t : State} {seat : ℕ} {w : Sight}
         (λ j lt. (whole_read c ranges read m.row m.column m.holder m.at m.was m.spot m.last).1 j lt
         ∙ held_row-at problem s m.column j lt)
 
+    -- what was seen at the end of a read is in the span of the held rows
     pub seen_in_span : HeldSpan problem modulus s (vector_of problem modulus (set v.seen m.at old))
     seen_in_span = subst (λ (row : List ℕ). HeldSpan problem modulus s (vector_of problem modulus row)) (sym seen_is)
         (held_in_own_span problem modulus s m.column seen_held)
 
+    -- the current row has as many entries as what was seen
     pub same_sizes : length v.current ≡ length (set v.seen m.at old)
     same_sizes = (ranges.views seat c.below).current ∙ sym seen_size
 
@@ -102,6 +104,7 @@ module _ {problem : Problem} {crew : ℕ} {s t : State} {seat : ℕ} {w : Sight}
         (loses_row problem modulus v.current seen y (same_sizes modulus ranges read m) refl s (given_row problem m.row)
         (was m.row (row_of_phase m.row m.was refl)) (seen_in_span modulus ranges read m) entry.0 entry.1)))
 
+  -- where each given row is a multiple of what is current of it, but for a rest in the span of the held rows, so it is after a move
   pub current_modulo_kept : Ranges problem crew s → DisjointRows problem crew s → ReadPrefix problem crew s →
       CurrentModuloHeld problem crew s → IsMove problem v old w a x → CurrentModuloHeld problem crew t
   current_modulo_kept ranges apart read h move modulus i r lt has =

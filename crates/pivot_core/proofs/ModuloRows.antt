@@ -34,6 +34,7 @@ module _ (problem : Problem) (modulus : IsFieldModulus problem.modulus) where
   abbrev of_residue : ℕ → k.F
   of_residue n = res p modulus n
 
+  -- where held rows stay, a row that is a multiple of another but for a rest in their span is so afterwards
   pub modulo_grows : (s t : State) → KeepsHeld problem s t → (row current : List ℕ) → IsModulo problem modulus s row current →
       IsModulo problem modulus t row current
   modulo_grows s t keeps row current h = record {

@@ -46,6 +46,7 @@ lead_at-further y at le within none = elim (cases_eq at (lead_at y)) [
   | inr other ↦ omega (arith, le, other)
 ]
 
+-- a place up to the leading column, at which a row is not 0, is the leading column
 pub lead_at-here : (y : List ℕ) (at : ℕ) → at ≤ lead_at y → get_or y at zero ≢ zero → at ≡ lead_at y
 lead_at-here y at le other = elim (cases_lt at (lead_at y)) [
   | inl before ↦ absurd (other (lead_at-before y at before))
@@ -82,9 +83,11 @@ inverse_unique p a i j li lj one one' =
     ∙ sym (mul-mod_first (i * a) j p) ∙ ap (λ (n : ℕ). (n % p * j) % p) (mul_comm i a) ∙ ap (λ (n : ℕ). (n * j) % p) one
     ∙ ap (λ (n : ℕ). n % p) (omega arith) ∙ mod-eq_of_lt lj
 
+-- a residue whose product with a is 1 is the inverse of a
 pub inverse_of-is : (p a i : ℕ) → i < p → product_of p a i ≡ 1 → i ≡ inverse_of p a
 inverse_of-is p a i lt one = inverse_unique p a i (inverse_of p a) lt (inverse_below-small p a p (omega (arith, lt))) one (inverse_below-right p a p i lt one)
 
+-- a residue other than 0 times its inverse is 1
 pub inverse_of-right : (p a : ℕ) → IsFieldModulus p → 0 < a → a < p → product_of p a (inverse_of p a) ≡ 1
 inverse_of-right p a f some small = let b = f.has_inverse a some small in inverse_below-right p a p b.0 b.1 b.2
 
@@ -92,11 +95,13 @@ inverse_of-right p a f some small = let b = f.has_inverse a some small in invers
 pub made_monic-at : (p : ℕ) (y : List ℕ) (j : ℕ) → get_or (made_monic p y) j 0 ≡ product_of p (inverse_of p (get_or y (lead_at y) 0)) (get_or y j 0)
 made_monic-at p y j = entry-map (λ x. product_of p (inverse_of p (get_or y (lead_at y) 0)) x) (scaled_zero p (inverse_of p (get_or y (lead_at y) 0))) y j
 
+-- a row made monic is 0 before its leading column
 pub made_monic-before : (p : ℕ) (y : List ℕ) (j : ℕ) → j < lead_at y → get_or (made_monic p y) j 0 ≡ 0
 made_monic-before p y j lt =
     let i : ℕ = inverse_of p (get_or y (lead_at y) 0) in
     made_monic-at p y j ∙ ap (λ (n : ℕ). product_of p i n) (lead_at-before y j lt) ∙ scaled_zero p i
 
+-- where the leading entry of a row is a residue other than 0, the row made monic is 1 there
 pub made_monic-one : (p : ℕ) (y : List ℕ) → IsFieldModulus p → 0 < get_or y (lead_at y) 0 → get_or y (lead_at y) 0 < p →
     get_or (made_monic p y) (lead_at y) 0 ≡ 1
 made_monic-one p y f some small =

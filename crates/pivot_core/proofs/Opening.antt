@@ -83,6 +83,7 @@ module _ (problem : Problem) (crew : ℕ) where
     steps = λ i lt. view_by (λ (v : Sight). IsBounded problem.m v.phase v.drawn v.steps) i lt (omega arith);
   }
 
+  -- the rule of claimed pivots holds in the opening state
   pub opens_claimed : ClaimedPivots problem crew s
   opens_claimed = record {
     ranges = opens_ranges;

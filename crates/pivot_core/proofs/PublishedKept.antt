@@ -28,11 +28,16 @@ use Rattle.pivot_core.proofs.Spots.{places_apart, row_words_apart}
 
 -- the clause for a view with this phase and this current row
 pub record IsPublished (problem : Problem) (s : State) (f : Phase) (current : List ℕ) : Type 0 where
+  -- a current row has as many entries as there are columns, all residues
   pub residues : (r : ℕ) → HasRow f r → IsRow problem.modulus problem.m current
+  -- it is 0 before the column of the phase
   pub before : (r j : ℕ) → HasRow f r → j < column_of f → get_or current j 0 ≡ 0
+  -- it is 1 there
   pub one : (r : ℕ) → HasRow f r → get_or current (column_of f) 0 ≡ 1
+  -- from there on its row words are its entries, as far as the phase has put them
   pub published : (r j : ℕ) → HasRow f r → column_of f ≤ j → j < published_upto problem.m f → word_at problem s (row_word r j) ≡ get_or current j 0
 
+-- where each current row of a state is published so far, that of each one view is
 pub published_view : (problem : Problem) (crew : ℕ) (s : State) → PublishedPrefix problem crew s → (i : ℕ) → i < crew →
     IsPublished problem s (view_at problem s i).phase (view_at problem s i).current
 published_view problem crew s h i lt = record {
@@ -51,6 +56,7 @@ published_all problem crew s h = record {
   published = λ i r j lt has from upto. (h i lt).published r j has from upto;
 }
 
+-- the difference of two lists of m numbers is a row of m residues
 pub difference_row : (p m : ℕ) (y x : List ℕ) → 0 < p → length y ≡ m → length x ≡ m → IsRow p m (difference p y x)
 difference_row p m y x pos size size' = record {
   size = length-plus_multiple p (negative_of p 1) y x ∙ size;
@@ -206,6 +212,7 @@ module _ {problem : Problem} {crew : ℕ} {s t : State} {seat : ℕ} {w : Sight}
           (difference_row problem.modulus problem.m v.current (set v.seen m.at old) (omega (arith, modulus.two_or_more))
           (ranges.views seat c.below).current (length-set v.seen m.at old ∙ (ranges.views seat c.below).seen)) m.settling
 
+    -- where each current row is of residues, 0 before its column, 1 there and published so far, so it is after a move
     pub published_prefix_kept : IsFieldModulus problem.modulus → PublishedPrefix problem crew s → IsMove problem v old w a x → PublishedPrefix problem crew t
     published_prefix_kept modulus h move = published_all problem crew t
         (each_view c (λ i u. IsPublished problem t u.phase u.current)

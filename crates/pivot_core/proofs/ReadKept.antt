@@ -107,6 +107,7 @@ module _ {problem : Problem} {crew : ℕ} {s t : State} {seat : ℕ} {w : Sight}
         (still_read problem s t keeps (phase.Reading m.row m.column m.holder (m.at + 1)) (set v.seen m.at old) more))
     own_read (reads_last m) = settled_read problem t _ m.row w m.settling
 
+  -- where each view that reads has seen the held row so far, so it has after a move
   pub read_prefix_kept : Ranges problem crew s → DisjointRows problem crew s → ReadPrefix problem crew s → IsMove problem v old w a x →
       ReadPrefix problem crew t
   read_prefix_kept ranges apart h move =

@@ -32,6 +32,7 @@ held_reply problem v row column old t is other e =
     sym (ap (λ (u : Stepped). u.reply) gives)
     ∙ ap (λ (u : Stepped). u.reply) (cond-false _ _ _ (ne_eqb old 0 other))
 
+-- a look at a column on which the seat has made a call finds what the call left there
 pub looks_find_calls : LooksFindCalls
 looks_find_calls problem crew setting events e row column kind is k there same t gives =
     let s : State = state_after problem crew events in
@@ -106,6 +107,7 @@ module _ (problem : Problem) (crew : ℕ) (setting : IsSetting problem crew) whe
         first_stamp [] = 0
         first_stamp (l ∷ ls) = l.stamp
 
+-- a call has a greater stamp than each that its seat had met before
 pub calls_follow : CallsFollowWhatWasMet
 calls_follow problem crew setting events more e f t u seats gives gives' k called_k =
     let s : State = state_after problem crew events in

@@ -20,6 +20,7 @@ use Rattle.pivot_core.proofs.Moves.{reads_more, reads_last}
 pub row_in_phase : {f g : Phase} (r : ℕ) → f ≡ g → HasRow f r → HasRow g r
 row_in_phase r is h = subst (λ (e : Phase). HasRow e r) is h
 
+-- a row that is current in a phase is current in one that equals it
 pub row_of_phase : {f g : Phase} (r : ℕ) → f ≡ g → HasRow g r → HasRow f r
 row_of_phase r is h = subst (λ (e : Phase). HasRow e r) (sym is) h
 
@@ -32,6 +33,7 @@ one_row (phase.Claiming row column) r q h k = sym h ∙ k
 one_row (phase.Reading row column holder at) r q h k = sym h ∙ k
 one_row phase.Ended r q h k = absurd h
 
+-- a row that is current after a row has settled is this row
 pub settled_row : (problem : Problem) (y : List ℕ) (row : ℕ) (w : Sight) → IsSettling problem y row w → (r : ℕ) → HasRow w.phase r → row ≡ r
 settled_row problem y row w (goes_on within now current seen) r h = row_in_phase r now h
 settled_row problem y row w (given_up past now current seen) r h = absurd (row_in_phase r now h)
@@ -57,6 +59,7 @@ module _ (problem : Problem) (v : Sight) (old : ℕ) (w : Sight) (a : Spot) (x :
   pub winner : (m : IsWonClaim problem v old w a x) → HasRow v.phase m.row
   winner m = row_of_phase m.row m.was refl
 
+  -- after a claim that is won the view has no current row
   pub won_none : (m : IsWonClaim problem v old w a x) (r : ℕ) → HasRow w.phase r → ⊥
   won_none m r h = row_in_phase r m.now h
 
@@ -71,6 +74,7 @@ module _ {problem : Problem} {crew : ℕ} {s t : State} {seat : ℕ} {w : Sight}
   abbrev old : ℕ
   old = word_at problem s a
 
+  -- a row that wins is below n, and the column that it wins is below m
   pub won_numbers : Ranges problem crew s → (m : IsWonClaim problem v old w a x) → (m.row < problem.n) × (m.column < problem.m)
   won_numbers r m = numbers_at c r m.was
 
@@ -78,11 +82,13 @@ module _ {problem : Problem} {crew : ℕ} {s t : State} {seat : ℕ} {w : Sight}
   pub won_word : (m : IsWonClaim problem v old w a x) → claim_at problem t m.column ≡ x
   won_word m = word_left c m.spot
 
+  -- the holder of the column that was won is the row that won it
   pub won_holder : Ranges problem crew s → (m : IsWonClaim problem v old w a x) → holder_of problem t m.column ≡ m.row
   won_holder r m =
       let numbers = won_numbers r m in
       ap row_in (won_word m ∙ m.word) ∙ row_in-claim_word (v.clock + 1) m.row (omega (arith, numbers.0, few_rows problem m.column numbers.1))
 
+  -- the stamp of the column that was won is one more than the winner's clock was
   pub won_stamp : Ranges problem crew s → (m : IsWonClaim problem v old w a x) → stamp_in (claim_at problem t m.column) ≡ v.clock + 1
   won_stamp r m =
       let numbers = won_numbers r m in

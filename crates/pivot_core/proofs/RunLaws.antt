@@ -25,6 +25,7 @@ use Rattle.pivot_core.proofs.HeldRows.{HeldSpan, Kp, OneHeld, held_holders, held
 use Rattle.pivot_core.proofs.Kept.{claimed_pivots, event_keeps, held_kept}
 use Rattle.pivot_core.proofs.Table.{taken}
 
+-- events and then more lead where the later ones lead from the state after the first
 pub after_events-append : (problem : Problem) (s : State) (es fs : List Event) →
     after_events problem s (es ++ fs) ≡ after_events problem (after_events problem s es) fs
 after_events-append problem s [] fs = refl
@@ -43,12 +44,14 @@ module _ (problem : Problem) (crew : ℕ) (setting : IsSetting problem crew) whe
   event_keeps_held : (s : State) (e : Event) → ClaimedPivots problem crew s → KeepsHeld problem s (after_event problem s e)
   event_keeps_held s e h = taken problem crew s e h.ranges (KeepsHeld problem s) (KeepsHeld-same problem s) (λ t k. held_kept problem crew setting s t h k)
 
+  -- under the rule of claimed pivots events leave held columns held by the same row and stamp, with the same held row
   pub run_keeps_held : (s : State) (es : List Event) → ClaimedPivots problem crew s → KeepsHeld problem s (after_events problem s es)
   run_keeps_held s [] h = KeepsHeld-same problem s
   run_keeps_held s (e ∷ es) h =
       let t : State = after_event problem s e in
       KeepsHeld-trans problem s t (after_events problem t es) (event_keeps_held s e h) (run_keeps_held t es (event_keeps problem crew setting s e h))
 
+-- over a run a held row never changes, and its column keeps its claim word
 pub held_rows_stay : HeldRowsStay
 held_rows_stay problem crew setting events more c h =
     let s : State = state_after problem crew events in
@@ -85,6 +88,7 @@ module _ (problem : Problem) (crew : ℕ) (s : State) (setting : IsSetting probl
     none_current : (r i : ℕ) → i < crew → HasRow (view_at problem s i).phase r → ⊥
     none_current r i lt has = subst (λ (f : Phase). HasRow f r) (phase_ended i lt) has
 
+    -- under the rule of claimed pivots the held rows of an ended state are pivots of the problem
     pub ended_pivots : ArePivots problem (holders problem s) (values problem s)
     ended_pivots = record {
       each = λ c r lt e. (let f = held_holders problem s c r lt e in record {
@@ -104,6 +108,7 @@ module _ (problem : Problem) (crew : ℕ) (s : State) (setting : IsSetting probl
       );
     }
 
+-- where every view has ended after a run, the held rows are pivots of the problem
 pub held_rows_are_pivots : HeldRowsArePivots
 held_rows_are_pivots problem crew setting events ended = ended_pivots problem crew (state_after problem crew events) setting
     (claimed_pivots problem crew setting events) ended

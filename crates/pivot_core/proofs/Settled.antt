@@ -10,10 +10,12 @@ use Rattle.pivot_core.proofs.ModuloRows.{zero_row}
 use Rattle.pivot_core.proofs.Monic.{inverse_of-is}
 use Rattle.pivot_core.proofs.Zeros.{zeros_by}
 
+-- a row with a leading column goes on made monic, looking at this column, with zeros seen
 pub settle-on : (problem : Problem) (v : Sight) (y : List ℕ) (row : ℕ) → lead_at y < problem.m
     → settle problem v y row ≡ record v { phase = phase.Looking row (lead_at y); current = made_monic problem.modulus y; seen = zeros problem.m }
 settle-on problem v y row lt = cond-true _ _ _ (lt-ltb (lead_at y) problem.m lt)
 
+-- a row without a leading column is given up
 pub settle-off : (problem : Problem) (v : Sight) (y : List ℕ) (row : ℕ) → problem.m ≤ lead_at y
     → settle problem v y row ≡ record v { phase = phase.Fresh; current = zeros problem.m; seen = zeros problem.m }
 settle-off problem v y row le = cond-false _ _ _ (le-ltb (lead_at y) problem.m le)
@@ -32,6 +34,7 @@ looking-is problem v y row column current seen lt is_column is_current is_seen =
     λ i. record v { phase = phase.Looking row (is_column i); current = is_current i; seen = is_seen i } in
     e ∙ sym (settle-on problem v y row lt)
 
+-- a view made fresh that keeps a row without a leading column, with zeros seen, is the one whose row is given up
 pub fresh-is : (problem : Problem) (v : Sight) (y : List ℕ) (row : ℕ) (seen : List ℕ) → problem.m ≤ lead_at y → length y ≡ problem.m → seen ≡ zeros problem.m
     → record v { phase = phase.Fresh; current = y; seen = seen } ≡ settle problem v y row
 fresh-is problem v y row seen le size is_seen =

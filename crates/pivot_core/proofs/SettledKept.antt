@@ -143,6 +143,7 @@ module _ {problem : Problem} {crew : ℕ} {s t : State} {seat : ℕ} {w : Sight}
         by_move (reads_more m) same = stays m.was m.now (λ r has. has) same
         by_move (reads_last m) same = read_inside read m same
 
+  -- where each drawn row that is not current is in the span of the held rows, so it is after a move
   pub settled_in_span_kept : Ranges problem crew s → DisjointRows problem crew s → PublishedPrefix problem crew s →
       ReadPrefix problem crew s → CurrentModuloHeld problem crew s → SettledInSpan problem crew s → IsMove problem v old w a x →
       SettledInSpan problem crew t

@@ -42,21 +42,27 @@ kind_of_spot counter = 0
 kind_of_spot (claim_of c) = 1
 kind_of_spot (row_word r j) = 2
 
+-- the claim of a column is not the counter
 pub claim_not_counter : (c : ℕ) → claim_of c ≢ counter
 claim_not_counter c e = let k : 1 ≡ 0 = ap kind_of_spot e in omega (arith, k)
 
+-- a row word is not the counter
 pub row_not_counter : (r j : ℕ) → row_word r j ≢ counter
 row_not_counter r j e = let k : 2 ≡ 0 = ap kind_of_spot e in omega (arith, k)
 
+-- a row word is not the claim of a column
 pub row_not_claim : (r j c : ℕ) → row_word r j ≢ claim_of c
 row_not_claim r j c e = let k : 2 ≡ 1 = ap kind_of_spot e in omega (arith, k)
 
+-- the claim of a column is not a row word
 pub claim_not_row : (c r j : ℕ) → claim_of c ≢ row_word r j
 claim_not_row c r j e = let k : 1 ≡ 2 = ap kind_of_spot e in omega (arith, k)
 
+-- the counter is not the claim of a column
 pub counter_not_claim : (c : ℕ) → counter ≢ claim_of c
 counter_not_claim c e = let k : 0 ≡ 1 = ap kind_of_spot e in omega (arith, k)
 
+-- the counter is not a row word
 pub counter_not_row : (r j : ℕ) → counter ≢ row_word r j
 counter_not_row r j e = let k : 0 ≡ 2 = ap kind_of_spot e in omega (arith, k)
 
@@ -66,9 +72,11 @@ column_in counter = 0
 column_in (claim_of c) = c
 column_in (row_word r j) = 0
 
+-- two columns whose claims have one spot are one
 pub same_column : (c d : ℕ) → claim_of c ≡ claim_of d → c ≡ d
 same_column c d e = ap column_in e
 
+-- the claims of two columns have two spots
 pub claims_apart : (c d : ℕ) → c ≢ d → claim_of c ≢ claim_of d
 claims_apart c d other e = other (ap column_in e)
 
@@ -82,8 +90,10 @@ place_in_spot counter = 0
 place_in_spot (claim_of c) = 0
 place_in_spot (row_word r j) = j
 
+-- the words of two rows have two spots
 pub row_words_apart : (r q j k : ℕ) → r ≢ q → row_word r j ≢ row_word q k
 row_words_apart r q j k other e = other (ap row_in_spot e)
 
+-- row words at two columns have two spots
 pub places_apart : (r q j k : ℕ) → j ≢ k → row_word r j ≢ row_word q k
 places_apart r q j k other e = other (ap place_in_spot e)

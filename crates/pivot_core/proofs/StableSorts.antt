@@ -6,9 +6,11 @@ use Rattle.std.proofs.lemmas.List.Sorted.{sorted_far}
 use Rattle.std.specs.Cmp.{IsStrictWeakOrder}
 use Rattle.std.specs.List.Sorted.{IsSortedBy, ties}
 
+-- where the first element passes a test, it stands before those of the rest that pass
 pub filter-kept : {X : Type 0} (p : X → Bool) (y : X) (ys : List X) → p y ≡ true → filter p (y ∷ ys) ≡ y ∷ filter p ys
 filter-kept p y ys h = cond-true _ _ _ h
 
+-- where the first element fails a test, those that pass are those of the rest
 pub filter-dropped : {X : Type 0} (p : X → Bool) (y : X) (ys : List X) → p y ≡ false → filter p (y ∷ ys) ≡ filter p ys
 filter-dropped p y ys h = cond-false _ _ _ h
 
@@ -37,6 +39,7 @@ module _ {X : Type 0} (lt : X → X → Bool) where
   tied : (x y : X) → lt x y ≡ false → lt y x ≡ false → ties lt x y ≡ true
   tied x y h k = ap (λ (b : Bool). not b && not (lt y x)) h ∙ ap not k
 
+  -- of two elements that tie neither is less than the other
   pub tied_parts : (x y : X) → ties lt x y ≡ true → (lt x y ≡ false) × (lt y x ≡ false)
   tied_parts x y h = let parts = and_parts (not (lt x y)) (not (lt y x)) h in (not-true _ parts.0, not-true _ parts.1)
 

@@ -30,6 +30,7 @@ rises_by m c (suc k) le =
     let same : steps_before m (c + suc k) ≡ steps_before m (c + k + 1) = ap (steps_before m) (let e : c + suc k ≡ c + k + 1 = omega arith in e) in
     omega (arith, rest, more, same)
 
+-- the most steps before a column are at most those before a later column
 pub steps_before-rises : (m c d : ℕ) → c ≤ d → d ≤ m → steps_before m c ≤ steps_before m d
 steps_before-rises m c d le within =
     let to : steps_before m c ≤ steps_before m (c + (d - c)) = rises_by m c (d - c) (omega (arith, le, within)) in
@@ -43,6 +44,7 @@ steps_before-whole m =
     let b : m * (m + 3) ≡ m * m + m * 3 = mul-add m m 3 in
     omega (arith, a, b, mul_comm m 3)
 
+-- the most steps before a column, with the draw, are at most the steps of a row
 pub steps_before-most : (m c : ℕ) → c ≤ m → steps_before m c + 1 ≤ steps_of_row m
 steps_before-most m c le = omega (arith, steps_before-rises m c m le (let e : m ≤ m = omega arith in e), steps_before-whole m)
 

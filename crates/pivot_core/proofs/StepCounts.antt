@@ -55,6 +55,7 @@ summed_steps k (v ∷ vs) h =
     let same : sum_by (λ (z : Sight). z.drawn) (v ∷ vs) * k ≡ (v.drawn + drawn) * k = ap (λ (x : ℕ). x * k) (sum_by-cons (λ (z : Sight). z.drawn) v vs) in
     omega (arith, rest, first, products, same, sum_by-cons (λ (z : Sight). z.steps) v vs)
 
+-- under the rule of claimed pivots a seat has at most min n m claims and the steps of its drawn rows and one, and stamps up to the number of calls
 pub counted : (problem : Problem) (crew : ℕ) (s : State) → ClaimedPivots problem crew s → IsCounted problem crew s
 counted problem crew s h =
     let k : ℕ = steps_of_row problem.m in
@@ -80,9 +81,11 @@ counted problem crew s h =
 
 -- a view has drawn some of the rows, so its steps are few
 module _ (problem : Problem) (crew : ℕ) (s : State) (h : ClaimedPivots problem crew s) (i : ℕ) (lt : i < crew) where
+  -- a view has drawn at most as many rows as all views together
   pub drawn_few : (view_at problem s i).drawn ≤ sum_by (λ (z : Sight). z.drawn) s.views
   drawn_few = get_or-le-sum_by (λ (z : Sight). z.drawn) s.views i (fresh problem.m i) (omega (arith, lt, h.ranges.count))
 
+  -- a view has made at most the steps of a row for each row of the problem, and one
   pub steps_few : (view_at problem s i).steps ≤ problem.n * steps_of_row problem.m + 1
   steps_few =
       let k : ℕ = steps_of_row problem.m in
@@ -90,5 +93,6 @@ module _ (problem : Problem) (crew : ℕ) (s : State) (h : ClaimedPivots problem
       mul-le (view_at problem s i).drawn k problem.n k (omega (arith, drawn_few, h.counter_sum.few)) (omega arith) in
       omega (arith, (counted problem crew s h).steps i lt, most)
 
+-- in the state after any run a seat has at most min n m claims and the steps of its drawn rows and one, and stamps up to the number of calls
 pub step_counts : StepCounts
 step_counts problem crew setting events = counted problem crew (state_after problem crew events) (claimed_pivots problem crew setting events)

@@ -147,6 +147,7 @@ module _ {problem : Problem} {crew : ℕ} {s t : State} {seat : ℕ} {w : Sight}
             steps_before-most m (k.column + 1) (omega (arith, numbers.2, numbers.3)),
           ))
 
+      -- where a view has made at most so many steps for the rows that it has drawn, so it has after its move
       pub own_bounded : IsMove problem v old w a x → IsBounded m w.phase w.drawn w.steps
       own_bounded (draws k) = own_draw k k.settling
       own_bounded (ends k) =

@@ -166,6 +166,7 @@ module _ (problem : Problem) (v : Sight) (old : ℕ) where
       })
   moves_by phase.Ended is t e = absurd (none-some t e)
 
+  -- what the next step of a view gives is one of the moves, at the spot of its phase
   pub move_of : (t : Stepped) → met problem v old ≡ Some t → Moves (spot_of v.phase) t
   move_of t e = moves_by v.phase refl t e
 

@@ -5,9 +5,11 @@ use Rattle.std.proofs.lemmas.List.{get_or-replicate, get_or_past, length-replica
 use Rattle.field_table.specs.Residues.{plus_multiple, product_of}
 use Rattle.pivot_core.specs.Views.{zeros}
 
+-- m zeros are a list of length m
 pub length-zeros : (m : ℕ) → length (zeros m) ≡ m
 length-zeros m = let none : ℕ = 0 in length-replicate m none
 
+-- a list of zeros is 0 at each place
 pub zeros-at : (m j : ℕ) → get_or (zeros m) j 0 ≡ 0
 zeros-at m j = elim (cases_lt j m) [
   | inl lt ↦ get_or-replicate m j 0 0 lt

@@ -27,6 +27,7 @@ module _ {race : race.Inside} {before : Standing} {w : worker.Inside} {row colum
   low : even ≤ 2 * pair
   low = pairs_from even (race.setting.problem.m - 1) pair parity from lt
 
+  -- a worker before a pair reads at its first word
   pub pair_begins : ReadsAt race before w row column holder at (2 * pair)
   pair_begins = subst (ReadsAt race before w row column holder at) (max_upper even (2 * pair) low) h
 
@@ -36,6 +37,7 @@ module _ {race : race.Inside} {before : Standing} {w : worker.Inside} {row colum
     abbrev between : worker.Inside
     between = record w { view = record w.view { seen = with_item w.view.seen (2 * pair) word }; seat = seat }
 
+    -- once this word is read, the worker reads at the second one
     pub pair_between : ReadsAt race before between row column holder at (2 * pair + 1)
     pair_between = reads_step pair_begins (omega (arith, after, low)) (omega (arith, lt)) cell seat same told half
 
@@ -53,5 +55,6 @@ module _ {race : race.Inside} {before : Standing} {w : worker.Inside} {row colum
 pub pair_cell : (m r pair first : ℕ) → first ≡ cell_of m (row_word r 0) → first + pair ≡ cell_of m (row_word r (2 * pair))
 pair_cell m r pair first is = omega arith ∙ cell_on m r (2 * pair) first is
 
+-- the second word of a pair stands in the cell of the first
 pub pair_cell_again : (m r pair first : ℕ) → first ≡ cell_of m (row_word r 0) → first + pair ≡ cell_of m (row_word r (2 * pair + 1))
 pair_cell_again m r pair first is = omega arith ∙ cell_on m r (2 * pair + 1) first is

@@ -93,6 +93,7 @@ module _ {race : race.Inside} {before : Standing} {w : worker.Inside} {row colum
         × Allows (IsKept race.table.shared.key) race.table.shared.table_id.slots w.seat.id w.seat.me cell (λ n. n) (met_by still w.seat.me)
     load_here cell is = load_asks h.here.turn cell is tt
 
+    -- the place of its next word is one of the list of what it has seen
     pub seen_here : next < w.view.seen.len
     seen_here =
         let within = read_within h.here.turn refl in

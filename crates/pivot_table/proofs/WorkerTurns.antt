@@ -32,10 +32,15 @@ use Rattle.pivot_table.proofs.Allowed.{allows_claim, allows_draw, allows_load, a
 
 -- a worker of a race
 pub record IsTurn (race : race.Inside) (w : worker.Inside) : Type 0 where
+  -- the race's table has the rule of its setting, and there is room for its cells and logs
   pub kept : IsRace race
+  -- the worker's seat has its view alone, which stood in a run
   pub own : IsWorker w
+  -- the worker's table is that of the race
   pub table : w.seat.table_id ≡ race.table.shared.table_id
+  -- the worker's problem is that of the race
   pub problem_is : w.seat.me.0.problem ≡ race.setting.problem
+  -- the worker's crew is that of the race
   pub crew_is : w.seat.me.0.crew ≡ race.setting.crew
 
 -- a worker that belongs to the race is one
