@@ -74,7 +74,7 @@ impl Row {
     }
 
     /// How many residues are held.
-    pub(crate) fn size(&self) -> usize {
+    pub fn size(&self) -> usize {
         match &self.form {
             Form::Full(residues) => residues.len(),
             Form::Listed(listed) => listed.columns.len(),

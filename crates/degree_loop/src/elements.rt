@@ -14,6 +14,7 @@ use back_reduce::{PivotRows, Row, reduced};
 use field_table::Field;
 use free_poly::Poly;
 use ideal_laws::{Basis, EngineFault, LimitKind, Presentation, next_degree_law};
+use rayon::prelude::*;
 use row_laws::{element_of, rows_law};
 use std::alloc::Global;
 use std::thread::Threads;
@@ -49,7 +50,7 @@ pub fn elements_of<R: Threads + Sync, P: PivotRows>(
     next_degree_law(field, presentation, below, d);
     rows_law();
     let echelon = reduced(rt, alloc, field, pivots)?;
-    let elements = elements_on(alloc, closed.contested(), echelon.as_slice())?;
+    let elements = elements_on(rt, alloc, closed.contested(), echelon.as_slice())?;
     let count = terms_with(below, elements.as_slice());
     if count > u64::from(most) {
         return Err(EngineFault::Limit {
@@ -61,15 +62,34 @@ pub fn elements_of<R: Threads + Sync, P: PivotRows>(
     Ok(Items::from_vec(elements))
 }
 
-/// The elements with the residues of each row at the columns.
-fn elements_on(alloc: Global, columns: &[Word], rows: &[Row]) -> Result<Vec<Poly>, NoMemory>
+/// The elements with the residues of each row at the columns. They are made side by side.
+fn elements_on<R: Threads + Sync>(
+    rt: &R,
+    alloc: Global,
+    columns: &[Word],
+    rows: &[Row],
+) -> Result<Vec<Poly>, NoMemory>
     requires falling { AllPairs IsLetterwiseGreater columns.now }
     requires width { All (λ row. length row ≡ length columns.now) rows.now }
     ensures { IfOk result (λ elements. elements.items ≡ map (element_on columns.now) rows.now) }
 {
-    let mut elements = Vec::with_capacity(alloc, rows.len())?;
+    rows.par_iter()
+        .with_min_len(rows_a_part(rows))
+        .map(
+            move |row: &Row| -> Result<Poly, NoMemory>
+                requires { (length row.now ≡ length columns.now) × AllPairs IsLetterwiseGreater columns.now }
+                ensures { IfOk result (λ element. element ≡ element_on columns.entry.now row.now) }
+            { element_of(alloc, columns, row) },
+        )
+        .collect::<Result<Vec<Poly>, NoMemory>>(rt, alloc)?
+}
+
+/// How many rows a thread is to have at least. Where rows hold few residues, elements are made before threads have begun.
+fn rows_a_part(rows: &[Row]) -> usize {
+    let mut residues = 0usize;
     for row in rows {
-        elements.push(element_of(alloc, columns, row)?)?;
+        residues = residues.saturating_add(row.size());
     }
-    Ok(elements)
+    let each = residues / rows.len().max(1);
+    (32_768 / each.max(1)).max(1)
 }

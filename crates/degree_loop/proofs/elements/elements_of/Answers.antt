@@ -9,13 +9,13 @@ use Rattle.degree_loop.proofs.Listing.{few_elements}
 use Rattle.degree_loop.proofs.elements.elements_of.Goals as goal
 
 pub elements_on-requires-clause-falling : goal.elements_on-requires-clause-falling
-elements_on-requires-clause-falling g c =
+elements_on-requires-clause-falling g c = λ κs lives.
     let closed = c.args.closed.now in
     subst (AllPairs IsLetterwiseGreater) (sym c.contested.ensures)
     (contested_falling closed.columns closed.reducers c.requires.matrix.are_closed.are_columns.falling)
 
 pub elements_on-requires-clause-width : goal.elements_on-requires-clause-width
-elements_on-requires-clause-width g c =
+elements_on-requires-clause-width g c = λ κs lives.
     let p = c.args.field.now in
     let closed = c.args.closed.now in
     let problem = g.P.PivotRows.given c.args.pivots.now in
