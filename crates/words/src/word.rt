@@ -6,6 +6,7 @@ ghost use Rattle.words.specs.Order.{letterwise_cmp};
 ghost use Rattle.words.specs.OrderLaws.{letterwise_laws, letterwise_ties, letterwise_total};
 
 use crate::order::letterwise;
+use smallvec::SmallVec;
 use std::alloc::{AllocError, Global};
 use std::cmp::Ordering;
 use std::marker::Model;
@@ -13,10 +14,10 @@ use std::marker::Model;
 /// Want of memory.
 pub type NoMemory = AllocError;
 
-/// A word, which contracts see as the list of its letters.
+/// A word, which contracts see as the list of its letters. Up to sixteen letters lie in the value itself.
 #[derive(Debug, Drop)]
 pub struct Word {
-    letters: Vec<u8>,
+    letters: SmallVec<u8, 16>,
 }
 
 impl Model for Word {
@@ -32,14 +33,14 @@ impl Word {
         ensures { IfOk result (λ w. w ≡ letters.now) }
     {
         Ok(Word {
-            letters: Vec::from_slice(alloc, letters)?,
+            letters: SmallVec::from_slice(alloc, letters)?,
         })
     }
 
     pub fn joined(alloc: Global, left: &[u8], right: &[u8]) -> Result<Word, NoMemory>
         ensures { IfOk result (λ w. w ≡ left.now ++ right.now) }
     {
-        let mut letters = Vec::from_slice(alloc, left)?;
+        let mut letters = SmallVec::from_slice(alloc, left)?;
         letters.extend_from_slice(right)?;
         Ok(Word { letters })
     }
