@@ -12,9 +12,9 @@ use Rattle.ideal_laws.specs.Ideal.{Ideal, IsMinimal}
 use Rattle.ideal_laws.specs.Laws.{IsSetting}
 use Rattle.ideal_laws.specs.Overlaps.{AreLower}
 use Rattle.ideal_laws.proofs.OneBasis.{minimal_led, monic-led}
-use Rattle.overlaps.proofs.Places.{lead-is}
 use Rattle.anick_chains.specs.BasisTips.{HasMinimalChains, leads_of}
 use Rattle.anick_chains.specs.Chains.{AreNext, EndsWithOnlyTip, HasTip, IsChain, IsNext, chain_degree}
+use Rattle.free_poly.proofs.Leads.{lead-is}
 
 module _ (weights : List ℕ) (names b : ℕ) (T U : List ℕ → Type 0) (to : (v : List ℕ) → degree_of weights v ≤ b → T v → U v)
     (from : (v : List ℕ) → degree_of weights v ≤ b → U v → T v) where

@@ -3,12 +3,11 @@ use Rattle.std.proofs.Common.{ap₂, ◌≡◌, ◌⊎◌, ◌+◌, ◌*◌, ◌
 use Rattle.std.proofs.Common.{ap, ◌∙◌, inl, inr, arith}
 use Rattle.std.proofs.Common.{AllPairs, append-nil, eq-eqb, if◌then◌else◌}
 use Rattle.std.specs.List.{flat_map, sum_by}
-use Rattle.std.proofs.lemmas.Bool.{cases_lt}
+use Rattle.std.proofs.lemmas.Bool.{cases_lt, ne_eqb}
 use Rattle.std.proofs.lemmas.List.Elements.{All-cons, All-contains, All-head, All-nil, All-tail, All-weaker}
 use Rattle.std.proofs.lemmas.List.Kept.{AllPairs-cons}
 use Rattle.std.proofs.lemmas.List.Sums.{sum_by-cons}
 use Rattle.words.proofs.Members.{AllPairs-first, AllPairs-nil, AllPairs-rest, All-from_members, Contains-map}
-use Rattle.ideal_laws.proofs.Counts.{not_eqb}
 use Rattle.anick_chains.specs.declared.chain.Chain.{Chain}
 use Rattle.anick_chains.specs.declared.tally.ChainCount.{ChainCount}
 use Rattle.anick_chains.specs.Chains.{chain_degree}
@@ -132,9 +131,9 @@ abbrev at_one : ChainCount → ℕ → ℕ → ℕ
 at_one a d n = one_if (a.degree == d) (a.size == n)
 
 at_one-lower : (a k : ChainCount) → IsLower a k → at_one a k.degree k.size ≡ 0
-at_one-lower a k (inl lt) = ap (λ (t : Bool). one_if t (a.size == k.size)) (not_eqb a.degree k.degree (λ e. omega (arith, e, lt)))
+at_one-lower a k (inl lt) = ap (λ (t : Bool). one_if t (a.size == k.size)) (ne_eqb a.degree k.degree (λ e. omega (arith, e, lt)))
 at_one-lower a k (inr both) =
-    ap (one_if (a.degree == k.degree)) (not_eqb a.size k.size (λ e. omega (arith, e, both.1))) ∙ by_degree (a.degree == k.degree)
+    ap (one_if (a.degree == k.degree)) (ne_eqb a.size k.size (λ e. omega (arith, e, both.1))) ∙ by_degree (a.degree == k.degree)
   where
     by_degree : (t : Bool) → one_if t false ≡ 0
     by_degree true = refl

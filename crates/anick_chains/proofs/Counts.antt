@@ -3,13 +3,12 @@ use Rattle.std.proofs.Common.{add-mul, ap₂, ◌≡◌, ◌+◌, ◌*◌, ◌<�
 use Rattle.std.proofs.Common.{ap, ◌∙◌, inl, inr, arith}
 use Rattle.std.proofs.Common.{AllPairs, append-nil, eq-eqb}
 use Rattle.std.specs.List.{Contains, range_with_len, sum_by}
-use Rattle.std.proofs.lemmas.Bool.{cases_lt}
+use Rattle.std.proofs.lemmas.Bool.{cases_lt, ne_eqb}
 use Rattle.std.proofs.lemmas.List.Elements.{All-append, All-contains, All-head, All-nil, All-tail, All-weaker}
 use Rattle.std.proofs.lemmas.List.Kept.{AllPairs-cons}
 use Rattle.std.proofs.lemmas.List.Sums.{sum_by-append, sum_by-cons}
 use Rattle.words.proofs.Degrees.{range-bounds, range-rising}
 use Rattle.words.proofs.Members.{AllPairs-append, AllPairs-nil, All-from_members, Contains-cases, Contains-flat_map_cases, Contains-none}
-use Rattle.ideal_laws.proofs.Counts.{not_eqb}
 use Rattle.anick_chains.specs.declared.chain.Chain.{Chain}
 use Rattle.anick_chains.specs.declared.tally.ChainCount.{ChainCount}
 use Rattle.anick_chains.specs.declared.tally.Tally.{Tally}
@@ -25,13 +24,13 @@ pick g m a (suc n) le lt =
     let split = sum_by-cons f a (range_with_len (a + 1) n) in
     elim (cases_lt a m) [
       | inl later ↦
-          let none : f a ≡ 0 = ap (λ (t : Bool). cond t 1 0 * g a) (not_eqb m a (λ e. omega (arith, e, later))) ∙ omega arith in
+          let none : f a ≡ 0 = ap (λ (t : Bool). cond t 1 0 * g a) (ne_eqb m a (λ e. omega (arith, e, later))) ∙ omega arith in
           omega (arith, split, none, pick g m (a + 1) n (omega (arith, later)) (omega (arith, lt)))
       | inr here ↦
           let is : m ≡ a = omega (arith, here, le) in
           let one : f a ≡ g a = ap (λ (t : Bool). cond t 1 0 * g a) (eq-eqb m a is) ∙ omega arith in
           let rest : sum_by f (range_with_len (a + 1) n) ≡ 0 = sum_by-none f (range_with_len (a + 1) n) (λ k c.
-          ap (λ (t : Bool). cond t 1 0 * g k) (not_eqb m k (λ e. omega (arith, e, is, (range-bounds (a + 1) n k c).0))) ∙ omega arith) in
+          ap (λ (t : Bool). cond t 1 0 * g k) (ne_eqb m k (λ e. omega (arith, e, is, (range-bounds (a + 1) n k c).0))) ∙ omega arith) in
           omega (arith, split, one, rest, ap g is)
     ]
 

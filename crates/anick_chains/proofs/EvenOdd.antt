@@ -1,13 +1,14 @@
 -- A list whose members have mates of the other parity has as many even members as odd ones.
-use Rattle.std.proofs.Common.{◌≡◌, ◌≢◌, ◌⊎◌, ◌≤◌, ◌%◌, ◌==◌, ℕ, Bool, true, false, cond, suc, List, [], ◌∷◌, ◌++◌, length, sym, ap, ◌∙◌}
+use Rattle.std.proofs.Common.{◌≡◌, ◌≢◌, ◌⊎◌, ◌≤◌, ◌%◌, ◌==◌, ℕ, suc, List, [], ◌∷◌, ◌++◌, length, sym, ap, ◌∙◌}
 use Rattle.std.proofs.Common.{inl, inr, arith, subst, length-append, AllPairs, count_by, eq-eqb, filter}
 use Rattle.std.specs.List.{Contains}
 use Rattle.std.proofs.lemmas.Bool.{eqb-true}
-use Rattle.std.proofs.lemmas.List.Elements.{All-contains, All-contains_itself, All-filter, filter_passes}
+use Rattle.std.proofs.lemmas.List.Elements.{All-contains}
 use Rattle.std.proofs.lemmas.List.Elements.{Contains-append_cases, Contains-append_left, Contains-append_right}
-use Rattle.words.proofs.Members.{AllPairs-first, AllPairs-rest, Contains-cases, Contains-first, Contains-more, Contains-none}
+use Rattle.words.proofs.Members.{AllPairs-first, AllPairs-rest, Contains-cases, Contains-first, Contains-more, Contains-none, Contains-filter}
 use Rattle.std.proofs.lemmas.List.Kept.{AllPairs-filter}
 use Rattle.std.proofs.lemmas.List.Sums.{length-filter}
+use Rattle.words.proofs.Members.{Contains-filter_cases}
 
 -- a member with what stands before and after it
 pub record IsPlaced {Y : Type 0} (ys : List Y) (y : Y) : Type 0 where
@@ -48,27 +49,6 @@ module _ {X Y : Type 0} (R : X → Y → Type 0) where
             ]
           ]
 
-module _ {X : Type 0} (f : X → Bool) where
-  -- a member where f is true is among those
-  pub in_filter : (xs : List X) (x : X) → Contains xs x → f x ≡ true → Contains (filter f xs) x
-  in_filter [] x m e = absurd (Contains-none x m)
-  in_filter (y ∷ xs) x m e = elim (Contains-cases y xs x m) [
-    | inl is ↦ subst (λ (b : Bool). Contains (cond b (y ∷ filter f xs) (filter f xs)) x) (sym (ap f is ∙ e))
-        (subst (Contains (y ∷ filter f xs)) is (Contains-first y (filter f xs)))
-    | inr n ↦ by_test (f y) (in_filter xs x n e)
-  ]
-    where
-      by_test : (b : Bool) → Contains (filter f xs) x → Contains (cond b (y ∷ filter f xs) (filter f xs)) x
-      by_test true n = Contains-more y (filter f xs) x n
-      by_test false n = n
-
-  -- each of them is a member where f is true
-  pub filter-says : (xs : List X) (x : X) → Contains (filter f xs) x → Contains xs x × (f x ≡ true)
-  filter-says xs x m = (
-    All-contains (Contains xs) (filter f xs) x (All-filter f (Contains xs) xs (All-contains_itself xs)) m,
-    All-contains (λ y. f y ≡ true) (filter f xs) x (filter_passes f xs) m,
-  )
-
 -- of two numbers that differ by 1 one is even and one is odd
 pub parity : (m n : ℕ) → (m ≡ suc n) ⊎ (n ≡ suc m) → n % 2 ≡ 0 → m % 2 ≡ 1
 parity m n (inl e) h = omega (arith, e, h)
@@ -90,14 +70,14 @@ module _ {X : Type 0} (M : X → X → Type 0) (key : X → ℕ) where
       let odds = filter (λ a. key a % 2 == 1) xs in
       let up : length evens ≤ length odds = no_longer T evens odds (AllPairs-filter (λ a b. a ≢ b) (λ a. key a % 2 == 0) xs apart)
       (λ a m.
-      let s = filter-says (λ a. key a % 2 == 0) xs a m in
+      let s = Contains-filter_cases (λ a. key a % 2 == 0) xs a m in
       let r = mate a s.0 in
-      (r.0, in_filter (λ a. key a % 2 == 1) xs r.0 r.1 (eq-eqb _ _ (parity (key r.0) (key a) r.4 (eqb-true _ _ s.1))), (r.1, r.3))) (λ a b y m n. same a b y) in
+      (r.0, Contains-filter (λ a. key a % 2 == 1) xs r.0 r.1 (eq-eqb _ _ (parity (key r.0) (key a) r.4 (eqb-true _ _ s.1))), (r.1, r.3))) (λ a b y m n. same a b y) in
       let down : length odds ≤ length evens = no_longer T odds evens (AllPairs-filter (λ a b. a ≢ b) (λ a. key a % 2 == 1) xs apart)
       (λ a m.
-      let s = filter-says (λ a. key a % 2 == 1) xs a m in
+      let s = Contains-filter_cases (λ a. key a % 2 == 1) xs a m in
       let r = mate a s.0 in
-      (r.0, in_filter (λ a. key a % 2 == 0) xs r.0 r.1 (eq-eqb _ _ (parity_odd (key r.0) (key a) r.4 (eqb-true _ _ s.1))), (r.1, r.3)))
+      (r.0, Contains-filter (λ a. key a % 2 == 0) xs r.0 r.1 (eq-eqb _ _ (parity_odd (key r.0) (key a) r.4 (eqb-true _ _ s.1))), (r.1, r.3)))
       (λ a b y m n. same a b y) in
       omega (arith, up, down, length-filter (λ a. key a % 2 == 0) xs, length-filter (λ a. key a % 2 == 1) xs)
     where

@@ -1,14 +1,13 @@
 -- The tips of a degree that begin with a word stand together in the basis.
 use Rattle.std.proofs.Common.{◌≡◌, ◌≢◌, ◌⊎◌, ◌<◌, ◌≤◌, ◌==◌, ◌&&◌, ℕ, Bool, true, false, List, length, take, refl, sym, ◌∙◌, inl, inr, arith}
 use Rattle.std.proofs.Common.{subst, bytes_eq, eq-eqb}
-use Rattle.std.proofs.lemmas.Bool.{cases_Bool, cases_lt, eqb-true}
+use Rattle.std.proofs.lemmas.Bool.{cases_Bool, cases_lt, eqb-true, ne_eqb}
 use Rattle.std.proofs.lemmas.Slice.Eq.{bytes_eq-Decides}
 use Rattle.words.specs.Words.{degree_of}
 use Rattle.free_poly.specs.declared.term.Term.{Term}
 use Rattle.free_poly.proofs.Totals.{letterwise-apart}
 use Rattle.ideal_laws.specs.Engine.{Elements}
 use Rattle.ideal_laws.specs.Kept.{IsKept, count_below, count_upto}
-use Rattle.ideal_laws.proofs.Counts.{not_eqb}
 use Rattle.overlaps.specs.Walk.{IsAbove, lead_word}
 use Rattle.overlaps.proofs.Fronts.{none-behind}
 use Rattle.overlaps.proofs.Places.{before_degree, behind_degree, falls_in_degree, in_degree}
@@ -23,7 +22,7 @@ module _ (weights : List ℕ) (G : List (List Term)) (shared : List ℕ) (d k : 
   ]
     where
       by_front : (b : Bool) → bytes_eq (take (length shared) (lead_word G k)) shared ≡ b → goes_on weights G shared d k ≡ false
-      by_front true e = rw e (not_eqb (degree_of weights (lead_word G k)) d ne)
+      by_front true e = rw e (ne_eqb (degree_of weights (lead_word G k)) d ne)
       by_front false e = rw e refl
 
   -- nor does one that begins otherwise

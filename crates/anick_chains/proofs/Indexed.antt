@@ -11,12 +11,13 @@ use Rattle.ideal_laws.specs.Kept.{IsKept}
 use Rattle.lead_index.specs.declared.lead.Lead.{Lead}
 use Rattle.lead_index.specs.Leads.{IsFree, IsIndexOf, Starts}
 use Rattle.overlaps.specs.Walk.{lead_word}
-use Rattle.overlaps.proofs.Places.{element_kept, lead-is, monic-lead}
+use Rattle.overlaps.proofs.Places.{element_kept, monic-lead}
 use Rattle.anick_chains.specs.BasisTips.{leads_of}
 use Rattle.anick_chains.specs.Chains.{HasTip}
 use Rattle.anick_chains.specs.Walk.{stands}
 use Rattle.anick_chains.proofs.Nexts.{lead_listed, listed_lead}
 use Rattle.anick_chains.proofs.Stands.{stands-has, stands-not}
+use Rattle.free_poly.proofs.Leads.{lead-is}
 
 module _ (b : Elements) (kept : IsKept b) (leads : List Lead) (index : IsIndexOf b.elements leads) (w : List ℕ) where
   -- where no word of the index stands no tip does

@@ -2,14 +2,14 @@
 use Rattle.std.proofs.Common.{◌≡◌, ◌≢◌, ◌&&◌, ◌==◌, ℕ, Bool, true, false, not, cond, List, [], ◌∷◌, refl, ap, eq-eqb}
 use Rattle.words.specs.Words.{weight_of}
 use Rattle.free_poly.specs.declared.term.Term.{Term}
-use Rattle.ideal_laws.proofs.Counts.{not_eqb}
 use Rattle.anick_chains.specs.BasisTips.{leads_of}
 use Rattle.anick_chains.specs.Walk.{free_letter, stands}
+use Rattle.std.proofs.lemmas.Bool.{ne_eqb}
 
 module _ (weights : List ℕ) (G : List (List Term)) (d x : ℕ) where
   -- a letter of another degree is not listed
   pub free_letter-other : weight_of weights x ≢ d → free_letter weights G d x ≡ []
-  free_letter-other ne = ap (λ (a : Bool). cond (a && not (stands (leads_of G) (x ∷ []))) ((x ∷ []) ∷ []) []) (not_eqb (weight_of weights x) d ne)
+  free_letter-other ne = ap (λ (a : Bool). cond (a && not (stands (leads_of G) (x ∷ []))) ((x ∷ []) ∷ []) []) (ne_eqb (weight_of weights x) d ne)
 
   -- a tip is not listed
   pub free_letter-tip : stands (leads_of G) (x ∷ []) ≡ true → free_letter weights G d x ≡ []

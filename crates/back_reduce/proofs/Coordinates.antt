@@ -4,7 +4,7 @@ use Rattle.std.proofs.lemmas.List.Elements.{All-head, All-tail}
 use Rattle.linear_algebra.specs.Fields.{Field}
 use Rattle.linear_algebra.specs.Spans.{Vector, sum_of, IsInSpan}
 use Rattle.linear_algebra.specs.Echelon.{AreInSpan, AreSameAt, AreZeroAt, IsBasis, IsOneOf, IsReduced, IsZeroAtLeads, from_leads, done, skip, lead}
-use Rattle.linear_algebra.proofs.Algebra.{add_left_comm, mul_zero, zero_add}
+use Rattle.linear_algebra.proofs.Algebra.{mul_zero, zero_add, add_swap}
 
 module _ (K : Field) (X : Type 0) where
   abbrev W : Type 0
@@ -30,9 +30,6 @@ module _ (K : Field) (X : Type 0) where
   zero_had [] y = refl
   zero_had (e ∷ es) y = ap (λ (n : K.F). K.add n (had es (λ x. K.zero) y)) (zero_mul (e.1 y)) ∙ zero_add K (had es (λ x. K.zero) y) ∙ zero_had es y
 
-  swapped : (a b c d : K.F) → K.add (K.add a b) (K.add c d) ≡ K.add (K.add a c) (K.add b d)
-  swapped a b c d = K.add_assoc a b (K.add c d) ∙ ap (K.add a) (add_left_comm K b c d) ∙ sym (K.add_assoc a c (K.add b d))
-
   had_linear : (es : List (X × W)) (a : K.F) (v w : W) (y : X) → had es (λ x. K.add (K.mul a (v x)) (w x)) y ≡ K.add (K.mul a (had es v y)) (had es w y)
   had_linear [] a v w y = sym (ap (λ (n : K.F). K.add n K.zero) (mul_zero K a) ∙ K.add_zero K.zero)
   had_linear (e ∷ es) a v w y =
@@ -40,7 +37,7 @@ module _ (K : Field) (X : Type 0) where
       K.mul_comm (K.add (K.mul a (v e.0)) (w e.0)) (e.1 y) ∙ K.mul_add (e.1 y) (K.mul a (v e.0)) (w e.0)
       ∙ ap₂ K.add (K.mul_comm (e.1 y) (K.mul a (v e.0)) ∙ K.mul_assoc a (v e.0) (e.1 y)) (K.mul_comm (e.1 y) (w e.0)) in
       ap₂ K.add first (had_linear es a v w y)
-      ∙ swapped (K.mul a (K.mul (v e.0) (e.1 y))) (K.mul (w e.0) (e.1 y)) (K.mul a (had es v y)) (had es w y)
+      ∙ add_swap K (K.mul a (K.mul (v e.0) (e.1 y))) (K.mul (w e.0) (e.1 y)) (K.mul a (had es v y)) (had es w y)
       ∙ ap (λ (n : K.F). K.add n (K.add (K.mul (w e.0) (e.1 y)) (had es w y))) (sym (K.mul_add a (K.mul (v e.0) (e.1 y)) (had es v y)))
 
   zero_of_row : (x : X) (es : List (X × W)) (g : W) → AreZeroAt K X x es → IsOneOf K X (rows es) g → g x ≡ K.zero

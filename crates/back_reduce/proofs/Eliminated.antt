@@ -14,18 +14,8 @@ use Rattle.back_reduce.specs.Rows.{IsInRowSpan}
 use Rattle.back_reduce.specs.Sequential.{holder_in, holder_of, value_in, value_of, IsSequential}
 use Rattle.back_reduce.specs.Table.{held_at, nothing, placed, IsEliminated, IsHeldVector, IsInserted, IsLeader, IsTable}
 use Rattle.back_reduce.proofs.RowLists.{held_one, one_held, option_cases, problem_row, row_problem, OneOf}
-use Rattle.back_reduce.proofs.Tables.{empty_held, empty_table, has_inserted, held_within, none_is_some, put_elsewhere, put_there, same_some}
+use Rattle.back_reduce.proofs.Tables.{has_inserted, held_within, none_is_some, put_elsewhere, put_there, same_some}
 use Rattle.back_reduce.proofs.Vectors.{K, vec}
-
--- the table that holds nothing is the table after no rows of a problem
-pub eliminated_none : (problem : Problem) → IsEliminated problem 0 (replicate problem.m None)
-eliminated_none problem = record {
-  is_table = empty_table problem.modulus problem.m;
-  earlier = λ c held there. absurd (empty_held problem.m c held there);
-  apart = λ c d first second there there' e. absurd (empty_held problem.m c first there);
-  inside = λ modulus c held there. absurd (empty_held problem.m c held there);
-  reached = λ modulus k lt. absurd (omega (arith, lt));
-}
 
 -- a row of the table after an insertion is new or was there
 data IsPutOrHeld (holder : ℕ) (table : List (Option Held)) (at c : ℕ) (held : Held) : Type 0 where

@@ -11,5 +11,4 @@ pub mod Forms
 pub mod Beside
 pub mod Echelons
 pub mod HeldLeaders
-pub mod Gathered
 pub mod OneForm

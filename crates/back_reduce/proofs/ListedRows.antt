@@ -4,13 +4,13 @@ use Rattle.std.proofs.Common.{refl, sym, ap, ap₂, ◌∙◌, inl, inr, arith, 
 use Rattle.std.proofs.Math.Nat.{mod-eq_of_lt}
 use Rattle.std.proofs.lemmas.Bool.{cases_eq, cases_lt}
 use Rattle.std.proofs.lemmas.List.{ext_get_or, get_or_default, get_or-set_other, get_or-set_same, get_or-take, length-take-le, length_push}
-use Rattle.std.proofs.lemmas.List.Elements.{All-nil, All-push}
+use Rattle.std.proofs.lemmas.List.Elements.{All-push}
 use Rattle.std.proofs.lemmas.List.Quantifiers.{all_pairs_push}
 use Rattle.field_table.specs.Residues.{plus_multiple}
 use Rattle.field_table.proofs.Multiples.{plus_multiple-residues}
 use Rattle.back_reduce.specs.Entries.{entries_row, with_entries, AreEntries, IsLead}
 use Rattle.back_reduce.proofs.EntryRows.{entries_row-at, entries_row-other, entries_row_zero, length-entries_row, with_entries_more, with_entries_push}
-use Rattle.back_reduce.proofs.Vectors.{length-plus_multiple}
+use Rattle.field_table.proofs.Multiples.{length-plus_multiple}
 
 -- where the first residue other than 0 is listed, the row leads at its column
 pub lead_listed : (m : ℕ) (columns residues : List ℕ) (i : ℕ) → AreEntries m columns residues → i < length columns → get_or residues i 0 ≢ 0 →
@@ -46,15 +46,6 @@ pub record IsListedUpto (row : List ℕ) (at : ℕ) (columns residues : List ℕ
   pub below : All (λ c. c < at) columns
   -- the row that is told by them is the given one at all columns before that
   pub done : (k : ℕ) → k < at → get_or (entries_row (length row) columns residues) k 0 ≡ get_or row k 0
-
--- nothing is listed of no columns
-pub listed_upto_0 : (row : List ℕ) → IsListedUpto row 0 [] []
-listed_upto_0 row = record {
-  same = refl;
-  rising = λ i j d less within. absurd (omega (arith, within));
-  below = All-nil (λ c. c < 0);
-  done = λ k lt. absurd (omega (arith, lt));
-}
 
 not_yet : (at k : ℕ) (columns : List ℕ) → All (λ c. c < at) columns → at ≤ k → (i : ℕ) → i < length columns → get_or columns i 0 ≢ k
 not_yet at k columns below from i within is = omega (arith, below i 0 within, from, is)

@@ -54,10 +54,6 @@ module _ (p : ℕ) (modulus : IsFieldModulus p) where
   abbrev pub OneOf : List (List ℕ) → Vr → Type 0
   OneOf rows v = IsOneOf Kr ℕ (map (vec p modulus) rows) v
 
-  one_of_append : (xs ys : List (List ℕ)) (v : Vr) → OneOf ys v → OneOf (xs ++ ys) v
-  one_of_append [] ys v h = h
-  one_of_append (x ∷ xs) ys v h = inr (one_of_append xs ys v h)
-
   module _ (g : ℕ → List ℕ) where
     -- the vector of the row with a number of a range is one of those of the range
     pub one_of_range : (a n k : ℕ) → a ≤ k → k < a + n → OneOf (map g (range_with_len a n)) (vec p modulus (g k))

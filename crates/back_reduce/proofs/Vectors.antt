@@ -7,26 +7,12 @@ use Rattle.std.proofs.lemmas.List.{append-nil, drop_all, get_or_append_left, get
 use Rattle.std.proofs.lemmas.List.{length-take-le, take_all}
 use Rattle.std.proofs.lemmas.Nat.{mul-mod}
 use borrow.Rule.Slice.PartMut.{put_mid}
-use Rattle.field_table.proofs.Multiples.{plus_multiple_by_places}
+use Rattle.field_table.proofs.Multiples.{length-plus_multiple, plus_multiple-at, plus_multiple_by_places}
 use Rattle.field_table.specs.Residues.{IsFieldModulus, negative_of, plus_multiple, product_of}
 use Rattle.linear_algebra.specs.Fields.{Field}
 use Rattle.linear_algebra.specs.Mod.{Residue, of, residue_field, same_residue}
 use Rattle.back_reduce.specs.Rows.{vector}
 use Rattle.back_reduce.specs.Table.{IsLeader}
-
--- a multiple added to a row leaves its length as it is
-pub length-plus_multiple : (p a : ℕ) (y x : List ℕ) → length (plus_multiple p a y x) ≡ length y
-length-plus_multiple p a [] x = refl
-length-plus_multiple p a (r ∷ y) [] = refl
-length-plus_multiple p a (r ∷ y) (s ∷ x) = ap suc (length-plus_multiple p a y x)
-
--- at each column of two rows of one length, the residue is y + a * x modulo p
-pub plus_multiple-at : (p a : ℕ) (y x : List ℕ) (k : ℕ) → length y ≡ length x → k < length y →
-    get_or (plus_multiple p a y x) k 0 ≡ (get_or y k 0 + a * get_or x k 0) % p
-plus_multiple-at p a [] x k l within = absurd (omega (arith, within))
-plus_multiple-at p a (r ∷ y) [] k l within = absurd (omega (arith, l))
-plus_multiple-at p a (r ∷ y) (s ∷ x) zero l within = refl
-plus_multiple-at p a (r ∷ y) (s ∷ x) (suc k) l within = plus_multiple-at p a y x k (omega (arith, l)) (omega (arith, within))
 
 -- a row leads at one of its columns
 pub leader_within : (p m c : ℕ) (row : List ℕ) → IsLeader p m c row → c < m

@@ -10,8 +10,8 @@ use Rattle.words.specs.Order.{IsLetterwiseGreater}
 use Rattle.free_poly.specs.declared.term.Term.{Term}
 use Rattle.free_poly.specs.Poly.{IsMonic, IsPolynomial, lead_or_none}
 use Rattle.free_poly.specs.Terms.{scaled, total_at}
-use Rattle.free_poly.proofs.NormalForms.{above_all}
-use Rattle.free_poly.proofs.Totals.{AreApart-from_polynomial, total_at-append, total_at-found, total_at-scaled, total_residue}
+use Rattle.free_poly.proofs.NormalForms.{above_all, first_total}
+use Rattle.free_poly.proofs.Totals.{AreApart-from_polynomial, total_at-append, total_at-scaled, total_residue}
 use Rattle.cofactors.specs.declared.row.Row.{Row}
 use Rattle.cofactors.specs.Rows.{IsPlusSpan, IsPlusTimes, IsRow, IsTracked, IsZeroAtLeads, combined, lead_word}
 
@@ -98,14 +98,10 @@ plus_none p leader row = record {
     none : (f g : List Term) (w : List ℕ) → total_at f w ≡ total_at (f ++ scaled 0 g) w
     none f g w = sym (total-plus 0 f g w ∙ ap (λ (n : ℕ). total_at f w + n) (zero-mul (total_at g w)) ∙ add-zero (total_at f w))
 
--- a polynomial has its first coefficient at its leading word
-pub total_lead : (t : Term) (f : List Term) → IsPolynomial (t ∷ f) → total_at (t ∷ f) t.word ≡ t.coefficient
-total_lead t f form = total_at-found (t ∷ f) 0 t t.word (AreApart-from_polynomial (t ∷ f) form) (omega arith) refl
-
 -- a monic one has 1 there
 pub one_at_lead : (f : List Term) → IsMonic f → IsPolynomial f → total_at f (lead_or_none f) ≡ 1
 one_at_lead [] monic form = absurd monic
-one_at_lead (t ∷ f) monic form = total_lead t f form ∙ monic
+one_at_lead (t ∷ f) monic form = first_total t f form ∙ monic
 
 -- nothing stands above the leading word
 pub none_above : (f : List Term) (w : List ℕ) → IsPolynomial f → IsLetterwiseGreater w (lead_or_none f) → total_at f w ≡ 0

@@ -15,7 +15,6 @@ use Rattle.ideal_laws.specs.Basis.{IsReducedBasis}
 use Rattle.ideal_laws.specs.Laws.{IsSetting}
 use Rattle.ideal_laws.specs.Overlaps.{AreLower}
 use Rattle.ideal_laws.specs.Quantities.{contested_words}
-use Rattle.ideal_laws.proofs.OneBasis.{some_same}
 use Rattle.symbolic_prep.specs.Closed.{ClosedColumns}
 use Rattle.back_reduce.specs.declared.problem.Problem.{Problem}
 use Rattle.back_reduce.specs.Pivots.{ArePivots}
@@ -41,6 +40,7 @@ use Rattle.degree_loop.specs.Matrix.{IsMatrix, TellsMatrix}
 use Rattle.degree_loop.proofs.Finished.{count_rows, form_of}
 use Rattle.degree_loop.proofs.PivotLeads.{LeadsAt, held_leads, row_leads}
 use Rattle.degree_loop.proofs.WonCalls.{part_of_sum, won_apart, won_from}
+use Rattle.std.proofs.lemmas.Option.{same_Some}
 
 -- the calls of a state in which the rule of claimed pivots holds
 module _ (problem : Problem) (crew : ℕ) (s : State) (rule : ClaimedPivots problem crew s) (legal : IsLegalHistory problem crew s)
@@ -131,7 +131,7 @@ module _ (ideal : Ideal) (st : IsSetting ideal) (d : ℕ) (G : List (List Term))
       let l = row_leads problem (holders problem s) (values problem s) pivots modulus echelon form q.0 q.1 in (
         l.0,
         (held_holders problem s l.0 l.1.row l.1.below l.1.is).0,
-        some_same (get_or contested l.0 []) w (sym (led_word q.0 l.0 l.1.below l.2) ∙ ap lead_of q.2 ∙ h.2),
+        same_Some (get_or contested l.0 []) w (sym (led_word q.0 l.0 l.1.below l.2) ∙ ap lead_of q.2 ∙ h.2),
       )
 
   -- the word of each held column is a leading word of the reduced basis of the degree

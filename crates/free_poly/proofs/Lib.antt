@@ -9,3 +9,4 @@ pub mod DegreeLemmas
 pub mod Multiples
 pub mod Elements
 pub mod Lookups
+pub mod Leads

@@ -57,7 +57,8 @@ above_lead (t ∷ f) w y h e g = let is : t.word ≡ w = cc e in above_all y t f
 kept : (p c : ℕ) → c < p → c ≢ 0 → c % p ≡ 0 % p → ⊥
 kept p c lt ne e = ne (sym (mod-eq_of_lt lt) ∙ e ∙ zero-mod p)
 
-first_total : (t : Term) (f : List Term) → IsPolynomial (t ∷ f) → total_at (t ∷ f) t.word ≡ t.coefficient
+-- a polynomial has its first coefficient at its leading word
+pub first_total : (t : Term) (f : List Term) → IsPolynomial (t ∷ f) → total_at (t ∷ f) t.word ≡ t.coefficient
 first_total t f h =
     ap₂ ◌+◌ (ap (λ (b : Bool). cond b t.coefficient 0) (here t.word t.word refl))
     (total_at-absent f t.word (λ k d within e. letterwise-apart _ _

@@ -43,10 +43,6 @@ module _ {X : Type 0} (p : X → Bool) where
     | inr fails ↦ omega (arith, count_by-later x (xs ++ ys) fails, count_by-later x xs fails, count_by-append xs ys)
   ]
 
--- the test of equality is false of two numbers that differ
-pub not_eqb : (a b : ℕ) → (a ≡ b → ⊥) → (a == b) ≡ false
-not_eqb a b ne = ne_eqb a b ne
-
 module _ {X : Type 0} (key : X → ℕ) where
   abbrev below : ℕ → List X → ℕ
   below d xs = count_by (λ x. ltb (key x) d) xs

@@ -109,7 +109,7 @@ module _ (ideal : Ideal) (st : IsSetting ideal) where
   less_itself a y = ap (Kd.add (a y)) (Kd.mul_comm (Kd.neg Kd.one) (a y) ∙ mul_neg Kd (a y) Kd.one ∙ ap Kd.neg (Kd.mul_one (a y))) ∙ Kd.add_neg (a y)
 
   -- reduced elements with one leading word are one
-  reduced_one : (e : ℕ) (f g : List Term) (w : List ℕ) → IsReduced ideal e f → IsReduced ideal e g →
+  pub reduced_one : (e : ℕ) (f g : List Term) (w : List ℕ) → IsReduced ideal e f → IsReduced ideal e g →
       lead_of f ≡ Some w → lead_of g ≡ Some w → f ≡ g
   reduced_one e f g w hf hg lf lg =
       let b = has_one_basis ideal st e in

@@ -37,10 +37,6 @@ use Rattle.ideal_laws.proofs.Search.{AllPairs-kept, in_kept, kept, kept-says, sa
 use Rattle.ideal_laws.proofs.Vectors.{span_from_ideal}
 use Rattle.ideal_laws.proofs.Vectors as vectors
 
--- two words of which the options are one are one
-pub some_same : (a b : List ℕ) → Some a ≡ Some b → a ≡ b
-some_same a b e = same_Some a b e
-
 -- no element has a greater leading word than itself
 pub greater_strict : (f : List Term) → HasGreaterLead f f → ⊥
 greater_strict f h = letterwise-apart h.of_f h.of_g h.greater (same_Some h.of_f h.of_g (sym h.leads_f ∙ h.leads_g))

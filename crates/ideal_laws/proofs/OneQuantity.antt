@@ -1,5 +1,5 @@
 -- Each quantity of a degree is one number.
-use Rattle.std.proofs.Common.{ap₂, ◌≡◌, ◌+◌, ◌*◌, ◌%◌, ◌≤◌, ℕ, List, AllPairs, [], ◌∷◌, ◌++◌, length, take, drop, refl, sym, ap, ◌∙◌, inl, inr, arith}
+use Rattle.std.proofs.Common.{ap₂, ◌≡◌, ◌+◌, ◌*◌, ◌%◌, ◌≤◌, ℕ, List, [], AllPairs, ◌∷◌, ◌++◌, length, take, drop, refl, sym, ap, ◌∙◌, inl, inr, arith}
 use Rattle.std.proofs.Common.{subst, Option, Some, None}
 use Rattle.std.specs.List.{AllZip, Contains, slice_get}
 use Rattle.std.proofs.lemmas.Bool.{cases_lt}
@@ -33,17 +33,19 @@ before_itself : (o : Overlap) → OverlapsBefore o o → ⊥
 before_itself o (inl g) = greater_itself (overlap_word o) g
 before_itself o (inr e) = omega (arith, e.1)
 
-before_trans : (o q r : Overlap) → OverlapsBefore o q → OverlapsBefore q r → OverlapsBefore o r
+-- an overlap that stands before one that stands before another stands before that
+pub before_trans : (o q r : Overlap) → OverlapsBefore o q → OverlapsBefore q r → OverlapsBefore o r
 before_trans o q r (inl g) (inl h) = inl (letterwise-trans (overlap_word o) (overlap_word q) (overlap_word r) g h)
 before_trans o q r (inl g) (inr e) = inl (subst (IsLetterwiseGreater (overlap_word o)) e.0 g)
 before_trans o q r (inr e) (inl h) = inl (subst (λ (w : List ℕ). IsLetterwiseGreater w (overlap_word r)) (sym e.0) h)
 before_trans o q r (inr e) (inr f) = inr (e.0 ∙ f.0, omega (arith, e.1, f.1))
 
-some_one : {X : Type 0} (o : Option X) (a b : X) → o ≡ Some a → o ≡ Some b → a ≡ b
+-- what an option has is one
+pub some_one : {X : Type 0} (o : Option X) (a b : X) → o ≡ Some a → o ≡ Some b → a ≡ b
 some_one o a b e f = cc
 
 -- of two words that stand at one place the shorter is a factor of the longer
-first_of : (v w r : List ℕ) → take (length v) r ≡ v → take (length w) r ≡ w → length v ≤ length w → IsFactor v w
+pub first_of : (v w r : List ℕ) → take (length v) r ≡ v → take (length w) r ≡ w → length v ≤ length w → IsFactor v w
 first_of v w r e f le = record {
   before = [];
   after = drop (length v) w;

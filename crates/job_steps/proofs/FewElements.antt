@@ -1,5 +1,5 @@
 -- A limit on the words of a degree or on the terms bounds the elements of its reduced basis.
-use Rattle.std.proofs.Common.{◌≡◌, ◌≤◌, ℕ, List, [], ◌∷◌, length, map, sym, ap, ◌∙◌, inl, inr, arith, subst, AllPairs, Some, length-append}
+use Rattle.std.proofs.Common.{◌≡◌, ◌≤◌, ℕ, List, [], ◌∷◌, length, map, sym, ap, ◌∙◌, inl, inr, arith, subst, AllPairs, length-append}
 use Rattle.std.specs.List.{Contains, flat_map}
 use Rattle.std.proofs.lemmas.List.{length-map}
 use Rattle.std.proofs.lemmas.List.Elements.{All-contains, All-head}
@@ -8,7 +8,7 @@ use Rattle.words.specs.Words.{IsOver, degree_of, words_of_degree}
 use Rattle.words.proofs.Degrees.{lists_words, words_of_degree-falling}
 use Rattle.words.proofs.Members.{AllPairs-first, AllPairs-map, AllPairs-rest, Contains-cases, Contains-first, Contains-map_cases, Contains-more, Contains-none}
 use Rattle.free_poly.specs.declared.term.Term.{Term}
-use Rattle.free_poly.specs.Poly.{IsMonic, lead_of, lead_or_none}
+use Rattle.free_poly.specs.Poly.{IsMonic, lead_or_none}
 use Rattle.free_poly.proofs.NormalForms.{letterwise-trans}
 use Rattle.free_poly.proofs.Totals.{letterwise-apart}
 use Rattle.ideal_laws.specs.Ideal.{Ideal}
@@ -20,7 +20,7 @@ use Rattle.ideal_laws.specs.Laws.{IsSetting}
 use Rattle.ideal_laws.specs.Quantities.{IsQuantity, NonePasses, Quantities, terms_in}
 use Rattle.ideal_laws.proofs.OneBasis.{bases_are_one}
 use Rattle.job_steps.specs.Reaches.{BoundsElements}
-use Rattle.job_steps.proofs.Reducers.{some_word}
+use Rattle.free_poly.proofs.Leads.{lead-is}
 
 -- a quantity that has a limit and does not pass it
 within_limit : (Q : Quantities) (limits : List (LimitKind × ℕ)) (l : LimitKind × ℕ) → Contains limits l → NonePasses Q limits → (q : ℕ) × Q l.0 q × (q ≤ l.1)
@@ -63,10 +63,6 @@ no_longer (x ∷ xs) (y ∷ ys) h k s = elim (Contains-cases y ys x (s x (Contai
     first : (w : List ℕ) → Contains ys w → IsLetterwiseGreater y w
     first w m = All-contains (IsLetterwiseGreater y) ys w (AllPairs-first IsLetterwiseGreater y ys k) m
 
-lead_or_none-is : (f : List Term) (w : List ℕ) → lead_of f ≡ Some w → lead_or_none f ≡ w
-lead_or_none-is [] w e = cc e
-lead_or_none-is (t ∷ f) w e = some_word t.word w e
-
 some_terms : (fs : List (List Term)) → ((f : List Term) → Contains fs f → IsMonic f) → length fs ≤ terms_in fs
 some_terms [] monic = omega arith
 some_terms ([] ∷ fs) monic = absurd (monic [] (Contains-first [] fs))
@@ -90,8 +86,8 @@ module _ (ideal : Ideal) (st : IsSetting ideal) (d : ℕ) (below : Elements) (ba
     length-map basis lead_or_none,
     no_longer (map lead_or_none basis) (words_of_degree ideal.weights d)
         (AllPairs-map lead_or_none HasGreaterLead IsLetterwiseGreater
-        (λ f g h. subst (λ (w : List ℕ). IsLetterwiseGreater w (lead_or_none g)) (sym (lead_or_none-is f h.of_f h.leads_f))
-        (subst (IsLetterwiseGreater h.of_f) (sym (lead_or_none-is g h.of_g h.leads_g)) h.greater)) basis is_basis.falling)
+        (λ f g h. subst (λ (w : List ℕ). IsLetterwiseGreater w (lead_or_none g)) (sym (lead-is f h.of_f h.leads_f))
+        (subst (IsLetterwiseGreater h.of_f) (sym (lead-is g h.of_g h.leads_g)) h.greater)) basis is_basis.falling)
         (words_of_degree-falling ideal.weights st.are_weights d)
         (λ w m. let c = Contains-map_cases lead_or_none basis w m in subst (Contains (words_of_degree ideal.weights d)) c.2 (lead_listed c.0 c.1)),
   )

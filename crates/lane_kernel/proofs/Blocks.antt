@@ -1,6 +1,6 @@
 -- A block of places to which a multiple is added.
-use Rattle.std.proofs.Common.{◌≡◌, ◌+◌, ◌-◌, ◌*◌, ◌%◌, ◌<◌, ◌≤◌, ℕ, zero, suc, List, [], ◌∷◌, ◌++◌, All, drop, map, length, get_or, take}
-use Rattle.std.proofs.Common.{length-append, refl, sym, ap, ap₂, ◌∙◌, inl, inr, arith, subst}
+use Rattle.std.proofs.Common.{◌≡◌, ◌+◌, ◌-◌, ◌*◌, ◌%◌, ◌<◌, ◌≤◌, ℕ, List, [], ◌∷◌, ◌++◌, All, drop, map, length, get_or, take}
+use Rattle.std.proofs.Common.{length-append, sym, ap, ap₂, ◌∙◌, inl, inr, arith, subst}
 use Rattle.std.proofs.Math.Nat.{add-mod-mod}
 use Rattle.std.proofs.lemmas.Bool.{cases_lt}
 use Rattle.std.proofs.lemmas.List.{append-nil, drop_all, get_or_append_left, get_or-append_right, get_or-drop, get_or-map, get_or-take, length-drop}
@@ -8,7 +8,7 @@ use Rattle.std.proofs.lemmas.List.{length-map, length-take-le, take_all}
 use Rattle.std.proofs.lemmas.Simd.{Each1-from_get_or, get_or-chunk, get_or-put_chunk_above, get_or-put_chunk_at, get_or-put_chunk_below, get_or-zip2}
 use Rattle.std.proofs.lemmas.Simd.{length-chunk, length-put_chunk, length-zip2}
 use Rattle.field_table.specs.Residues.{plus_multiple}
-use Rattle.field_table.proofs.Multiples.{plus_multiple_by_places}
+use Rattle.field_table.proofs.Multiples.{plus_multiple_by_places, length-plus_multiple, plus_multiple-at}
 use Rattle.lane_kernel.specs.Lanes.{IsAddedUpto}
 use borrow.Rule.Slice.PartMut.{put_mid}
 use lib.Lanes.{chunk, put_chunk, zip2, Each1}
@@ -76,18 +76,6 @@ whole_added p a done y x mid rest l le h is =
           ∙ ap₂ (λ (r s : ℕ). (r + a * s) % p) (get_or-drop done mid i 0 ∙ h.others (done + i) (omega arith)
           ∙ ap (λ (n : ℕ). get_or y n 0) shown) (get_or-drop done x i 0 ∙ ap (λ (n : ℕ). get_or x n 0) shown))
     ])
-  where
-    length-plus_multiple : (p a : ℕ) (y x : List ℕ) → length (plus_multiple p a y x) ≡ length y
-    length-plus_multiple p a [] x = refl
-    length-plus_multiple p a (r ∷ y) [] = refl
-    length-plus_multiple p a (r ∷ y) (s ∷ x) = ap suc (length-plus_multiple p a y x)
-
-    plus_multiple-at : (p a : ℕ) (y x : List ℕ) (k : ℕ) → length y ≡ length x → k < length y →
-        get_or (plus_multiple p a y x) k 0 ≡ (get_or y k 0 + a * get_or x k 0) % p
-    plus_multiple-at p a [] x k l within = absurd (omega (arith, within))
-    plus_multiple-at p a (r ∷ y) [] k l within = absurd (omega (arith, l))
-    plus_multiple-at p a (r ∷ y) (s ∷ x) zero l within = refl
-    plus_multiple-at p a (r ∷ y) (s ∷ x) (suc k) l within = plus_multiple-at p a y x k (omega (arith, l)) (omega (arith, within))
 
 -- the places to which the multiple is added, and the sum of the rest of y with that multiple of the rest of x, are y + a * x
 pub parts_added : (p q a done k j n : ℕ) (y x mid rest : List ℕ) → length y ≡ length x → done ≤ length y → q ≡ p → IsAddedUpto q a y x n mid

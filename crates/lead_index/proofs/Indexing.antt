@@ -3,7 +3,7 @@ use Rattle.std.proofs.Common.{◌≡◌, ◌≢◌, ◌↔◌, ◌+◌, ◌<◌,
 use Rattle.std.specs.List.{Contains}
 use Rattle.std.proofs.lemmas.Bool.{cases_lt}
 use Rattle.std.proofs.lemmas.List.Elements.{Contains-append_left, Contains-append_right, Contains-push_cases}
-use Rattle.std.proofs.lemmas.Option.{get_or_from_slice_get, slice_get-get_or, slice_get_within}
+use Rattle.std.proofs.lemmas.Option.{get_or_from_slice_get, slice_get-get_or, slice_get_within, same_Some}
 use Rattle.words.specs.Words.{AreWeights, degree_of}
 use Rattle.words.proofs.Members.{All-from_members, Contains-first, Contains-none}
 use Rattle.words.proofs.Weights.{length-le-degree_of}
@@ -11,7 +11,6 @@ use Rattle.free_poly.specs.declared.term.Term.{Term}
 use Rattle.free_poly.specs.Poly.{lead_of}
 use Rattle.ideal_laws.specs.Closure.{IsFactorFree}
 use Rattle.ideal_laws.specs.Kept.{IsKeptElement}
-use Rattle.ideal_laws.proofs.OneBasis.{some_same}
 use Rattle.lead_index.specs.declared.lead.Lead.{Lead}
 use Rattle.lead_index.specs.Leads.{AreApart, IsFresh, IsIndexOf, with_lead}
 
@@ -25,7 +24,7 @@ pub kept_fit : (weights : List ℕ) (done : ℕ) → AreWeights weights → done
     (w : List ℕ) → lead_of f ≡ Some w → IsFit w
 kept_fit weights done aw le [] k w e = cc e
 kept_fit weights done aw le (t ∷ f) k w e =
-    let is : t.word ≡ w = some_same t.word w e in
+    let is : t.word ≡ w = same_Some t.word w e in
     record {
       some = λ n. omega (arith, k.from, ap (degree_of weights) (is ∙ n));
       small = omega (arith, length-le-degree_of weights aw t.word, k.upto, le, ap length is);
@@ -81,7 +80,7 @@ module _ (G : List (List Term)) where
           | inl lower ↦ Contains-append_left leads (own ∷ []) l ((h l).1 (lower, r.1))
           | inr from ↦
               let same : n ≡ l.element = omega (arith, from, r.0) in
-              let word : t.word ≡ l.word = some_same t.word l.word (sym (ap lead_of e) ∙ ap (λ (i : ℕ). lead_of (get_or G i [])) same ∙ r.1) in
+              let word : t.word ≡ l.word = same_Some t.word l.word (sym (ap lead_of e) ∙ ap (λ (i : ℕ). lead_of (get_or G i [])) same ∙ r.1) in
               subst (Contains (leads ++ own ∷ [])) (λ i. record { word = word i; element = same i })
               (Contains-append_right leads (own ∷ []) own (Contains-first own []))
         ],

@@ -1,30 +1,23 @@
 -- The obstructions of degree d have one list, and it is as long as the walk's.
 use Rattle.std.proofs.Common.{ap₂, ◌≡◌, ◌≢◌, ◌⊎◌, ◌-◌, ◌<◌, ◌≤◌, ℕ, List, [], ◌∷◌, ◌++◌, length, map, take, drop, sym, ap, ◌∙◌, inl, inr, arith, All}
-use Rattle.std.proofs.Common.{AllPairs, subst, length-append, append_assoc}
+use Rattle.std.proofs.Common.{AllPairs, length-append, append_assoc}
 use Rattle.std.specs.List.{Contains, range_with_len}
 use Rattle.std.proofs.lemmas.Bool.{cases_lt}
 use Rattle.std.proofs.lemmas.List.{append-nil, append_cancel_left, length-take-le}
 use Rattle.std.proofs.lemmas.List.FromFn.{get_or-range_with_len, length-range_with_len}
 use Rattle.std.proofs.lemmas.List.Kept.{AllPairs-filter}
 use Rattle.std.proofs.Math.Seq.{drop-append_seam, take-append_seam}
-use Rattle.words.specs.Order.{IsLetterwiseGreater}
 use Rattle.words.proofs.Degrees.{range-rising}
 use Rattle.words.proofs.Members.{AllPairs-flat_map, AllPairs-map, All-from_members, Contains-flat_map_cases}
 use Rattle.free_poly.specs.declared.term.Term.{Term}
-use Rattle.free_poly.proofs.NormalForms.{greater, same, smaller, compared, letterwise-trans}
+use Rattle.free_poly.proofs.NormalForms.{greater, same, smaller, compared}
 use Rattle.ideal_laws.specs.Closure.{AreObstructions, IsFactorFree, Overlap, OverlapsBefore, overlap_word}
 use Rattle.ideal_laws.specs.Engine.{Elements}
 use Rattle.ideal_laws.specs.Kept.{IsKept}
 use Rattle.overlaps.specs.Walk.{all_blocks, block, blocks, lead_word, meets, overlap_at}
 use Rattle.overlaps.proofs.Exactly.{Obs, complete, factor_free, leads_of, of_block, rest_of, sound}
 use Rattle.overlaps.proofs.Ordered.{IsOrdered, order}
-
--- the order of overlaps is transitive
-pub before_trans : (o q r : Overlap) → OverlapsBefore o q → OverlapsBefore q r → OverlapsBefore o r
-before_trans o q r (inl g) (inl h) = inl (letterwise-trans (overlap_word o) (overlap_word q) (overlap_word r) g h)
-before_trans o q r (inl g) (inr e) = inl (subst (IsLetterwiseGreater (overlap_word o)) e.0 g)
-before_trans o q r (inr e) (inl h) = inl (subst (λ (w : List ℕ). IsLetterwiseGreater w (overlap_word r)) (sym e.0) h)
-before_trans o q r (inr e) (inr f) = inr (e.0 ∙ f.0, omega (arith, e.1, f.1))
+use Rattle.ideal_laws.proofs.OneQuantity.{before_trans}
 
 module _ (b : Elements) (kept : IsKept b) (free : IsFactorFree b.elements) (d : ℕ) where
   abbrev G : List (List Term)

@@ -2,7 +2,7 @@
 use Rattle.std.proofs.Common.{◌≡◌, ◌≢◌, ◌⊎◌, ◌+◌, ◌-◌, ◌<◌, ◌≤◌, ◌==◌, ◌&&◌, ℕ, zero, suc, Bool, true, false, cond, List, [], ◌∷◌, ◌++◌, length, map}
 use Rattle.std.proofs.Common.{take, refl, sym, ap, ◌∙◌, inl, inr, arith, subst, bytes_eq, length-append, eq-eqb}
 use Rattle.std.specs.List.{filter, range_with_len}
-use Rattle.std.proofs.lemmas.Bool.{cases_Bool, cases_lt, eqb-true}
+use Rattle.std.proofs.lemmas.Bool.{cases_Bool, cases_lt, eqb-true, ne_eqb}
 use Rattle.std.proofs.lemmas.List.{append-nil}
 use Rattle.std.proofs.lemmas.List.FromFn.{filter_of_map_range_with_len_more}
 use Rattle.std.proofs.lemmas.Slice.Eq.{bytes_eq-Decides}
@@ -12,7 +12,6 @@ use Rattle.free_poly.proofs.Totals.{letterwise-apart}
 use Rattle.ideal_laws.specs.Closure.{Overlap}
 use Rattle.ideal_laws.specs.Engine.{Elements}
 use Rattle.ideal_laws.specs.Kept.{IsKept, count_below, count_upto}
-use Rattle.ideal_laws.proofs.Counts.{not_eqb}
 use Rattle.overlaps.specs.Walk.{IsAbove, block, lead_word, meets, overlap_at, shared_at}
 use Rattle.overlaps.proofs.Fronts.{none-behind}
 use Rattle.overlaps.proofs.Places.{before_degree, behind_degree, falls_in_degree, in_degree}
@@ -39,7 +38,7 @@ module _ (weights : List ℕ) (G : List (List Term)) (left before rest : ℕ) wh
   ]
     where
       by_front : (b : Bool) → bytes_eq (take (length shared) (lead_word G right)) shared ≡ b → met right ≡ false
-      by_front true e = rw e (not_eqb (degree_of weights (lead_word G right)) rest ne)
+      by_front true e = rw e (ne_eqb (degree_of weights (lead_word G right)) rest ne)
       by_front false e = rw e refl
 
   -- nor does one whose leading word begins otherwise

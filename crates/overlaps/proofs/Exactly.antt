@@ -1,15 +1,15 @@
 -- The overlaps of degree d, walked by left elements, letters before the right one and right elements, are exactly its
 -- obstructions.
-use Rattle.std.proofs.Common.{ap₂, ◌≡◌, ◌≢◌, ◌⊎◌, ◌-◌, ◌<◌, ◌≤◌, ℕ, Bool, true, false, cond, List, [], ◌∷◌, ◌++◌, length, map, take, drop, get_or}
-use Rattle.std.proofs.Common.{refl, sym, ap, ◌∙◌, inl, inr, arith, Some, subst, length-append, length-drop}
-use Rattle.std.specs.List.{Contains, filter, range_with_len, slice_get}
+use Rattle.std.proofs.Common.{ap₂, ◌≡◌, ◌≢◌, ◌⊎◌, ◌-◌, ◌<◌, ◌≤◌, ℕ, List, [], ◌∷◌, ◌++◌, length, map, take, drop, get_or}
+use Rattle.std.proofs.Common.{refl, sym, ap, ◌∙◌, arith, Some, subst, length-append, length-drop}
+use Rattle.std.specs.List.{Contains, range_with_len, slice_get}
 use Rattle.std.proofs.lemmas.List.{append-nil, length-take-le, take-append-drop}
 use Rattle.std.proofs.lemmas.Option.{get_or_from_slice_get, slice_get-get_or, slice_get_within}
 use Rattle.std.proofs.Math.Seq.{drop-append_seam, take-append_seam}
 use Rattle.words.specs.Words.{IsFactor, degree_of}
 use Rattle.words.proofs.Degrees.{Contains-range, range-bounds}
-use Rattle.words.proofs.Members.{Contains-cases, Contains-first, Contains-flat_map, Contains-flat_map_cases, Contains-map, Contains-map_cases}
-use Rattle.words.proofs.Members.{Contains-more, Contains-none}
+use Rattle.words.proofs.Members.{Contains-flat_map, Contains-flat_map_cases, Contains-map, Contains-map_cases, Contains-filter}
+use Rattle.words.proofs.Members.{Contains-filter_cases}
 use Rattle.words.proofs.Weights.{degree_of-append}
 use Rattle.free_poly.specs.declared.term.Term.{Term}
 use Rattle.free_poly.specs.Poly.{lead_of, lead_or_none}
@@ -18,31 +18,8 @@ use Rattle.ideal_laws.specs.Engine.{Elements}
 use Rattle.ideal_laws.specs.Kept.{IsKept}
 use Rattle.overlaps.specs.Walk.{all_blocks, block, blocks, lead_word, meets, overlap_at, shared_at}
 use Rattle.overlaps.proofs.Blocks.{meets-both, meets-says}
-use Rattle.overlaps.proofs.Places.{element_kept, lead-is, lead_word-bounds, monic-lead}
-
-module _ {X : Type 0} (p : X → Bool) where
-  in_filter : (xs : List X) (x : X) → Contains xs x → p x ≡ true → Contains (filter p xs) x
-  in_filter [] x m e = absurd (Contains-none x m)
-  in_filter (y ∷ xs) x m e = by_test (p y) refl (Contains-cases y xs x m) (λ n. in_filter xs x n e)
-    where
-      by_test : (b : Bool) → p y ≡ b → (y ≡ x) ⊎ Contains xs x → (Contains xs x → Contains (filter p xs) x) →
-          Contains (cond b (y ∷ filter p xs) (filter p xs)) x
-      by_test true f (inl is) rest = subst (Contains (y ∷ filter p xs)) is (Contains-first y (filter p xs))
-      by_test true f (inr n) rest = Contains-more y (filter p xs) x (rest n)
-      by_test false f (inl is) rest = absurd (let g : true ≡ false = sym e ∙ ap p (sym is) ∙ f in cc g)
-      by_test false f (inr n) rest = rest n
-
-  filter-says : (xs : List X) (x : X) → Contains (filter p xs) x → Contains xs x × (p x ≡ true)
-  filter-says [] x m = absurd (Contains-none x m)
-  filter-says (y ∷ xs) x m = by_test (p y) refl m (λ n. filter-says xs x n)
-    where
-      by_test : (b : Bool) → p y ≡ b → Contains (cond b (y ∷ filter p xs) (filter p xs)) x →
-          (Contains (filter p xs) x → Contains xs x × (p x ≡ true)) → Contains (y ∷ xs) x × (p x ≡ true)
-      by_test true f n rest = elim (Contains-cases y (filter p xs) x n) [
-        | inl is ↦ (subst (Contains (y ∷ xs)) is (Contains-first y xs), ap p (sym is) ∙ f)
-        | inr k ↦ let r = rest k in (Contains-more y xs x r.0, r.1)
-      ]
-      by_test false f n rest = let r = rest n in (Contains-more y xs x r.0, r.1)
+use Rattle.overlaps.proofs.Places.{element_kept, lead_word-bounds, monic-lead}
+use Rattle.free_poly.proofs.Leads.{lead-is}
 
 -- a word other than the empty one has a letter
 pub some-longer : (w : List ℕ) → w ≢ [] → 0 < length w
@@ -122,7 +99,7 @@ module _ (b : Elements) (kept : IsKept b) (free : IsFactorFree b.elements) where
     -- an overlap of a block comes from a right element that meets
     pub of_block : (left before : ℕ) (o : Overlap) → Contains (block b.weights G left before (rest_of left before)) o → IsFrom left before o
     of_block left before o m =
-        let f = filter-says (meets b.weights G (rest_of left before)) (map (overlap_at G left before) (range_with_len 0 (length G))) o m in
+        let f = Contains-filter_cases (meets b.weights G (rest_of left before)) (map (overlap_at G left before) (range_with_len 0 (length G))) o m in
         let r = Contains-map_cases (overlap_at G left before) (range_with_len 0 (length G)) o f.0 in
         let says = meets-says b.weights G left before (rest_of left before) r.0 (ap (meets b.weights G (rest_of left before)) r.2 ∙ f.1) in
         record { right = r.0; within = omega (arith, (range-bounds 0 (length G) r.0 r.1).1); is = r.2; begins = says.0; degree = says.1 }
@@ -182,7 +159,7 @@ module _ (b : Elements) (kept : IsKept b) (free : IsFactorFree b.elements) where
         let met = meets-both b.weights G o.left k (rest_of o.left k) o.right begins degree in
         let all = range_with_len 0 (length G) in
         let in_block : Contains (block b.weights G o.left k (rest_of o.left k)) (overlap_at G o.left k o.right) =
-        in_filter (meets b.weights G (rest_of o.left k)) (map (overlap_at G o.left k) all) (overlap_at G o.left k o.right)
+        Contains-filter (meets b.weights G (rest_of o.left k)) (map (overlap_at G o.left k) all) (overlap_at G o.left k o.right)
         (Contains-map (overlap_at G o.left k) all o.right (Contains-range 0 (length G) o.right (omega arith) (omega (arith, l.right_within)))) met in
         let sizes = ap length l.left_lead ∙ length-append o.before o.shared in
         let in_blocks = Contains-flat_map (λ before. block b.weights G o.left before (rest_of o.left before))

@@ -15,6 +15,7 @@ use Rattle.ideal_laws.specs.Engine.{Elements}
 use Rattle.ideal_laws.specs.Kept.{IsKept, IsKeptElement, count_below, count_upto, lead_degree}
 use Rattle.ideal_laws.proofs.Counts.{below-none, below-suc, count_by-all, count_by-append}
 use Rattle.overlaps.specs.Walk.{IsFalling, lead_word}
+use Rattle.free_poly.proofs.Leads.{lead-is}
 
 module _ {X : Type 0} (key : X → ℕ) where
   abbrev Rises : List X → Type 0
@@ -60,11 +61,6 @@ module _ {X : Type 0} (key : X → ℕ) where
 pub lead_degree-is : (weights : List ℕ) (f : List Term) → lead_degree weights f ≡ degree_of weights (lead_or_none f)
 lead_degree-is weights [] = refl
 lead_degree-is weights (t ∷ f) = refl
-
--- where a polynomial has a leading word, lead_or_none gives it
-pub lead-is : (f : List Term) (w : List ℕ) → lead_of f ≡ Some w → lead_or_none f ≡ w
-lead-is [] w e = cc e
-lead-is (t ∷ f) w e = cc e
 
 -- a monic polynomial has a leading word
 pub monic-lead : (f : List Term) → IsMonic f → lead_of f ≡ Some (lead_or_none f)

@@ -20,7 +20,8 @@ use Rattle.ideal_laws.specs.Quantities.{AreRows, IsRowOf}
 use Rattle.overlaps.specs.declared.obstruction.Obstruction.{Obstruction}
 use Rattle.overlaps.specs.Listed.{AreListed, IsOf, IsRowFor, obstruction_of}
 use Rattle.overlaps.specs.Walk.{lead_word}
-use Rattle.overlaps.proofs.Places.{element_kept, lead-is}
+use Rattle.overlaps.proofs.Places.{element_kept}
+use Rattle.free_poly.proofs.Leads.{lead-is}
 
 -- what follows from three facts holds of an answer of which the three hold
 pub IfOk-three : {T E : Type 0} (P Q R S : T → Type 0) → ((f : T) → P f → Q f → R f → S f) → (r : Result T E) → IfOk r P → IfOk r Q → IfOk r R → IfOk r S

@@ -9,7 +9,7 @@ use Rattle.field_table.proofs.Multiples.{plus_multiple-residues}
 use Rattle.back_reduce.specs.declared.problem.Problem.{Problem}
 use Rattle.back_reduce.specs.Rows.{IsRow}
 use Rattle.back_reduce.proofs.RowLists.{row_is}
-use Rattle.back_reduce.proofs.Vectors.{length-plus_multiple}
+use Rattle.field_table.proofs.Multiples.{length-plus_multiple}
 use Rattle.pivot_core.specs.declared.view.Phase.{Phase}
 use Rattle.pivot_core.specs.declared.view.Phase.TheVariants as phase
 use Rattle.pivot_core.specs.declared.sight.Sight.{Sight}

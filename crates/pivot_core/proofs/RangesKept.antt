@@ -5,7 +5,7 @@ use Rattle.std.proofs.lemmas.List.{length-map, length-set}
 use Rattle.field_table.specs.Residues.{negative_of}
 use Rattle.back_reduce.specs.declared.problem.Problem.{Problem}
 use Rattle.back_reduce.proofs.RowLists.{row_is}
-use Rattle.back_reduce.proofs.Vectors.{length-plus_multiple}
+use Rattle.field_table.proofs.Multiples.{length-plus_multiple}
 use Rattle.pivot_core.specs.declared.view.Phase.{Phase}
 use Rattle.pivot_core.specs.declared.sight.Sight.{Sight}
 use Rattle.pivot_core.specs.Words.{Spot, IsClaimWord, claim_of, row_in}

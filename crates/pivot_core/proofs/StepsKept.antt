@@ -4,7 +4,7 @@ use Rattle.std.proofs.Math.Nat.{mod-eq_of_lt, mod_self, zero-mod}
 use Rattle.std.proofs.lemmas.Bool.{cases_eq}
 use Rattle.field_table.specs.Residues.{IsFieldModulus, negative_of}
 use Rattle.back_reduce.specs.declared.problem.Problem.{Problem}
-use Rattle.back_reduce.proofs.Vectors.{length-plus_multiple, plus_multiple-at}
+use Rattle.field_table.proofs.Multiples.{length-plus_multiple, plus_multiple-at}
 use Rattle.pivot_core.specs.declared.view.Phase.{Phase}
 use Rattle.pivot_core.specs.declared.view.Phase.TheVariants as phase
 use Rattle.pivot_core.specs.declared.sight.Sight.{Sight}

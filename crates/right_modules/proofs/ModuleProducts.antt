@@ -4,7 +4,7 @@ use Rattle.std.specs.List.{Contains}
 use Rattle.std.proofs.lemmas.List.Elements.{All-contains, All-head, All-map, All-tail, All-weaker}
 use Rattle.std.proofs.lemmas.Bool.{and_from, and_parts}
 use Rattle.words.specs.Words.{AreWeights, degree_of}
-use Rattle.words.proofs.Members.{All-from_members}
+use Rattle.words.proofs.Members.{All-from_members, Contains-filter, Contains-filter_cases}
 use Rattle.words.proofs.Weights.{degree_of-positive}
 use Rattle.free_poly.specs.declared.term.Term.{Term}
 use Rattle.free_poly.specs.Terms.{HasDegree, product}
@@ -14,7 +14,6 @@ use Rattle.ideal_laws.specs.Laws.{IsRelation, IsSetting}
 use Rattle.ideal_laws.proofs.Products.{listed_product, product_listed, products}
 use Rattle.right_modules.specs.Laws.{IsModuleSetting}
 use Rattle.right_modules.specs.Module.{IsModuleMultiple, IsModuleWord, IsShaped, is_module_word}
-use Rattle.right_modules.proofs.Filters.{in_filter, filter-says}
 use Rattle.right_modules.proofs.Shapes.{is_module_word-is, module_sorted, multiple_words}
 
 -- whether all words are module words
@@ -80,7 +79,7 @@ module _ (ideal : Ideal) (free : ℕ) (ms : IsModuleSetting ideal free) (d : ℕ
   -- a product that is listed is one of the module
   pub listed_module : (g : List Term) → Contains module_products g → IsModuleProduct g
   listed_module g m =
-      let s = filter-says (has_module_words free) (products ideal.weights ideal.relations d) g m in
+      let s = Contains-filter_cases (has_module_words free) (products ideal.weights ideal.relations d) g m in
       let q = listed_product ideal.weights st.are_weights ideal.modulus positive ideal.relations d g s.0 in
       let r = relation_of q.multiple q.is_multiple in
       elim (module_sorted ideal free d q.multiple q.is_multiple r
@@ -93,7 +92,7 @@ module _ (ideal : Ideal) (free : ℕ) (ms : IsModuleSetting ideal free) (d : ℕ
   -- and each of the module is listed
   pub module_listed : (m : Multiple) → IsModuleMultiple ideal free d m → Contains module_products (product m.left m.relation m.right)
   module_listed m i =
-      in_filter (has_module_words free) (products ideal.weights ideal.relations d) (product m.left m.relation m.right)
+      Contains-filter (has_module_words free) (products ideal.weights ideal.relations d) (product m.left m.relation m.right)
       (product_listed ideal.weights st.are_weights ideal.modulus ideal.relations st.are_relations d m i.multiple)
       (has_module_words-is free _ (multiple_words ideal free d m (relation_of m i.multiple) i))
 

@@ -5,12 +5,11 @@ use Rattle.std.proofs.lemmas.List.{drop-append-le, length-drop, take-append-le}
 use Rattle.std.proofs.lemmas.List.Elements.{All-contains, All-push}
 use Rattle.words.specs.Words.{AreWeights, IsOver, OccursAt, degree_of, words_of_degree}
 use Rattle.words.proofs.Degrees.{listed_word, words_of_degree-says}
-use Rattle.words.proofs.Members.{All-from_members}
+use Rattle.words.proofs.Members.{All-from_members, Contains-filter, Contains-filter_cases}
 use Rattle.lead_index.specs.declared.lead.Lead.{Lead}
 use Rattle.lead_index.specs.Leads.{IsFree}
 use Rattle.right_modules.specs.Module.{IsModuleWord, is_module_word}
 use Rattle.right_modules.specs.ModuleDimension.{module_words}
-use Rattle.right_modules.proofs.Filters.{filter-says, in_filter}
 use Rattle.right_modules.proofs.Shapes.{is_module_word-is, is_module_word-says}
 
 -- the front of a free word is free
@@ -33,12 +32,12 @@ module _ (weights : List ℕ) (aw : AreWeights weights) (free : ℕ) where
   pub module_words-says : (d : ℕ) (w : List ℕ) → Contains (module_words weights free d) w
       → IsModuleWord free w × (IsOver (length weights) w × (degree_of weights w ≡ d))
   module_words-says d w m =
-      let s = filter-says (is_module_word free) (words_of_degree weights d) w m in
+      let s = Contains-filter_cases (is_module_word free) (words_of_degree weights d) w m in
       (is_module_word-says free w s.1, words_of_degree-says weights aw d w s.0)
 
   -- and which words they have
   pub module_words-has : (d : ℕ) (w : List ℕ) → IsModuleWord free w → IsOver (length weights) w → degree_of weights w ≡ d
       → Contains (module_words weights free d) w
   module_words-has d w h over e =
-      in_filter (is_module_word free) (words_of_degree weights d) w
+      Contains-filter (is_module_word free) (words_of_degree weights d) w
       (subst (λ (n : ℕ). Contains (words_of_degree weights n) w) e (listed_word weights aw w over)) (is_module_word-is free w h)

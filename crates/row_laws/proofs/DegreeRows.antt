@@ -1,17 +1,17 @@
 -- The rows of a degree are polynomials of the ideal with residues, and they have all generators but the reducers.
 use Rattle.std.proofs.Common.{◌≡◌, ◌≢◌, ◌%◌, ◌<◌, ℕ, List, [], ◌∷◌, refl, sym, ap, ap₂, ◌∙◌, inl, inr, subst}
-use Rattle.std.proofs.Common.{Option, Some}
+use Rattle.std.proofs.Common.{Some}
 use Rattle.std.specs.List.{Contains, slice_get}
 use Rattle.std.proofs.Math.Nat.{mod-eq_of_lt, zero-mod}
 use Rattle.std.proofs.lemmas.List.Elements.{All-cons, All-contains, All-head, All-weaker, Contains-append_cases, Contains-append_left}
 use Rattle.std.proofs.lemmas.List.Elements.{Contains-append_right}
 use Rattle.std.proofs.lemmas.Option.{get_or_from_slice_get, slice_get_within}
-use Rattle.words.specs.Words.{IsOver, degree_of, words_of_degree}
+use Rattle.words.specs.Words.{degree_of, words_of_degree}
 use Rattle.words.proofs.Members.{AllPairs-first}
 use Rattle.field_table.specs.Residues.{IsFieldModulus}
 use Rattle.free_poly.specs.declared.term.Term.{Term}
-use Rattle.free_poly.specs.Terms.{HasDegree, HasOneDegree, HasResidues, UsesLetters, total_at}
-use Rattle.free_poly.specs.Poly.{IsPolynomial, lead_of}
+use Rattle.free_poly.specs.Terms.{HasDegree, HasOneDegree, HasResidues, total_at}
+use Rattle.free_poly.specs.Poly.{IsPolynomial}
 use Rattle.free_poly.proofs.FromWords.{listed}
 use Rattle.free_poly.proofs.Totals.{AreApart-from_polynomial, total_at-found}
 use Rattle.linear_algebra.specs.Mod.{Residue}
@@ -31,6 +31,7 @@ use Rattle.ideal_laws.proofs.Represented.{IsLower}
 use Rattle.ideal_laws.proofs.Vectors.{same_vectors, span_from_ideal}
 use Rattle.ideal_laws.proofs.Vectors as vectors
 use Rattle.back_reduce.proofs.Beside.{beside_left, beside_right}
+use Rattle.ideal_laws.proofs.OneQuantity.{some_one}
 
 -- a polynomial of one degree has that of its leading word
 whole_degree : (weights : List ℕ) (d : ℕ) (g : List Term) → HasOneDegree weights g → g ≢ [] → lead_degree weights g ≡ d → HasDegree weights d g
@@ -43,11 +44,6 @@ whole_degree weights d (t ∷ f) one other e = All-cons (λ s. degree_of weights
 first_degree : (weights : List ℕ) (d : ℕ) (g : List Term) → g ≢ [] → HasDegree weights d g → lead_degree weights g ≡ d
 first_degree weights d [] other e = absurd (other refl)
 first_degree weights d (t ∷ f) other e = All-head (λ s. degree_of weights s.word ≡ d) t f e
-
--- a leading word is over the letters of its polynomial
-pub lead_over : (names : ℕ) (f : List Term) (w : List ℕ) → Some w ≡ lead_of f → UsesLetters names f → IsOver names w
-lead_over names [] w e h = cc e
-lead_over names (t ∷ f) w e h = let is : t.word ≡ w = cc e in subst (IsOver names) is (All-head (λ s. IsOver names s.word) t f h)
 
 -- at the word of a term a polynomial with residues is not 0
 pub term_there : (p : ℕ) (fm : IsFieldModulus p) (f : List Term) → IsPolynomial f → HasResidues p f → (t : Term) → Contains f t →
@@ -82,9 +78,6 @@ module _ (ideal : Ideal) (st : IsSetting ideal) (d : ℕ) where
   module _ (G : List (List Term)) (lower : AreLower ideal d G) where
     lower_at : (i : ℕ) (g : List Term) → slice_get G i ≡ Some g → IsLower ideal st d g
     lower_at i g e = let h = (lower g).0 (i, slice_get_within G i g e, get_or_from_slice_get G i g g e) in record { degree = h.0; below = h.1; reduced = h.2 }
-
-    some_one : (o : Option (List Term)) (a b : List Term) → o ≡ Some a → o ≡ Some b → a ≡ b
-    some_one o a b e f = cc
 
     module _ (rows : List (List Term)) (are : AreRows ideal G d rows) where
       -- each row of the degree is a polynomial with residues that is a member of the degree

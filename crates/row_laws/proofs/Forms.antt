@@ -10,6 +10,7 @@ use Rattle.linear_algebra.specs.Spans.{Vector, sum_of}
 use Rattle.linear_algebra.specs.Echelon.{AreSameAt, AreZeroAt, IsReduced, IsZeroAtLeads, done, skip, lead, from_leads}
 use Rattle.linear_algebra.proofs.Algebra.{zero_add, mul_zero}
 use Rattle.linear_algebra.proofs.Elimination.{leads-zero}
+use Rattle.linear_algebra.proofs.Unique.{AreSameAt-trans}
 
 module _ (K : Field) (X : Type 0) where
   abbrev V : Type 0
@@ -66,10 +67,6 @@ module _ (K : Field) (X : Type 0) where
     | inr n ↦ Contains-more x ys e.0 (lead_in_columns ys es' r e n)
   ]
 
-  same_after : (xs : List X) (u v w : V) → AreSameAt K X xs u v → ((y : X) → v y ≡ w y) → AreSameAt K X xs u w
-  same_after [] u v w s e = tt
-  same_after (x ∷ xs) u v w s e = (s.0 ∙ e x, same_after xs u v w s.1 e)
-
   module _ (R : X → X → Type 0) (strict : (x : X) → R x x → ⊥) (trans : (x y z : X) → R x y → R y z → R x z) where
     -- the rows stand in the order of their leading columns
     pub leads_ordered : (xs : List X) (es : List Led) → IsReduced K X xs es → AllPairs R xs → AllPairs (λ (d e : Led). R d.0 e.0) es
@@ -114,7 +111,7 @@ module _ (K : Field) (X : Type 0) where
           let without : (q : X) → sum_of K X (from_leads K X ((y, g) ∷ es') v) q ≡ sum_of K X (from_leads K X es' v) q =
           λ q. ap (λ (a : K.F). K.add (K.mul a (g q)) (sum_of K X (from_leads K X es' v) q)) zero
           ∙ ap (λ (a : K.F). K.add a (sum_of K X (from_leads K X es' v) q)) (K.mul_comm K.zero (g q) ∙ mul_zero K (g q)) ∙ zero_add K _ in
-          let l = first_led ys es' r (AllPairs-rest R y ys h) v (same_after ys v _ _ s.1 without) x n some
+          let l = first_led ys es' r (AllPairs-rest R y ys h) v (AreSameAt-trans K X ys v _ _ s.1 without) x n some
           (λ q k before. none q (Contains-more y ys q k) before) in
           (l.0, Contains-more (y, g) es' l.0 l.1, l.2)
     ]

@@ -6,7 +6,7 @@ use Rattle.free_poly.specs.declared.term.Term.{Term}
 use Rattle.linear_algebra.specs.Fields.{Field}
 use Rattle.linear_algebra.specs.Spans.{IsInSpan}
 use Rattle.linear_algebra.specs.Mod.{Residue}
-use Rattle.linear_algebra.proofs.Algebra.{zero_add, IsInSpan-add, IsInSpan-one, IsInSpan-scaled, IsInSpan-zero}
+use Rattle.linear_algebra.proofs.Algebra.{zero_add, IsInSpan-add, IsInSpan-one, IsInSpan-scaled, IsInSpan-zero, add_swap}
 use Rattle.linear_algebra.proofs.Elimination.{IsInSpan-trans, same_span}
 use Rattle.linear_algebra.proofs.ModField.{same_residue}
 use Rattle.ideal_laws.specs.Ideal.{Ideal, IsInIdeal}
@@ -25,7 +25,7 @@ use Rattle.row_laws.proofs.ClosedColumns.{in_degree}
 use Rattle.row_laws.proofs.ContestedRows.{back_less, left, left_spanned, row_sum}
 use Rattle.row_laws.proofs.DegreeRows.{IsMember, obstruction_has, relation_row, row_member}
 use Rattle.row_laws.proofs.Reducers.{reducer_inside}
-use Rattle.row_laws.proofs.Spread.{spread, spread-linear, spread-member, spread-zero, swapped}
+use Rattle.row_laws.proofs.Spread.{spread, spread-linear, spread-member, spread-zero}
 use Rattle.row_laws.proofs.Triangle.{IsReducerVector}
 
 module _ (ideal : Ideal) (st : IsSetting ideal) (d : ℕ) (G : List (List Term)) (lower : AreLower ideal d G)
@@ -105,7 +105,7 @@ module _ (ideal : Ideal) (st : IsSetting ideal) (d : ℕ) (G : List (List Term))
     rest = λ y. K.add (K.mul a (g.rest y)) (h.rest y);
     spanned = IsInSpan-add K (List ℕ) IsOwnReducer (λ y. K.mul a (g.rest y)) h.rest (IsInSpan-scaled K (List ℕ) IsOwnReducer a g.rest g.spanned) h.spanned;
     sum = λ y. ap₂ K.add (ap (K.mul a) (g.sum y) ∙ K.mul_add a (onto g.entries y) (g.rest y)) (h.sum y)
-        ∙ swapped ideal.modulus st.modulus (K.mul a (onto g.entries y)) (K.mul a (g.rest y)) (onto h.entries y) (h.rest y)
+        ∙ add_swap K (K.mul a (onto g.entries y)) (K.mul a (g.rest y)) (onto h.entries y) (h.rest y)
         ∙ ap (λ (n : Residue ideal.modulus). K.add n (K.add (K.mul a (g.rest y)) (h.rest y)))
         (sym (spread-linear ideal.modulus st.modulus contested a g.entries h.entries y));
   }

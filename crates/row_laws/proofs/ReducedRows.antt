@@ -27,9 +27,10 @@ use Rattle.back_reduce.specs.Rows.{IsInRowSpan, IsRow}
 use Rattle.back_reduce.specs.Rref.{IsRref}
 use Rattle.row_laws.proofs.DegreeRows.{IsMember}
 use Rattle.row_laws.proofs.Leaders.{IsLedBy, lead_within, leads_rising, led_rows, of_lead, row_vector, with_lead}
-use Rattle.row_laws.proofs.Reducers.{lead_degree, reduced_one}
+use Rattle.row_laws.proofs.Reducers.{lead_degree}
 use Rattle.row_laws.proofs.RowElements.{lead_says, row_lead, row_reduced}
 use Rattle.row_laws.proofs.Spread.{spread}
+use Rattle.ideal_laws.proofs.Differ.{reduced_one}
 
 module _ (ideal : Ideal) (st : IsSetting ideal) (d : ℕ) (G : List (List Term)) (lower : AreLower ideal d G) where
   -- a normal word of the degree has no proper factor that is a leading word

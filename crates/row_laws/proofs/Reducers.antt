@@ -1,48 +1,31 @@
 -- Reducers over the reduced elements of lower degrees: one at most for each word. Each is a product of an element, so it
 -- is in the ideal, 1 at its word and 0 at greater words.
 use Rattle.std.proofs.Common.{◌≡◌, ◌+◌, ◌<◌, ℕ, List, [], ◌∷◌, length, take, drop, sym, ap, ◌∙◌, inl, inr, arith}
-use Rattle.std.proofs.Common.{AllPairs, subst, Some, bytes_eq}
+use Rattle.std.proofs.Common.{subst, Some, bytes_eq}
 use Rattle.std.specs.List.{Contains}
 use Rattle.std.proofs.lemmas.Bool.{cases_Bool, cases_lt}
-use Rattle.std.proofs.lemmas.List.Elements.{All-contains, All-drop, All-head, All-take}
+use Rattle.std.proofs.lemmas.List.Elements.{All-drop, All-head, All-take}
 use Rattle.std.proofs.lemmas.Slice.Eq.{bytes_eq-Decides}
 use Rattle.words.specs.Words.{IsFactor, IsOver, degree_of}
 use Rattle.words.specs.Order.{IsLetterwiseGreater}
-use Rattle.words.proofs.Members.{AllPairs-first, AllPairs-rest, Contains-cases, Contains-none}
 use Rattle.free_poly.specs.declared.term.Term.{Term}
 use Rattle.free_poly.specs.Terms.{product}
 use Rattle.free_poly.specs.Poly.{lead_of}
 use Rattle.free_poly.proofs.Products.{degree_of-round}
-use Rattle.free_poly.proofs.Totals.{letterwise-apart, not_equal}
+use Rattle.free_poly.proofs.Totals.{not_equal}
 use Rattle.linear_algebra.specs.Fields.{Field}
 use Rattle.linear_algebra.specs.Mod.{Residue}
 use Rattle.ideal_laws.specs.Ideal.{Ideal, IsInIdeal, IsMinimal}
-use Rattle.ideal_laws.specs.Basis.{HasGreaterLead, IsReduced}
+use Rattle.ideal_laws.specs.Basis.{IsReduced}
 use Rattle.ideal_laws.specs.Closure.{IsReducer}
 use Rattle.ideal_laws.specs.Laws.{IsSetting}
 use Rattle.ideal_laws.specs.Overlaps.{AreLower}
-use Rattle.ideal_laws.proofs.OneBasis.{has_one_basis, some_same}
 use Rattle.ideal_laws.proofs.Represented.{IsLowerProduct, lower_above, lower_inside, lower_one}
 use Rattle.ideal_laws.proofs.Vectors as vectors
-use Rattle.row_laws.proofs.Places.{first_of, joined_at}
-
--- of two elements with one leading word in a falling list both are one
-one_in_falling : (fs : List (List Term)) → AllPairs HasGreaterLead fs → (f g : List Term) (w : List ℕ) → Contains fs f → Contains fs g →
-    lead_of f ≡ Some w → lead_of g ≡ Some w → f ≡ g
-one_in_falling [] h f g w m n lf lg = absurd (Contains-none f m)
-one_in_falling (e ∷ fs) h f g w m n lf lg = elim (Contains-cases e fs f m) [
-  | inl is ↦ elim (Contains-cases e fs g n) [
-    | inl also ↦ sym is ∙ also
-    | inr later ↦ absurd (apart (All-contains (HasGreaterLead e) fs g (AllPairs-first HasGreaterLead e fs h) later) (ap lead_of is ∙ lf) lg)
-  ]
-  | inr later ↦ elim (Contains-cases e fs g n) [
-    | inl is ↦ absurd (apart (All-contains (HasGreaterLead e) fs f (AllPairs-first HasGreaterLead e fs h) later) (ap lead_of is ∙ lg) lf)
-    | inr also ↦ one_in_falling fs (AllPairs-rest HasGreaterLead e fs h) f g w later also lf lg
-  ]
-]
-  where
-    apart : {a b : List Term} → HasGreaterLead a b → lead_of a ≡ Some w → lead_of b ≡ Some w → ⊥
-    apart r la lb = letterwise-apart r.of_f r.of_g r.greater (some_same r.of_f r.of_g (sym r.leads_f ∙ la ∙ sym lb ∙ r.leads_g))
+use Rattle.row_laws.proofs.Places.{joined_at}
+use Rattle.std.proofs.lemmas.Option.{same_Some}
+use Rattle.ideal_laws.proofs.Differ.{reduced_one}
+use Rattle.ideal_laws.proofs.OneQuantity.{first_of}
 
 module _ (ideal : Ideal) (st : IsSetting ideal) where
   -- the leading word of a reduced element of degree n has degree n
@@ -50,13 +33,6 @@ module _ (ideal : Ideal) (st : IsSetting ideal) where
   lead_degree n [] w r e = cc e
   lead_degree n (t ∷ f) w r e = let is : t.word ≡ w = cc e in ap (degree_of ideal.weights) (sym is)
       ∙ All-head (λ s. degree_of ideal.weights s.word ≡ n) t f r.inside.element.degree
-
-  -- reduced elements with one leading word are one
-  pub reduced_one : (e : ℕ) (f g : List Term) (w : List ℕ) → IsReduced ideal e f → IsReduced ideal e g →
-      lead_of f ≡ Some w → lead_of g ≡ Some w → f ≡ g
-  reduced_one e f g w hf hg lf lg =
-      let b = has_one_basis ideal st e in
-      one_in_falling b.value b.holds.falling f g w ((b.holds.exactly f).1 hf) ((b.holds.exactly g).1 hg) lf lg
 
   -- a minimal word that is a factor of another is the other
   minimal_one : (v w : List ℕ) → IsMinimal ideal v → IsMinimal ideal w → IsFactor v w → v ≡ w
@@ -77,7 +53,7 @@ module _ (ideal : Ideal) (st : IsSetting ideal) where
           | inr le ↦ minimal_one v w (a.2.minimal v lg) (b.2.minimal w lh) (first_of v w r ev ew le)
         ] in
         let degree : b.0 ≡ a.0 = sym (lead_degree b.0 h w b.2 lh) ∙ ap (degree_of ideal.weights) (sym same) ∙ lead_degree a.0 g v a.2 lg in
-        reduced_one a.0 g h v a.2 (subst (λ (e : ℕ). IsReduced ideal e h) degree b.2) lg (lh ∙ ap Some (sym same))
+        reduced_one ideal st a.0 g h v a.2 (subst (λ (e : ℕ). IsReduced ideal e h) degree b.2) lg (lh ∙ ap Some (sym same))
 
     -- a word has at most one reducer
     pub reducer_one : (w : List ℕ) (f g : List Term) → IsReducer G w f → IsReducer G w g → f ≡ g
@@ -86,7 +62,7 @@ module _ (ideal : Ideal) (st : IsSetting ideal) where
         let moved : take (length b.lead) (drop a.at w) ≡ b.lead = ap (λ (n : ℕ). take (length b.lead) (drop n w)) at ∙ b.here.same in
         let element : a.element ≡ b.element = element_one a.element b.element a.lead b.lead (drop a.at w) a.among b.among a.is_lead
         b.is_lead a.here.same moved in
-        let lead : a.lead ≡ b.lead = some_same a.lead b.lead (sym a.is_lead ∙ ap lead_of element ∙ b.is_lead) in
+        let lead : a.lead ≡ b.lead = same_Some a.lead b.lead (sym a.is_lead ∙ ap lead_of element ∙ b.is_lead) in
         a.is ∙ (λ i. product (take (at i) w) (element i) (drop (at i + length (lead i)) w)) ∙ sym b.is
 
     abbrev K : Field

@@ -17,7 +17,6 @@ use Rattle.ideal_laws.specs.Ideal.{Ideal, IsInIdeal, IsLeadingWord, IsMinimal}
 use Rattle.ideal_laws.specs.Basis.{IsReduced, below_lead}
 use Rattle.ideal_laws.specs.Laws.{IsSetting}
 use Rattle.ideal_laws.proofs.Leads.{element_form, element_from, element_inside, total_of_element}
-use Rattle.ideal_laws.proofs.OneBasis.{some_same}
 use Rattle.ideal_laws.proofs.Vectors as vectors
 use Rattle.back_reduce.specs.Rows.{IsInRowSpan, IsRow}
 use Rattle.back_reduce.specs.Rref.{IsRref}
@@ -25,6 +24,7 @@ use Rattle.row_laws.proofs.DegreeRows.{IsMember, term_there}
 use Rattle.row_laws.proofs.Leaders.{IsLedBy, lead_within, led_rows, none_before, one_there, row_combined, row_vector, zero_at_others}
 use Rattle.row_laws.proofs.OnColumns.{element_on-all, element_on-first, element_on-polynomial, element_on-residues}
 use Rattle.row_laws.proofs.Spread.{spread, spread-at, spread-element}
+use Rattle.std.proofs.lemmas.Option.{same_Some}
 
 -- what holds of each term but the first
 below_all : (P : Term → Type 0) (f : List Term) (w : List ℕ) → lead_of f ≡ Some w → IsPolynomial f →
@@ -118,7 +118,7 @@ module _ (ideal : Ideal) (st : IsSetting ideal) (d : ℕ) (columns : List (List 
       row_reduced none_inside = record {
         inside = inside;
         monic = firsts.1;
-        minimal = λ x e. subst (IsMinimal ideal) (some_same w x (sym firsts.0 ∙ e)) (record {
+        minimal = λ x e. subst (IsMinimal ideal) (same_Some w x (sym firsts.0 ∙ e)) (record {
           leading = subst (λ (i : ℕ). IsLeadingWord ideal i w) (sym lead_says.1) (record { member = f; inside = inside; lead = firsts.0 });
           none_inside = none_inside;
         });

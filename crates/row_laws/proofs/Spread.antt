@@ -13,7 +13,7 @@ use Rattle.free_poly.proofs.Totals.{letterwise-apart, not_here, here}
 use Rattle.linear_algebra.specs.Fields.{Field}
 use Rattle.linear_algebra.specs.Spans.{sum_of, IsInSpan}
 use Rattle.linear_algebra.specs.Mod.{Residue}
-use Rattle.linear_algebra.proofs.Algebra.{add_left_comm, mul_zero, zero_add}
+use Rattle.linear_algebra.proofs.Algebra.{mul_zero, zero_add, add_swap}
 use Rattle.linear_algebra.proofs.Elimination.{IsInSpan-trans}
 use Rattle.linear_algebra.proofs.ModField.{same_residue}
 use Rattle.ideal_laws.proofs.Vectors.{vector_of-append}
@@ -84,17 +84,13 @@ module _ (p : ℕ) (fm : IsFieldModulus p) where
       by_test true = same_residue p _ _ refl
       by_test false = same_residue p _ _ refl
 
-  -- the middle two of four change their places
-  pub swapped : (a b c e : Residue p) → K.add (K.add a b) (K.add c e) ≡ K.add (K.add a c) (K.add b e)
-  swapped a b c e = K.add_assoc a b (K.add c e) ∙ ap (K.add a) (add_left_comm K b c e) ∙ sym (K.add_assoc a c (K.add b e))
-
   -- the vector over words of a * u + v is a times that of u, and that of v
   pub spread-linear : (xs : List (List ℕ)) (a : Residue p) (u v : N) (w : List ℕ) →
       spread xs (λ k. K.add (K.mul a (u k)) (v k)) w ≡ K.add (K.mul a (spread xs u w)) (spread xs v w)
   spread-linear [] a u v w = sym (ap (λ (n : Residue p). K.add n K.zero) (mul_zero K a) ∙ K.add_zero K.zero)
   spread-linear (x ∷ xs) a u v w =
       ap₂ K.add (by_test (bytes_eq x w)) (spread-linear xs a (λ k. u (suc k)) (λ k. v (suc k)) w)
-      ∙ swapped (K.mul a (cond (bytes_eq x w) (u zero) K.zero)) (cond (bytes_eq x w) (v zero) K.zero)
+      ∙ add_swap K (K.mul a (cond (bytes_eq x w) (u zero) K.zero)) (cond (bytes_eq x w) (v zero) K.zero)
       (K.mul a (spread xs (λ k. u (suc k)) w)) (spread xs (λ k. v (suc k)) w)
       ∙ ap (λ (n : Residue p). K.add n (K.add (cond (bytes_eq x w) (v zero) K.zero) (spread xs (λ k. v (suc k)) w)))
       (sym (K.mul_add a (cond (bytes_eq x w) (u zero) K.zero) (spread xs (λ k. u (suc k)) w)))

@@ -5,3 +5,4 @@ pub mod Degrees
 pub mod NameLists
 pub mod Faults
 pub mod Factors
+pub mod Gathered

@@ -1,7 +1,8 @@
 -- Members and pairs of lists that are made by `map`, `flat_map` and `++`.
-use Rattle.std.proofs.Common.{◌≡◌, ◌⊎◌, ◌<◌, ℕ, zero, suc, List, [], ◌∷◌, ◌++◌, map, length, refl, sym, ap, inl, inr, arith, All, AllPairs, subst, get_or}
-use Rattle.std.specs.List.{Contains, flat_map}
-use Rattle.std.proofs.lemmas.List.Elements.{All-append, All-cons, All-contains, All-nil, Contains-append_cases, Contains-append_left, Contains-append_right}
+use Rattle.std.proofs.Common.{◌≡◌, ◌⊎◌, ◌<◌, ℕ, zero, suc, Bool, true, false, cond, List, [], ◌∷◌, ◌++◌, map, length, refl, sym, ap, ◌∙◌, inl, inr, arith, All, AllPairs, subst, get_or}
+use Rattle.std.specs.List.{Contains, filter, flat_map}
+use Rattle.std.proofs.lemmas.List.Elements.{All-append, All-cons, All-contains, All-contains_itself, All-filter, All-nil, filter_passes}
+use Rattle.std.proofs.lemmas.List.Elements.{Contains-append_cases, Contains-append_left, Contains-append_right}
 use Rattle.std.proofs.lemmas.List.Kept.{AllPairs-cons}
 
 module _ {X : Type 0} where
@@ -101,3 +102,24 @@ module _ {X Y : Type 0} (f : X → List Y) where
       AllPairs-append S (f x) (flat_map f xs) (inside x) (AllPairs-flat_map R S inside across xs (AllPairs-rest R x xs p))
       (λ u m. All-from_members (S u) (flat_map f xs) (λ v n. let r = Contains-flat_map_cases xs v n in
       across x r.0 u v (All-contains (R x) xs r.0 (AllPairs-first R x xs p) r.1) m r.2))
+
+module _ {X : Type 0} (f : X → Bool) where
+  -- a member at which f is true is among those
+  pub Contains-filter : (xs : List X) (x : X) → Contains xs x → f x ≡ true → Contains (filter f xs) x
+  Contains-filter [] x m e = absurd (Contains-none x m)
+  Contains-filter (y ∷ xs) x m e = elim (Contains-cases y xs x m) [
+    | inl is ↦ subst (λ (b : Bool). Contains (cond b (y ∷ filter f xs) (filter f xs)) x) (sym (ap f is ∙ e))
+        (subst (Contains (y ∷ filter f xs)) is (Contains-first y (filter f xs)))
+    | inr n ↦ by_test (f y) (Contains-filter xs x n e)
+  ]
+    where
+      by_test : (b : Bool) → Contains (filter f xs) x → Contains (cond b (y ∷ filter f xs) (filter f xs)) x
+      by_test true n = Contains-more y (filter f xs) x n
+      by_test false n = n
+
+  -- each of those is a member at which f is true
+  pub Contains-filter_cases : (xs : List X) (x : X) → Contains (filter f xs) x → Contains xs x × (f x ≡ true)
+  Contains-filter_cases xs x m = (
+    All-contains (Contains xs) (filter f xs) x (All-filter f (Contains xs) xs (All-contains_itself xs)) m,
+    All-contains (λ y. f y ≡ true) (filter f xs) x (filter_passes f xs) m,
+  )

@@ -4,7 +4,7 @@ use Rattle.std.specs.Result.{IfOk}
 use Rattle.rayon.proofs.ListFacts.{AllZip-weaken}
 use Rattle.back_reduce.specs.declared.echelon.Leader.{Leader}
 use Rattle.back_reduce.specs.Leaders.{IsReducedRow}
-use Rattle.back_reduce.proofs.Gathered.{gathered}
+use Rattle.words.proofs.Gathered.{gathered}
 use Rattle.back_reduce.proofs.echelon.reduced_rows.Goals as goal
 
 pub returns : goal.returns

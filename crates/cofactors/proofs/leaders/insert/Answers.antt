@@ -1,4 +1,4 @@
-use Rattle.std.proofs.Common.{◌≡◌, ◌%◌, ◌∷◌, ◌≢◌, [], ℕ, List, Some, None, get_or, take, drop, refl, sym, ap, ◌∙◌, subst, All, append-nil}
+use Rattle.std.proofs.Common.{◌≡◌, ◌%◌, ◌∷◌, ◌≢◌, ℕ, List, [], Some, None, get_or, take, drop, refl, sym, ap, ◌∙◌, subst, All, append-nil}
 use Rattle.std.specs.List.{Contains}
 use Rattle.std.proofs.lemmas.List.Elements.{All-cons, All-drop, All-head, All-nil}
 use Rattle.words.specs.Order.{IsLetterwiseGreater}
@@ -8,7 +8,7 @@ use Rattle.free_poly.specs.Terms.{scaled, total_at}
 use Rattle.free_poly.proofs.NormalForms.{compared, greater, same, smaller}
 use Rattle.cofactors.specs.declared.row.Row.{Row}
 use Rattle.cofactors.specs.Rows.{AreLeaders, IsRow, IsTracked, lead_word}
-use Rattle.cofactors.proofs.Clearing.{total_lead}
+use Rattle.free_poly.proofs.NormalForms.{first_total}
 use Rattle.cofactors.proofs.Insertion.{All-insert, AllPairs-insert, Contains-insert_here, Contains-insert_kept}
 use Rattle.cofactors.proofs.leaders.insert.Goals as goal
 
@@ -24,7 +24,7 @@ lead_greater (t ∷ f) w x e form zero not =
     elim (compared x w) [
       | greater g ↦ absurd (not g)
       | smaller g ↦ g
-      | same s ↦ absurd (All-head (λ (u : Term). u.coefficient ≢ 0) t f form.nonzero (sym (total_lead t f form) ∙ ap (total_at (t ∷ f)) (is ∙ sym s) ∙ zero))
+      | same s ↦ absurd (All-head (λ (u : Term). u.coefficient ≢ 0) t f form.nonzero (sym (first_total t f form) ∙ ap (total_at (t ∷ f)) (is ∙ sym s) ∙ zero))
     ]
 
 none_led : (f : List Term) → None ≡ lead_of f → f ≡ []

@@ -1,4 +1,4 @@
-use Rattle.std.proofs.Common.{◌≡◌, ◌*◌, ◌%◌, ◌<◌, ◌∷◌, ◌≢◌, [], ℕ, List, get_or, map, length, refl, sym, ap, ◌∙◌, subst}
+use Rattle.std.proofs.Common.{◌≡◌, ◌*◌, ◌%◌, ◌<◌, ◌∷◌, ◌≢◌, ℕ, List, [], get_or, map, length, refl, sym, ap, ◌∙◌, subst}
 use Rattle.std.proofs.Math.Nat.{mod-mod}
 use Rattle.std.proofs.lemmas.List.Elements.{All-nil}
 use Rattle.free_poly.specs.declared.term.Term.{Term}
@@ -6,7 +6,7 @@ use Rattle.free_poly.specs.Poly.{IsPolynomial, lead_or_none}
 use Rattle.free_poly.specs.Terms.{IsSame, scaled, total_at}
 use Rattle.cofactors.specs.declared.factors.Factor.{Factor}
 use Rattle.cofactors.specs.Rows.{HasPlaces, combined}
-use Rattle.cofactors.proofs.Clearing.{total_lead}
+use Rattle.free_poly.proofs.NormalForms.{first_total}
 use Rattle.cofactors.proofs.MonicRows.{from_monic, monic_sum}
 use Rattle.cofactors.proofs.row.monic.Goals as goal
 
@@ -18,7 +18,7 @@ same_lead (t ∷ f) (s ∷ g) e = cc e
 
 first_coefficient : (f : List Term) (t : Term) → f ≢ [] → IsPolynomial f → t ≡ get_or f 0 t → total_at f (lead_or_none f) ≡ t.coefficient
 first_coefficient [] t ne form is = absurd (ne refl)
-first_coefficient (s ∷ f) t ne form is = total_lead s f form ∙ ap (λ (x : Term). x.coefficient) (sym is)
+first_coefficient (s ∷ f) t ne form is = first_total s f form ∙ ap (λ (x : Term). x.coefficient) (sym is)
 
 pub returns-clause-lead : goal.returns-clause-lead
 returns-clause-lead c = same_lead c.in_ok-element.element c.args.row.now.element c.in_ok-element.ensures.words

@@ -3,7 +3,7 @@ use Rattle.std.specs.Result.{IfOk}
 use Rattle.std.proofs.lemmas.Slice.Zip.{AllZip-map}
 use Rattle.rayon.proofs.ListFacts.{IfOk-then}
 use Rattle.free_poly.specs.Poly.{element_on}
-use Rattle.back_reduce.proofs.Gathered.{gathered}
+use Rattle.words.proofs.Gathered.{gathered}
 use Rattle.degree_loop.proofs.elements.elements_on.Goals as goal
 
 pub returns : goal.returns

@@ -1,6 +1,6 @@
 use Rattle.std.proofs.Common.{length, subst, sym}
 use Rattle.words.specs.Words.{IsOver}
-use Rattle.row_laws.proofs.DegreeRows.{lead_over}
+use Rattle.free_poly.proofs.Leads.{lead_over}
 use Rattle.degree_loop.proofs.relations.has_degree.Goals as goal
 
 pub degree_within-requires-clause-letters : goal.degree_within-requires-clause-letters

@@ -4,7 +4,7 @@ use Rattle.std.specs.Result.{IfOk}
 use Rattle.free_poly.specs.declared.term.Term.{Term}
 use Rattle.overlaps.specs.declared.obstruction.Obstruction.{Obstruction}
 use Rattle.overlaps.specs.Listed.{IsRowFor}
-use Rattle.back_reduce.proofs.Gathered.{gathered}
+use Rattle.words.proofs.Gathered.{gathered}
 use Rattle.degree_loop.proofs.rows.obstruction_rows.Goals as goal
 
 pub returns : goal.returns

@@ -2,7 +2,8 @@ use Rattle.std.proofs.Common.{◌≡◌, [], length, ap, arith, sym, ◌∙◌}
 use Rattle.std.proofs.lemmas.List.{get_or_default}
 use Rattle.overlaps.specs.Walk.{lead_word}
 use Rattle.free_poly.specs.Poly.{lead_or_none}
-use Rattle.overlaps.proofs.Places.{lead-is, lead_word-small}
+use Rattle.overlaps.proofs.Places.{lead_word-small}
+use Rattle.free_poly.proofs.Leads.{lead-is}
 use Rattle.overlaps.proofs.place.lead_at.Goals as goal
 
 pub returns-in-Some-clause-small : goal.returns-in-Some-clause-small

@@ -1,6 +1,6 @@
 use Rattle.std.proofs.Common.{length, subst, sym}
 use Rattle.words.specs.Words.{IsOver}
-use Rattle.row_laws.proofs.DegreeRows.{lead_over}
+use Rattle.free_poly.proofs.Leads.{lead_over}
 use Rattle.plain_engine.proofs.products.words_round.Goals as goal
 
 pub degree_within-degree-requires-clause-letters : goal.degree_within-degree-requires-clause-letters

@@ -3,7 +3,7 @@ use Rattle.std.specs.List.{AllZip, range_with_len}
 use Rattle.std.specs.Result.{IfOk}
 use Rattle.std.proofs.lemmas.List.{map-id}
 use Rattle.std.proofs.lemmas.List.FromFn.{get_or-range_with_len, length-range_with_len}
-use Rattle.back_reduce.proofs.Gathered.{gathered}
+use Rattle.words.proofs.Gathered.{gathered}
 use Rattle.rayon.proofs.ListFacts.{AllZip-weaken}
 use Rattle.row_laws.specs.Contested.{AreContestedRows}
 use Rattle.row_store.specs.declared.buffer.Buffer.{Buffer}
