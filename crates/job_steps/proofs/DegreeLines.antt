@@ -1,10 +1,11 @@
 -- The lines of a degree are those of the elements that stand together in a basis.
-use Rattle.std.proofs.Common.{not, ◌≡◌, ◌≢◌, ◌+◌, ◌-◌, ◌<◌, ◌≤◌, ℕ, Bool, true, false, List, [], ◌∷◌, ◌++◌, length, get_or, take, drop, refl, sym, ap}
-use Rattle.std.proofs.Common.{◌∙◌, inr, arith, subst, All, Result, Ok, Err, IfErr}
-use Rattle.std.specs.List.{flat_map, slice_range}
+use Rattle.std.proofs.Common.{not, ◌≡◌, ◌≢◌, ◌+◌, ◌-◌, ◌<◌, ◌≤◌, ℕ, zero, suc, Bool, true, false, List, [], ◌∷◌, ◌++◌, length, get_or, take, drop, refl, sym, ap}
+use Rattle.std.proofs.Common.{◌∙◌, inr, arith, subst, All, Result, Ok, Err, IfErr, Vec, Global}
+use Rattle.std.specs.List.{AllZip, flat_map, range_with_len, slice_range}
 use Rattle.std.proofs.Math.Seq.{drop-cons, take-add}
 use Rattle.std.proofs.lemmas.Grind.{flat_map-append}
 use Rattle.std.proofs.lemmas.List.{append-nil, drop-drop}
+use Rattle.rayon.specs.Numbers.{nat_range}
 use Rattle.words.proofs.Members.{All-from_members}
 use Rattle.free_poly.specs.declared.term.Term.{Term}
 use Rattle.free_poly.specs.Terms.{HasResidues}
@@ -51,16 +52,44 @@ slice_one xs b z within =
     let e : b + 1 - b ≡ 1 = omega arith in
     ap (λ (n : ℕ). take n (drop b xs)) e ∙ ap (take 1) (drop-cons xs b z within)
 
+at_place : {Y : Type 0} (R : ℕ → Y → Type 0) (a n : ℕ) (ys : List Y) (k : ℕ) (y : Y) → AllZip R (range_with_len a n) ys → k < n → R (a + k) (get_or ys k y)
+at_place R a zero ys k y h lt = absurd (omega (arith, lt))
+at_place R a (suc n) [] k y h lt = absurd h
+at_place R a (suc n) (z ∷ ys) zero y h lt = let e : a ≡ a + 0 = omega arith in subst (λ (i : ℕ). R i z) e h.0
+at_place R a (suc n) (z ∷ ys) (suc k) y h lt =
+    let e : (a + 1) + k ≡ a + suc k = omega arith in
+    subst (λ (i : ℕ). R i (get_or ys k y)) e (at_place R (a + 1) n ys k y h.1 (omega (arith, lt)))
+
+as_many : {Y : Type 0} (R : ℕ → Y → Type 0) (a n : ℕ) (ys : List Y) → AllZip R (range_with_len a n) ys → length ys ≡ n
+as_many R a zero [] h = refl
+as_many R a zero (y ∷ ys) h = absurd h
+as_many R a (suc n) [] h = absurd h
+as_many R a (suc n) (y ∷ ys) h = ap suc (as_many R (a + 1) n ys h.1)
+
 module _ (names : List (List ℕ)) (p : ℕ) (xs : List (List Term)) where
   abbrev lines : ℕ → ℕ → List ℕ
   lines a b = flat_map (element_line names p) (slice_range xs a b)
 
-  lines_more : (a b : ℕ) (f : List Term) → a ≤ b → b < length xs → f ≡ get_or xs b f → lines a (b + 1) ≡ lines a b ++ element_line names p f
-  lines_more a b f low within is =
+  -- the lines of some places are as many as these
+  pub length-lines : (a c : ℕ) (made : List (Vec ℕ Global)) → AllZip (λ place line. line.items ≡ element_line names p (get_or xs place [])) (nat_range a c) made
+      → length made ≡ c - a
+  length-lines a c made h = as_many (λ place line. line.items ≡ element_line names p (get_or xs place [])) a (c - a) made h
+
+  -- of the lines of some places each stands at its own
+  pub line_of_place : (a b c : ℕ) (made : List (Vec ℕ Global)) (z : Vec ℕ Global) → a ≤ b → b < c →
+      AllZip (λ place line. line.items ≡ element_line names p (get_or xs place [])) (nat_range a c) made
+      → (get_or made (b - a) z).items ≡ element_line names p (get_or xs b [])
+  line_of_place a b c made z low below h =
+      let e : a + (b - a) ≡ b = omega (arith, low) in
+      subst (λ (i : ℕ). (get_or made (b - a) z).items ≡ element_line names p (get_or xs i [])) e
+      (at_place (λ place line. line.items ≡ element_line names p (get_or xs place [])) a (c - a) made (b - a) z h (omega (arith, low, below)))
+
+  lines_more : (a b : ℕ) → a ≤ b → b < length xs → lines a (b + 1) ≡ lines a b ++ element_line names p (get_or xs b [])
+  lines_more a b low within =
       ap (flat_map (element_line names p)) (slice_split xs a b (b + 1) low (omega arith)
-      ∙ ap (λ (l : List (List Term)). slice_range xs a b ++ l) (slice_one xs b f within))
-      ∙ flat_map-append (element_line names p) (slice_range xs a b) (get_or xs b f ∷ [])
-      ∙ ap (λ (l : List ℕ). lines a b ++ l) (append-nil (element_line names p (get_or xs b f)) ∙ ap (element_line names p) (sym is))
+      ∙ ap (λ (l : List (List Term)). slice_range xs a b ++ l) (slice_one xs b [] within))
+      ∙ flat_map-append (element_line names p) (slice_range xs a b) (get_or xs b [] ∷ [])
+      ∙ ap (λ (l : List ℕ). lines a b ++ l) (append-nil (element_line names p (get_or xs b [])))
 
   lines_begin : (a b c : ℕ) → a ≤ b → b ≤ c → IsBeginning (lines a b) (lines a c)
   lines_begin a b c low high = record {
@@ -69,21 +98,20 @@ module _ (names : List (List ℕ)) (p : ℕ) (xs : List (List Term)) where
         ∙ flat_map-append (element_line names p) (slice_range xs a b) (slice_range xs b c);
   }
 
-  module _ (h k m : SinkState) (a b c : ℕ) (element : List Term) (low : a ≤ b) (below : b < c) (within : c ≤ length xs)
-      (is : element ≡ get_or xs b element) where
+  module _ (h k m : SinkState) (a b c : ℕ) (line : List ℕ) (low : a ≤ b) (below : b < c) (within : c ≤ length xs)
+      (is : line ≡ element_line names p (get_or xs b [])) where
+    with_line : lines a (b + 1) ≡ lines a b ++ line
+    with_line = lines_more a b low (omega (arith, below, within)) ∙ ap (λ (l : List ℕ). lines a b ++ l) (sym is)
+
     -- one more element is written
-    pub written_more : GainsAll h k (lines a b) → GainsAll k m (element_line names p element) → GainsAll h m (lines a (b + 1))
-    written_more w v =
-        subst (GainsAll h m) (sym (lines_more a b element low (omega (arith, below, within)) is))
-        (all_behind h k m (lines a b) (element_line names p element) w v)
+    pub written_more : GainsAll h k (lines a b) → GainsAll k m line → GainsAll h m (lines a (b + 1))
+    written_more w v = subst (GainsAll h m) (sym with_line) (all_behind h k m (lines a b) line w v)
 
     -- or not, and then the lines up to a later place are not written whole
-    pub unwritten_more : (fault : PrintFault) → GainsAll h k (lines a b) → IsUnwritten k m (element_line names p element) fault →
-        IsUnwritten h m (lines a c) fault
+    pub unwritten_more : (fault : PrintFault) → GainsAll h k (lines a b) → IsUnwritten k m line fault → IsUnwritten h m (lines a c) fault
     unwritten_more fault w u =
         unwritten_before h m (lines a (b + 1)) (lines a c) fault (lines_begin a (b + 1) c (omega (arith, low)) (omega (arith, below)))
-        (subst (λ (l : List ℕ). IsUnwritten h m l fault) (sym (lines_more a b element low (omega (arith, below, within)) is))
-        (unwritten_behind h k m (lines a b) (element_line names p element) fault w u))
+        (subst (λ (l : List ℕ). IsUnwritten h m l fault) (sym with_line) (unwritten_behind h k m (lines a b) line fault w u))
 
   slice_some : (a b : ℕ) → (a ≡ b → ⊥) → a ≤ b → b ≤ length xs → slice_range xs a b ≢ []
   slice_some a b other low within e =

@@ -4,6 +4,7 @@
 #![tactic(auto)]
 
 mod answer;
+mod degree_lines;
 mod input;
 mod laws;
 #[cfg(test)]

@@ -15,19 +15,18 @@ ghost use Rattle.job_steps.specs.Progress.{IsBasisSoFar, whole};
 ghost use Rattle.job_steps.specs.States.{state_of, teller_state};
 ghost use Rattle.job_steps.specs.Traces.{ArePrintable, OfNextTrace, OfTrace, Tells};
 
+use crate::degree_lines::write_degree;
 use crate::telling::{Teller, tell_degree};
 use bg_io::{Sink, write_all};
 use field_table::Field;
-use free_poly::Poly;
 use hilbert::{SeriesFault, count_law, series};
 use ideal_laws::{
     Basis, DegreeEngine, EngineFault, LimitKind, Limits, Presentation, advance, lower_law,
     setting_law,
 };
-use poly_writer::{element_line, head_line, series_text};
+use poly_writer::series_text;
 use std::alloc::{AllocError, Global};
 use std::thread::Threads;
-use words::Alphabet;
 
 /// What is to be printed of an ideal: the basis of degrees 1 to a bound, and the coefficients of degrees 0 to there.
 #[derive(Debug, Clone, Copy, PartialEq, Eq)]
@@ -199,97 +198,12 @@ fn print_next<R: Threads + Sync, E: DegreeEngine, K: Sink, T: Sink>(
             if !asked.basis {
                 return Ok(());
             }
-            match write_degree(alloc, &given.alphabet, field, basis, out) {
+            match write_degree(rt, alloc, &given.alphabet, field, basis, out) {
                 Ok(()) => Ok(()),
                 Err(fault) => Err(fault),
             }
         }
     }
-}
-
-/// Writes the lines of the last degree that is done, each by itself.
-fn write_degree<K: Sink>(
-    alloc: Global,
-    alphabet: &Alphabet,
-    field: &Field,
-    basis: &Basis,
-    out: &mut K,
-) -> Result<(), PrintFault>
-    requires weights { basis.now.weights ≡ alphabet.now.weights }
-    requires residues { All (HasResidues field.now) basis.now.elements }
-
-    ensures written { OnOk result (GainsAll (state_of K.Sink out.old) (state_of K.Sink out.new)
-        (degree_text alphabet.now.names field.now basis.now.done
-        (of_degree basis.now.weights basis.now.done basis.now.elements))) }
-    ensures unwritten { IfErr result (IsUnwritten (state_of K.Sink out.old) (state_of K.Sink out.new)
-        (degree_text alphabet.now.names field.now basis.now.done
-        (of_degree basis.now.weights basis.now.done basis.now.elements))) }
-    ensures steady { result ≢ Err PrintFault.WriteFault → K.faults out.new ≡ K.faults out.old }
-    ensures calls { CountsWrites (state_of K.Sink out.old) (state_of K.Sink out.new) result }
-{
-    let d = basis.done();
-    let (first, end) = basis.of_degree(d);
-    if first == end {
-        return Ok(());
-    }
-    let line = head_line(alloc, d)?;
-    write_text(out, line.as_slice())?;
-    match write_elements(alloc, alphabet, field, basis, first, end, out) {
-        Ok(()) => Ok(()),
-        Err(fault) => Err(fault),
-    }
-}
-
-/// Writes the lines of the elements from one place to before another.
-fn write_elements<K: Sink>(
-    alloc: Global,
-    alphabet: &Alphabet,
-    field: &Field,
-    basis: &Basis,
-    first: u32,
-    end: u32,
-    out: &mut K,
-) -> Result<(), PrintFault>
-    requires rising { first ≤ end }
-    requires within { end ≤ length basis.now.elements }
-    requires weights { basis.now.weights ≡ alphabet.now.weights }
-    requires residues { All (HasResidues field.now) basis.now.elements }
-
-    ensures written { OnOk result (GainsAll (state_of K.Sink out.old) (state_of K.Sink out.new)
-        (flat_map (element_line alphabet.now.names field.now) (slice_range basis.now.elements first end))) }
-    ensures unwritten { IfErr result (IsUnwritten (state_of K.Sink out.old) (state_of K.Sink out.new)
-        (flat_map (element_line alphabet.now.names field.now) (slice_range basis.now.elements first end))) }
-    ensures steady { result ≢ Err PrintFault.WriteFault → K.faults out.new ≡ K.faults out.old }
-    ensures calls { CountsWrites (state_of K.Sink out.old) (state_of K.Sink out.new) result }
-{
-    let _done = basis.done();
-    for place in first..end {
-        write_element(alloc, alphabet, field, basis.element(place), out)?;
-    }
-    Ok(())
-}
-
-/// Writes the line of an element.
-fn write_element<K: Sink>(
-    alloc: Global,
-    alphabet: &Alphabet,
-    field: &Field,
-    element: &Poly,
-    out: &mut K,
-) -> Result<(), PrintFault>
-    requires letters { UsesLetters (length alphabet.now.weights) element.now }
-    requires residues { HasResidues field.now element.now }
-    requires monic { IsMonic element.now }
-
-    ensures written { OnOk result (GainsAll (state_of K.Sink out.old) (state_of K.Sink out.new)
-        (element_line alphabet.now.names field.now element.now)) }
-    ensures unwritten { IfErr result (IsUnwritten (state_of K.Sink out.old) (state_of K.Sink out.new)
-        (element_line alphabet.now.names field.now element.now)) }
-    ensures steady { result ≢ Err PrintFault.WriteFault → K.faults out.new ≡ K.faults out.old }
-    ensures calls { CountsWrites (state_of K.Sink out.old) (state_of K.Sink out.new) result }
-{
-    let line = element_line(alloc, alphabet, field, element)?;
-    write_text(out, line.as_slice())
 }
 
 /// Writes the series of a reduced basis.
@@ -352,7 +266,8 @@ fn write_series<K: Sink>(alloc: Global, numbers: &[u64], out: &mut K) -> Result<
     write_text(out, text.as_slice())
 }
 
-fn write_text<K: Sink>(out: &mut K, text: &[u8]) -> Result<(), PrintFault>
+/// Writes a text.
+pub(crate) fn write_text<K: Sink>(out: &mut K, text: &[u8]) -> Result<(), PrintFault>
     ensures written { OnOk result (GainsAll (state_of K.Sink out.old) (state_of K.Sink out.new) text.now) }
     ensures unwritten { IfErr result (IsUnwritten (state_of K.Sink out.old) (state_of K.Sink out.new) text.now) }
     ensures steady { result ≢ Err PrintFault.WriteFault → K.faults out.new ≡ K.faults out.old }

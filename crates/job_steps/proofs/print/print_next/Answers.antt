@@ -44,7 +44,7 @@ tell_degree-requires g c =
     }
 
 pub write_degree-requires-clause-residues : goal.write_degree-requires-clause-residues
-write_degree-requires-clause-residues g c =
+write_degree-requires-clause-residues g c = λ κs lives.
     let next = c.in-Ok.ensures in
     residues_of (task_of c.args.field.now c.args.given.now (g.E.DegreeEngine.kinds c.args.engine.now) c.args.asked)
     c.args.basis.now c.advance.new.basis c.requires.next.same_weights next.weights next.done next.reduced next.within

@@ -3,7 +3,7 @@ use Rattle.poly_writer.specs.Texts.{element_line}
 use Rattle.bg_io.specs.Ends.{CountsGained}
 use Rattle.job_steps.specs.Gains.{GainsAll}
 use Rattle.job_steps.specs.States.{state_of}
-use Rattle.job_steps.proofs.print.write_elements.Given as goal
+use Rattle.job_steps.proofs.degree_lines.write_elements.Given as goal
 
 abbrev pub invariant-loop-place : goal.invariant-loop-place
 invariant-loop-place g l = record {

@@ -4,7 +4,7 @@ use Rattle.job_steps.specs.Gains.{IsUnwritten}
 use Rattle.job_steps.specs.States.{state_of}
 use Rattle.job_steps.proofs.DegreeLines.{degree_unwritten, degree_written, head_unwritten, if_err}
 use Rattle.job_steps.proofs.Writes.{counts_more}
-use Rattle.job_steps.proofs.print.write_degree.Goals as goal
+use Rattle.job_steps.proofs.degree_lines.write_degree.Goals as goal
 
 pub returns-in_err-write_text-clause-unwritten : goal.returns-in_err-write_text-clause-unwritten
 returns-in_err-write_text-clause-unwritten g c =
