@@ -83,6 +83,7 @@ pub(crate) fn walk_by_number(
             &mut tails,
             &mut words,
         )?;
+        table.make_room(words.as_slice())?;
         for span in &tails {
             let (span, more) = push_reducer(
                 basis,

@@ -14,6 +14,9 @@ use std::alloc::Global;
 use std::marker::Model;
 use words::NoMemory;
 
+/// A table of more words is no longer near the processor.
+const CACHED: usize = 65_536;
+
 /// Words by number, each once, in the order in which they came.
 #[derive(Drop)]
 pub(crate) struct WordTable {
@@ -89,6 +92,27 @@ impl WordTable {
     {
         let (number, _) = self.keys.insert_full(word.key)?;
         Ok(number as u32)
+    }
+
+    /// Makes room for those of the words that are new, where the table is large. Each is looked up, and none waits for
+    /// what becomes of the one before, so that their places come from memory side by side.
+    pub(crate) fn make_room(&mut self, words: &[PackedWord]) -> Result<(), NoMemory>
+        ensures { self.new ≡ self.old }
+    {
+        if self.keys.len() <= CACHED {
+            return Ok(());
+        }
+        let new = self.new_among(words);
+        self.keys.reserve(new)
+    }
+
+    /// How many of the words are new, where each is another.
+    fn new_among(&self, words: &[PackedWord]) -> usize {
+        let mut new = 0usize;
+        for word in words {
+            new = new.saturating_add(usize::from(!self.keys.contains(&word.key)));
+        }
+        new
     }
 
     /// The words by falling word, and the number of each.

@@ -17,7 +17,7 @@ use lead_index::LeadIndex;
 use words::NoMemory;
 
 /// So many reducers are put together before their words are looked up.
-const AT_ONCE: usize = 32;
+const AT_ONCE: usize = 64;
 
 /// Puts together the reducers of the words of a table from a number on, as many as go at once: the words of each but
 /// for the leading one, and where these stand, if there is one. The letters are a buffer.

@@ -49,7 +49,8 @@ loop-span-preserved c =
       walk.invariant.place,
       c.in_ok-put_together.ensures.tails.within,
       ap length walk.invariant.longer.joined,
-      length-append c.loop-next.table.words walk.invariant.longer.more,
+      length-append c.make_room.new.self.words walk.invariant.longer.more,
+      ap (λ t. length t.words) c.make_room.ensures,
     ) in
     record {
       walking =
@@ -58,7 +59,7 @@ loop-span-preserved c =
           words c.push_reducer.new.table.words walk.next c.args.entries c.args.limit walk.spans.items c.push.new.self.items
           walk.numbers.items c.push_reducer.new.numbers.items walk.entries c.in_ok-span.more (get_or words walk.next [])
           c.in_ok-span.span walk.invariant.walking lt (get_or_default words walk.next [] (get_or words walk.next []) lt) k c.in_ok-push.ensures.items;
-      longer = grown_longer c.loop-next.table.words words c.push_reducer.new.table.words (tail_words k.reducer) walk.invariant.longer k.grown;
+      longer = grown_longer c.make_room.new.self.words words c.push_reducer.new.table.words (tail_words k.reducer) walk.invariant.longer k.grown;
       place = omega (arith, walk.invariant.place);
       within = c.in_ok-span.ensures.within;
       bits = c.in_ok-span.ensures.bits ∙ walk.invariant.bits;
