@@ -19,6 +19,7 @@ pub mod NumberWalks
 pub mod ListedColumns
 pub mod Listings
 pub mod Orders
+pub mod Summed
 pub mod Lookups
 pub mod FallingKeys
 pub mod ByWord

@@ -1,4 +1,5 @@
-ghost use Rattle.std.specs.Prelude.{◌≡◌, ◌≢◌, ◌<◌, ◌++◌, List, ℕ, All, AllPairs, IfOk, None, OnOk, length, map};
+ghost use Rattle.std.specs.Prelude.{◌≡◌, ◌≢◌, ◌-◌, ◌%◌, ◌<◌, ◌≤◌, ◌++◌, List, ℕ, All, AllPairs, IfOk, IsTrue, None};
+ghost use Rattle.std.specs.Prelude.{OnOk, length, map};
 ghost use Rattle.std.specs.Prelude.{slice_index, slice_index_or};
 ghost use Rattle.std.specs.List.{AllZip, range_with_len};
 ghost use Rattle.symbolic_prep.specs.Orders.{IsMoved, IsRising, IsSpanIn, columns_at};
@@ -8,15 +9,69 @@ use crate::lists::{Span, place_behind};
 use std::alloc::Global;
 use words::NoMemory;
 
-/// The keys by rising key, each with its number.
-pub(crate) fn rising(alloc: Global, keys: &[u64]) -> Result<Vec<(u64, u32)>, NoMemory>
+/// Keys with this many places behind each have room for the number of one, if there are no more.
+const NUMBERS: u64 = 1_048_576;
+
+/// The keys by rising key, and the number of each. Where numbers have room behind the keys, one number is sorted in
+/// place of two.
+pub(crate) fn rising(alloc: Global, keys: &[u64]) -> Result<(Vec<u64>, Vec<u32>), NoMemory>
     requires few { length keys.now < 4294967296 }
     requires apart { AllPairs (λ a b. a ≢ b) keys.now }
-    ensures { IfOk result (λ pairs. IsRising keys.now pairs.items) }
+    ensures { IfOk result (λ parts. (pairs : List (ℕ × ℕ)) × IsRising keys.now pairs
+        × (parts.0.items ≡ map (λ p. p.0) pairs) × (parts.1.items ≡ map (λ p. p.1) pairs)) }
 {
+    if has_room(keys) {
+        let mut sums = summed(alloc, keys)?;
+        sums.sort_unstable();
+        return split(alloc, sums.as_slice());
+    }
     let mut pairs = numbered(alloc, keys)?;
     pairs.sort_unstable_by_key(|pair| pair.0);
-    Ok(pairs)
+    parted(alloc, pairs.as_slice())
+}
+
+/// Whether there is room behind each key for the number of one.
+fn has_room(keys: &[u64]) -> bool
+    ensures { IsTrue result → (length keys.now ≤ 1048576) × All (λ k. k % 1048576 ≡ 0) keys.now }
+{
+    if keys.len() as u64 > NUMBERS {
+        return false;
+    }
+    for key in keys {
+        if *key % NUMBERS != 0 {
+            return false;
+        }
+    }
+    true
+}
+
+/// Each key with its number behind it.
+fn summed(alloc: Global, keys: &[u64]) -> Result<Vec<u64>, NoMemory>
+    requires few { length keys.now ≤ 1048576 }
+    requires room { All (λ k. k % 1048576 ≡ 0) keys.now }
+    ensures keys { IfOk result (λ sums. map (λ s. s - s % 1048576) sums.items ≡ keys.now) }
+    ensures numbers { IfOk result (λ sums. map (λ s. s % 1048576) sums.items ≡ range_with_len 0 (length keys.now)) }
+{
+    let mut sums = Vec::with_capacity(alloc, keys.len())?;
+    for (number, key) in keys.iter().enumerate() {
+        sums.push(*key + number as u64)?;
+    }
+    Ok(sums)
+}
+
+/// The keys alone, and the numbers behind them.
+fn split(alloc: Global, sums: &[u64]) -> Result<(Vec<u64>, Vec<u32>), NoMemory>
+    ensures keys { IfOk result (λ parts. parts.0.items ≡ map (λ s. s - s % 1048576) sums.now) }
+    ensures numbers { IfOk result (λ parts. parts.1.items ≡ map (λ s. s % 1048576) sums.now) }
+{
+    let mut keys = Vec::with_capacity(alloc, sums.len())?;
+    let mut numbers = Vec::with_capacity(alloc, sums.len())?;
+    for sum in sums {
+        let number = *sum % NUMBERS;
+        keys.push(*sum - number)?;
+        numbers.push(number as u32)?;
+    }
+    Ok((keys, numbers))
 }
 
 /// The keys, each with its number.
@@ -33,7 +88,7 @@ fn numbered(alloc: Global, keys: &[u64]) -> Result<Vec<(u64, u32)>, NoMemory>
 }
 
 /// The keys alone, and the numbers alone.
-pub(crate) fn parted(alloc: Global, pairs: &[(u64, u32)]) -> Result<(Vec<u64>, Vec<u32>), NoMemory>
+fn parted(alloc: Global, pairs: &[(u64, u32)]) -> Result<(Vec<u64>, Vec<u32>), NoMemory>
     ensures keys { IfOk result (λ parts. parts.0.items ≡ map (λ p. p.0) pairs.now) }
     ensures numbers { IfOk result (λ parts. parts.1.items ≡ map (λ p. p.1) pairs.now) }
 {

@@ -6,7 +6,7 @@ ghost use Rattle.symbolic_prep.specs.Numbers.{IsGrown};
 ghost use Rattle.symbolic_prep.specs.Orders.{HaveOneDegree, IsOrder};
 ghost use Rattle.words.specs.Order.{IsLetterwiseGreater};
 
-use crate::ordering::{parted, rising};
+use crate::ordering::rising;
 use crate::packed::PackedWords;
 use crate::packing::{PackedWord, Packing, unpack};
 use indexmap::IndexSet;
@@ -122,8 +122,7 @@ impl WordTable {
         ensures order { IfOk result (λ parts. IsOrder self.now.words parts.1.items parts.0) }
         ensures falling { IfOk result (λ parts. AllPairs IsLetterwiseGreater parts.0) }
     {
-        let pairs = rising(alloc, self.keys.as_slice())?;
-        let (keys, order) = parted(alloc, pairs.as_slice())?;
+        let (keys, order) = rising(alloc, self.keys.as_slice())?;
         Ok((PackedWords::of(self.packing, keys), order))
     }
 }
