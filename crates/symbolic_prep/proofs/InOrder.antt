@@ -1,9 +1,9 @@
 -- A walk by number, with its words put in order.
-use Rattle.std.proofs.Common.{◌≡◌, ◌≢◌, ◌<◌, ◌≤◌, ◌+◌, ℕ, List, [], ◌∷◌, length, map, get_or, refl, sym, ap, ◌∙◌, arith, All}
+use Rattle.std.proofs.Common.{◌≡◌, ◌≢◌, ◌<◌, ◌≤◌, ◌+◌, ◌-◌, ℕ, List, [], ◌∷◌, drop, take, length, map, get_or, refl, sym, ap, ◌∙◌, arith, All}
 use Rattle.std.proofs.Common.{AllPairs, Option, Some, None, subst, length-append}
 use Rattle.std.specs.List.{AllZip, Contains, flat_map, range_with_len, slice_get, sum_by}
 use Rattle.std.specs.List.Sorted.{IsPermutation}
-use Rattle.std.proofs.lemmas.List.{get_or-map, get_or_default, length-map}
+use Rattle.std.proofs.lemmas.List.{drop-map, get_or-map, get_or_default, length-map, take-map}
 use Rattle.std.proofs.lemmas.List.Elements.{All-cons, All-head, All-nil, All-tail}
 use Rattle.std.proofs.lemmas.List.FromFn.{fill_by_all, get_or-range_with_len, length-range_with_len}
 use Rattle.std.proofs.lemmas.List.Sorted.{All-permutation, Contains-permutation, IsPermutation-map, length_permutation, sum_by-IsPermutation}
@@ -86,18 +86,20 @@ module _ (words : List (List ℕ)) (order : List ℕ) (columns : List (List ℕ)
         let place : get_or places n 0 ≡ m.0 = ap (λ (k : ℕ). get_or places k 0) (sym here) ∙ placed m.0 m.1 in
         ap (slice_get columns) place ∙ sym (h.each m.0 m.1) ∙ ap (slice_get words) here ∙ at
 
-    stands_moved : (n m : List ℕ) (r : List (List ℕ)) (s t : Span) (f : List Term) → StandsAt words n r s f → IsMovedTo places n m s t →
+    stands_moved : (n m : List ℕ) (r : List (List ℕ)) (s t : Span) (f : List Term) → StandsAt words n r s f → IsMovedTo (columns_at places n) m s t →
         StandsAt columns m r t f
     stands_moved n m r s t f h k =
         record {
           ns = columns_at places h.ns;
-          place = subst (λ (xs : List ℕ). IsPart m (columns_at places xs) t.start t.end) (range_is n h.ns s.start s.end h.place) k.place;
+          place = subst (λ (xs : List ℕ). IsPart m xs t.start t.end)
+              (ap (take (s.end - s.start)) (drop-map (λ k. get_or places k 0) s.start n) ∙ take-map (λ k. get_or places k 0) (s.end - s.start) (drop s.start n)
+              ∙ ap (columns_at places) (range_is n h.ns s.start s.end h.place)) k.place;
           residues_are = ap (slice_get r) k.element ∙ h.residues_are;
           are_terms = AreTerms-renumbered words columns (λ n. get_or places n 0) moved h.ns (residues_of f) f h.are_terms;
         }
 
     span_moved : (n m : List ℕ) (r : List (List ℕ)) (s t : Option Span) (o : Option (List Term)) → IsSpanOf words n r s o →
-        IsMoved places n m s t → IsSpanOf columns m r t o
+        IsMoved (columns_at places n) m s t → IsSpanOf columns m r t o
     span_moved n m r None None None z k = tt
     span_moved n m r None None (Some f) z k = absurd z
     span_moved n m r None (Some t) o z k = absurd k
@@ -108,7 +110,7 @@ module _ (words : List (List ℕ)) (order : List ℕ) (columns : List (List ℕ)
     spans_moved : (n m : List ℕ) (r : List (List ℕ)) (spans : List (Option Span)) (reducers : List (Option (List Term))) →
         AllZip (IsSpanOf words n r) spans reducers → length spans ≡ length words → length reducers ≡ length words
         → (ks : List ℕ) → All (λ k. k < length words) ks → (ts : List (Option Span)) →
-        AllZip (IsMoved places n m) (map (λ k. get_or spans k None) ks) ts
+        AllZip (IsMoved (columns_at places n) m) (map (λ k. get_or spans k None) ks) ts
         → AllZip (IsSpanOf columns m r) ts (map (λ k. get_or reducers k None) ks)
     spans_moved n m r spans reducers zipped many some [] below [] k = tt
     spans_moved n m r spans reducers zipped many some [] below (t ∷ ts) k = absurd k
@@ -161,7 +163,7 @@ module _ (words : List (List ℕ)) (order : List ℕ) (columns : List (List ℕ)
       (entries : ℕ) → IsNumberWalk G given_words words (length words) from limit spans n entries
       → AllPairs IsLetterwiseGreater columns → (places : List ℕ) → ((c : ℕ) → c < length order → get_or places (get_or order c 0) 0 ≡ c) →
       (r : List (List ℕ)) → r ≡ map residues_of G → (m : List ℕ) (moved_spans : List (Option Span))
-      → (entries ≤ limit → AllZip (IsMoved places n m) (map (λ k. get_or spans k None) order) moved_spans) →
+      → (entries ≤ limit → AllZip (IsMoved (columns_at places n) m) (map (λ k. get_or spans k None) order) moved_spans) →
       IsListedClosure G given_words from limit columns moved_spans m r entries
   listed_in_order G given_words from limit spans n entries walk falling places placed r are_residues m moved_spans are_moved =
       let all = numbered_all G given_words words (length words) walk.reducers walk.numbered (omega arith) in

@@ -43,14 +43,14 @@ IsSpanIn numbers (Some s) = (s.start ≤ s.end) × (s.end ≤ length numbers)
 abbrev pub columns_at : List ℕ → List ℕ → List ℕ
 columns_at columns numbers = map (λ n. slice_index columns n) numbers
 
--- the columns of the numbers of one span stand where another is, with the same element
-pub record IsMovedTo (columns numbers moved : List ℕ) (from to : Span) : Type 0 where
-  pub place : IsPart moved (columns_at columns (slice_range numbers from.start from.end)) to.start to.end
+-- the numbers of one span stand where another is, with the same element
+pub record IsMovedTo (numbers moved : List ℕ) (from to : Span) : Type 0 where
+  pub place : IsPart moved (slice_range numbers from.start from.end) to.start to.end
   pub element : to.element ≡ from.element
 
 -- a span has moved, or there is none
-abbrev pub IsMoved : List ℕ → List ℕ → List ℕ → Option Span → Option Span → Type 0
-IsMoved columns numbers moved None None = Unit {0}
-IsMoved columns numbers moved None (Some t) = ⊥
-IsMoved columns numbers moved (Some s) None = ⊥
-IsMoved columns numbers moved (Some s) (Some t) = IsMovedTo columns numbers moved s t
+abbrev pub IsMoved : List ℕ → List ℕ → Option Span → Option Span → Type 0
+IsMoved numbers moved None None = Unit {0}
+IsMoved numbers moved None (Some t) = ⊥
+IsMoved numbers moved (Some s) None = ⊥
+IsMoved numbers moved (Some s) (Some t) = IsMovedTo numbers moved s t

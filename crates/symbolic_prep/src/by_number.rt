@@ -7,7 +7,7 @@ ghost use Rattle.ideal_laws.specs.Quantities.{words_of};
 ghost use Rattle.symbolic_prep.specs.Closed.{AreRowsOf};
 ghost use Rattle.symbolic_prep.specs.Columns.{IsListed, words_in};
 ghost use Rattle.symbolic_prep.specs.Numbers.{IsNumberWalk, residues_of};
-ghost use Rattle.symbolic_prep.specs.Orders.{HaveOneDegree, IsMoved, IsSpanIn};
+ghost use Rattle.symbolic_prep.specs.Orders.{HaveOneDegree, IsMoved, IsSpanIn, columns_at};
 ghost use Rattle.symbolic_prep.specs.Packing.{HasDigits, IsPacking, IsPackingFor};
 ghost use Rattle.symbolic_prep.specs.Walk.{HasMore, HasMoreColumns};
 
@@ -16,7 +16,7 @@ use crate::columns::ColumnWords;
 use crate::lists::{Lists, Span, add_words};
 use crate::multiples::packed_terms;
 use crate::numbering::{Numbered, walk_by_number};
-use crate::ordering::{columns_of, ordered};
+use crate::ordering::{columns_of, ordered, rename};
 use crate::packing::Packing;
 use crate::pending::ColumnFault;
 use crate::residues::{ResidueLists, residues_of_basis};
@@ -109,6 +109,7 @@ fn in_order(
         → IsListed G given from limit c) }
     ensures within { IfOk result (λ c. length (words_in c.columns) ≡ length numbered.table.words) }
 {
+    let numbers = numbered.numbers;
     let (words, order) = numbered.table.in_order(alloc)?;
     let columns = columns_of(alloc, order.as_slice())?;
     let held = numbered.entries <= u64::from(limit);
@@ -116,7 +117,7 @@ fn in_order(
         alloc,
         held,
         numbered.spans.as_slice(),
-        numbered.numbers.as_slice(),
+        numbers,
         order.as_slice(),
         columns.as_slice(),
     )?;
@@ -131,24 +132,25 @@ fn in_order(
     })
 }
 
-/// The reducers in the order of the columns, where they are held.
+/// The reducers in the order of the columns, where they are held, with the column of each number in its place.
 fn ordered_if(
     alloc: Global,
     held: bool,
     spans: &[Option<Span>],
-    numbers: &[u32],
+    numbers: Vec<u32>,
     order: &[u32],
     columns: &[u32],
 ) -> Result<(Vec<Option<Span>>, Vec<u32>), NoMemory>
     requires order { All (λ n. n < length spans.now) order.now }
-    requires within { IsTrue held → All (IsSpanIn numbers.now) spans.now }
-    requires columns { IsTrue held → All (λ n. n < length columns.now) numbers.now }
-    ensures { IfOk result (λ parts. IsTrue held → AllZip (IsMoved columns.now numbers.now parts.1.items)
+    requires within { IsTrue held → All (IsSpanIn numbers.items) spans.now }
+    requires columns { IsTrue held → All (λ n. n < length columns.now) numbers.items }
+    ensures { IfOk result (λ parts. IsTrue held → AllZip (IsMoved (columns_at columns.now numbers.items) parts.1.items)
         (map (λ n. slice_index_or spans.now n None) order.now) parts.0.items) }
 {
-    if held {
-        ordered(alloc, spans, numbers, order, columns)
-    } else {
-        Ok((Vec::new(alloc), Vec::new(alloc)))
+    if !held {
+        return Ok((Vec::new(alloc), Vec::new(alloc)));
     }
+    let mut renamed = numbers;
+    rename(columns, &mut renamed);
+    ordered(alloc, spans, renamed.as_slice(), order)
 }

@@ -117,60 +117,69 @@ pub(crate) fn columns_of(alloc: Global, order: &[u32]) -> Result<Vec<u32>, NoMem
     Ok(columns)
 }
 
-/// The reducers in another order, one behind another, with the column of each number in its place.
+/// The column of each number, in its place.
+pub(crate) fn rename(columns: &[u32], numbers: &mut Vec<u32>)
+    requires { All (λ n. n < length columns.now) numbers.old.items }
+    ensures { numbers.new.items ≡ columns_at columns.now numbers.old.items }
+{
+    for at in 0..numbers.len() {
+        numbers[at] = columns[numbers[at] as usize];
+    }
+}
+
+/// The reducers in another order, one behind another.
 pub(crate) fn ordered(
     alloc: Global,
     spans: &[Option<Span>],
     numbers: &[u32],
     order: &[u32],
-    columns: &[u32],
 ) -> Result<(Vec<Option<Span>>, Vec<u32>), NoMemory>
     requires order { All (λ n. n < length spans.now) order.now }
     requires within { All (IsSpanIn numbers.now) spans.now }
-    requires columns { All (λ n. n < length columns.now) numbers.now }
-    ensures { IfOk result (λ parts. AllZip (IsMoved columns.now numbers.now parts.1.items)
+    ensures { IfOk result (λ parts. AllZip (IsMoved numbers.now parts.1.items)
         (map (λ n. slice_index_or spans.now n None) order.now) parts.0.items) }
 {
-    let mut ordered = Vec::with_capacity(alloc, order.len())?;
+    let mut ordered = spans_at(alloc, spans, order)?;
     let mut moved = Vec::with_capacity(alloc, numbers.len())?;
-    for number in order {
-        let span = push_moved(spans[*number as usize], numbers, columns, &mut moved)?;
-        ordered.push(span)?;
+    for at in 0..ordered.len() {
+        ordered[at] = push_moved(ordered[at], numbers, &mut moved)?;
     }
     Ok((ordered, moved))
 }
 
-/// Adds the columns of the numbers at a span, if there is one.
+/// The spans of some numbers.
+fn spans_at(
+    alloc: Global,
+    spans: &[Option<Span>],
+    order: &[u32],
+) -> Result<Vec<Option<Span>>, NoMemory>
+    requires { All (λ n. n < length spans.now) order.now }
+    ensures { IfOk result (λ chosen. chosen.items ≡ map (λ n. slice_index_or spans.now n None) order.now) }
+{
+    let mut chosen = Vec::with_capacity(alloc, order.len())?;
+    for number in order {
+        chosen.push(spans[*number as usize])?;
+    }
+    Ok(chosen)
+}
+
+/// Adds the numbers at a span, if there is one.
 fn push_moved(
     span: Option<Span>,
     numbers: &[u32],
-    columns: &[u32],
     moved: &mut Vec<u32>,
 ) -> Result<Option<Span>, NoMemory>
-    requires span { IsSpanIn numbers.now span }
-    requires columns { All (λ n. n < length columns.now) numbers.now }
+    requires { IsSpanIn numbers.now span }
     ensures longer { OnOk result (IsLonger moved.old.items moved.new.items) }
-    ensures moved { IfOk result (IsMoved columns.now numbers.now moved.new.items span) }
+    ensures moved { IfOk result (IsMoved numbers.now moved.new.items span) }
 {
     match span {
         Some(span) => {
             let start = place_behind(moved.len())?;
-            let own = &numbers[span.start as usize..span.end as usize];
-            push_columns(own, columns, moved)?;
+            moved.extend_from_slice(&numbers[span.start as usize..span.end as usize])?;
             let end = place_behind(moved.len())?;
             Ok(Some(Span { start, end, ..span }))
         }
         None => Ok(None),
     }
-}
-
-/// Adds the columns of some numbers.
-fn push_columns(numbers: &[u32], columns: &[u32], moved: &mut Vec<u32>) -> Result<(), NoMemory>
-    requires { All (λ n. n < length columns.now) numbers.now }
-    ensures { OnOk result (moved.new.items ≡ moved.old.items ++ columns_at columns.now numbers.now) }
-{
-    for number in numbers {
-        moved.push(columns[*number as usize])?;
-    }
-    Ok(())
 }

@@ -1,4 +1,4 @@
-use Rattle.std.proofs.Common.{◌≡◌, ◌∷◌, length, subst, sym}
+use Rattle.std.proofs.Common.{length, subst, sym}
 use Rattle.words.specs.Words.{IsOver}
 use Rattle.free_poly.proofs.Leads.{lead_over}
 use Rattle.cofactors.proofs.triples.lead_degree_within.Goals as goal

@@ -2,7 +2,7 @@ use Rattle.std.proofs.Common.{◌≡◌, ◌≢◌, ◌<◌, ◌≤◌, ◌∙�
 use Rattle.symbolic_prep.specs.declared.lists.Span.{Span}
 use Rattle.std.specs.List.{AllZip}
 use Rattle.symbolic_prep.specs.Numbers.{residues_of}
-use Rattle.symbolic_prep.specs.Orders.{IsMoved, IsSpanIn}
+use Rattle.symbolic_prep.specs.Orders.{IsMoved, IsSpanIn, columns_at}
 use Rattle.symbolic_prep.proofs.InOrder.{columns_long, listed_in_order, order_apart, order_below, order_long, spans_in, spans_long}
 use Rattle.symbolic_prep.proofs.by_number.in_order.Goals as goal
 
@@ -38,7 +38,7 @@ ordered_if-requires-clause-order c =
     let w = c.requires.walked in
     let many = spans_long w.0 w.1 words w.2 c.args.limit c.args.numbered.spans.items c.args.numbered.numbers.items c.args.numbered.entries w.3 in
     let spans : length c.as_slice-2.result.now ≡ length words = ap length c.as_slice-2.ensures.value ∙ many in
-    subst (All (λ n. n < length c.as_slice-2.result.now)) (sym c.as_slice-4.ensures.value) (λ k d inside. omega (arith, below k d inside, spans))
+    subst (All (λ n. n < length c.as_slice-2.result.now)) (sym c.as_slice-3.ensures.value) (λ k d inside. omega (arith, below k d inside, spans))
 
 pub ordered_if-requires-clause-within : goal.ordered_if-requires-clause-within
 ordered_if-requires-clause-within c = λ held.
@@ -46,8 +46,7 @@ ordered_if-requires-clause-within c = λ held.
     let le : c.args.numbered.entries ≤ c.args.limit = omega (arith, leb-true _ _ held, c.from.ensures) in
     let numbers = c.args.numbered.numbers.items in
     let spans = spans_in c.args.numbered.table.words numbers (map residues_of w.0) c.args.numbered.spans.items w.3.reducers (w.3.listed le) in
-    subst (λ (ns : List ℕ). All (IsSpanIn ns) c.as_slice-2.result.now) (sym c.as_slice-3.ensures.value)
-    (subst (All (IsSpanIn numbers)) (sym c.as_slice-2.ensures.value) spans)
+    subst (All (IsSpanIn numbers)) (sym c.as_slice-2.ensures.value) spans
 
 pub ordered_if-requires-clause-columns : goal.ordered_if-requires-clause-columns
 ordered_if-requires-clause-columns c = λ held.
@@ -55,9 +54,9 @@ ordered_if-requires-clause-columns c = λ held.
     let order = c.in_ok-words.order.items in
     let w = c.requires.walked in
     let le : c.args.numbered.entries ≤ c.args.limit = omega (arith, leb-true _ _ held, c.from.ensures) in
-    let places : length c.as_slice-5.result.now ≡ length words = ap length c.as_slice-5.ensures.value ∙ c.in_ok-columns.ensures.size
+    let places : length c.as_slice-4.result.now ≡ length words = ap length c.as_slice-4.ensures.value ∙ c.in_ok-columns.ensures.size
     ∙ ap length c.as_slice.ensures.value ∙ order_long words order c.in_ok-words.words c.in_ok-words.ensures.order in
-    subst (All (λ n. n < length c.as_slice-5.result.now)) (sym c.as_slice-3.ensures.value) (λ k d inside. omega (arith, w.3.below le k d inside, places))
+    λ k d inside. omega (arith, w.3.below le k d inside, places)
 
 pub returns-clause-listed : goal.returns-clause-listed
 returns-clause-listed c = λ G given from walk residues.
@@ -74,13 +73,11 @@ returns-clause-listed c = λ G given from walk residues.
     ∙ c.in_ok-columns.ensures.columns k (omega (arith, lt, ap length c.as_slice.ensures.value)))
     c.args.residues residues m ts
     (λ le. let moved = c.in_ok-spans.ensures (le-leb _ _ (omega (arith, le, c.from.ensures))) in
-    subst (λ (ns : List ℕ). AllZip (IsMoved columns numbers m) (map (λ k. get_or spans k None) ns) ts) c.as_slice-4.ensures.value
-    (subst (λ (ss : List (Option Span)). AllZip (IsMoved columns numbers m) (map (λ k. get_or ss k None) c.as_slice-4.result.now) ts)
+    subst (λ (ns : List ℕ). AllZip (IsMoved (columns_at columns numbers) m) (map (λ k. get_or spans k None) ns) ts) c.as_slice-3.ensures.value
+    (subst (λ (ss : List (Option Span)). AllZip (IsMoved (columns_at columns numbers) m) (map (λ k. get_or ss k None) c.as_slice-3.result.now) ts)
     c.as_slice-2.ensures.value
-    (subst (λ (cs : List ℕ). AllZip (IsMoved cs numbers m) (map (λ k. get_or c.as_slice-2.result.now k None) c.as_slice-4.result.now) ts)
-    c.as_slice-5.ensures.value
-    (subst (λ (ns : List ℕ). AllZip (IsMoved c.as_slice-5.result.now ns m)
-    (map (λ k. get_or c.as_slice-2.result.now k None) c.as_slice-4.result.now) ts) c.as_slice-3.ensures.value moved))))
+    (subst (λ (cs : List ℕ). AllZip (IsMoved (columns_at cs numbers) m) (map (λ k. get_or c.as_slice-2.result.now k None) c.as_slice-3.result.now) ts)
+    c.as_slice-4.ensures.value moved)))
 
 pub returns-clause-within : goal.returns-clause-within
 returns-clause-within c = columns_long c.args.numbered.table.words c.in_ok-words.order.items c.in_ok-words.words c.in_ok-words.ensures.order

@@ -1,7 +1,11 @@
-use Rattle.std.proofs.Common.{None, get_or, map, take}
+use Rattle.std.proofs.Common.{◌≡◌, drop, length, take}
 use Rattle.std.specs.List.{AllZip}
 use Rattle.symbolic_prep.specs.Orders.{IsMoved}
 use Rattle.symbolic_prep.proofs.ordering.ordered.Given as goal
 
-abbrev pub invariant-loop-number : goal.invariant-loop-number
-invariant-loop-number l = AllZip (IsMoved l.columns l.numbers l.moved.items) (map (λ n. get_or l.spans n None) (take l.number-index l.order)) l.ordered.items
+abbrev pub invariant-loop-at : goal.invariant-loop-at
+invariant-loop-at l = record {
+  size : length l.ordered.items ≡ length l.initial.ordered.items;
+  done : AllZip (IsMoved l.numbers l.moved.items) (take l.at l.initial.ordered.items) (take l.at l.ordered.items);
+  rest : drop l.at l.ordered.items ≡ drop l.at l.initial.ordered.items;
+}

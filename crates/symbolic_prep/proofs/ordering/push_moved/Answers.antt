@@ -8,7 +8,7 @@ pub returns-in_ok-end-in-Some-clause-moved : goal.returns-in_ok-end-in-Some-clau
 returns-in_ok-end-in-Some-clause-moved c =
     let t : Span = record { start = c.in_ok-start-in-Some.start; end = c.in_ok-end-in-Some.end; element = c.in-Some.span.element } in
     let starts : length c.args.moved.now.items ≡ t.start = search rules in
-    let ends : length c.push_columns.new.moved.items ≡ t.end = search rules in
-    subst (λ (o : Option Span). IsMoved c.args.columns.now c.args.numbers.now c.push_columns.new.moved.items o (Some t)) (sym c.in-Some.is)
-    (moved_part c.args.columns.now c.args.numbers.now c.args.moved.now.items c.push_columns.new.moved.items c.in-Some.span t
-    c.in_ok-push_columns-in-Some.ensures starts ends refl)
+    let ends : length c.extend_from_slice.new.self.items ≡ t.end = search rules in
+    subst (λ (o : Option Span). IsMoved c.args.numbers.now c.extend_from_slice.new.self.items o (Some t)) (sym c.in-Some.is)
+    (moved_part c.args.numbers.now c.args.moved.now.items c.extend_from_slice.new.self.items c.in-Some.span t
+    c.in_ok-extend_from_slice-in-Some.ensures.items starts ends refl)

@@ -1,4 +1,4 @@
-use Rattle.std.proofs.Common.{◌≡◌, ◌^◌, ℕ, List, ap, map, sym, ◌∙◌, subst}
+use Rattle.std.proofs.Common.{◌^◌, ℕ, List, ap, map, sym, subst}
 use Rattle.symbolic_prep.specs.Orders.{ArePackedWords, HaveOneDegree, IsOrder, IsRising}
 use Rattle.symbolic_prep.specs.Packing.{unpacked}
 use Rattle.symbolic_prep.proofs.FallingKeys.{packed_words, words_in_order}
