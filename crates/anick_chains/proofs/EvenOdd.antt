@@ -72,7 +72,8 @@ module _ {X : Type 0} (M : X → X → Type 0) (key : X → ℕ) where
       (λ a m.
       let s = Contains-filter_cases (λ a. key a % 2 == 0) xs a m in
       let r = mate a s.0 in
-      (r.0, Contains-filter (λ a. key a % 2 == 1) xs r.0 r.1 (eq-eqb _ _ (parity (key r.0) (key a) r.4 (eqb-true _ _ s.1))), (r.1, r.3))) (λ a b y m n. same a b y) in
+      (r.0, Contains-filter (λ a. key a % 2 == 1) xs r.0 r.1 (eq-eqb _ _ (parity (key r.0) (key a) r.4 (eqb-true _ _ s.1))), (r.1, r.3)))
+      (λ a b y m n. same a b y) in
       let down : length odds ≤ length evens = no_longer T odds evens (AllPairs-filter (λ a b. a ≢ b) (λ a. key a % 2 == 1) xs apart)
       (λ a m.
       let s = Contains-filter_cases (λ a. key a % 2 == 1) xs a m in

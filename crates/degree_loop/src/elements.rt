@@ -84,7 +84,7 @@ fn elements_on<R: Threads + Sync>(
         .collect::<Result<Vec<Poly>, NoMemory>>(rt, alloc)?
 }
 
-/// How many rows a thread is to have at least. Where rows hold few residues, elements are made before threads have begun.
+/// How many rows a thread is to have at least. Where rows hold few residues, no thread is worth its start.
 fn rows_a_part(rows: &[Row]) -> usize {
     let mut residues = 0usize;
     for row in rows {

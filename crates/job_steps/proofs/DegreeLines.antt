@@ -1,6 +1,6 @@
 -- The lines of a degree are those of the elements that stand together in a basis.
-use Rattle.std.proofs.Common.{not, ◌≡◌, ◌≢◌, ◌+◌, ◌-◌, ◌<◌, ◌≤◌, ℕ, zero, suc, Bool, true, false, List, [], ◌∷◌, ◌++◌, length, get_or, take, drop, refl, sym, ap}
-use Rattle.std.proofs.Common.{◌∙◌, inr, arith, subst, All, Result, Ok, Err, IfErr, Vec, Global}
+use Rattle.std.proofs.Common.{not, ◌≡◌, ◌≢◌, ◌+◌, ◌-◌, ◌<◌, ◌≤◌, ℕ, zero, suc, Bool, true, false, List, [], ◌∷◌, ◌++◌, length, get_or}
+use Rattle.std.proofs.Common.{take, drop, refl, sym, ap, ◌∙◌, inr, arith, subst, All, Result, Ok, Err, IfErr, Vec, Global}
 use Rattle.std.specs.List.{AllZip, flat_map, range_with_len, slice_range}
 use Rattle.std.proofs.Math.Seq.{drop-cons, take-add}
 use Rattle.std.proofs.lemmas.Grind.{flat_map-append}

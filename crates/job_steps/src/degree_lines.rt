@@ -115,7 +115,7 @@ fn element_lines<R: Threads + Sync>(
         .collect::<Result<Vec<Vec<u8>>, NoMemory>>(rt, alloc)?
 }
 
-/// How many lines a thread is to make at least. Where elements have few terms, lines are made before threads have begun.
+/// How many lines a thread is to make at least. Where elements have few terms, no thread is worth its start.
 fn lines_a_part(basis: &Basis, first: u32, end: u32) -> usize
     requires rising { first ≤ end }
     requires within { end ≤ length basis.now.elements }
